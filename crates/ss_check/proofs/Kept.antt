@@ -10,15 +10,15 @@ use Rattle.ss_names_scopes.specs.Locals.{Moded, locals_of}
 use Rattle.ss_program.specs.declared.sections.Program.{Program as ProgramValue}
 use Rattle.ss_program.specs.Nodes.{nodes}
 use Rattle.ss_program.specs.View.{view_program}
-use Rattle.ss_program.specs.WellTyped.{WellTyped}
+use Rattle.ss_program.specs.WellTyped.{IsWellTyped}
 use Rattle.ss_names_meaning.specs.Resolved.{resolved, resolved_with_locals}
 use Rattle.ss_check_laws.specs.ProgramLaws.{ProgramsResolve}
 use Rattle.ss_check_laws.specs.SizeLaws.{ProgramsStaySmall}
-use Rattle.ss_check.specs.Checking.{Becomes, ReportsCheckError, resolved_program, refusal_of}
+use Rattle.ss_check.specs.Checking.{HasProgram, IsReportedBreach, resolved_program, refusal_of}
 use Rattle.std.specs.Option.{option_map}
 
 -- a breach that is found is reported
-pub reports : (e : CheckError) (found : Option CheckError) → found ≡ Some e → ReportsCheckError e found
+pub reports : (e : CheckError) (found : Option CheckError) → found ≡ Some e → IsReportedBreach e found
 reports errors.Memory found h = tt
 reports e found h = h
 
@@ -29,12 +29,12 @@ found_so t p locals found e f h =
     h ∙ ap (λ z. resolved_with_locals t z p.sections) e ∙ ap (λ (z : Table). resolved z p.sections) f
 
 pub typed : ProgramsResolve → (p : ProgramTree) (found : Option ProgramValue) (r : ProgramValue) → declared_refusal p ≡ None → refusal_of p ≡ None →
-    option_map view_program found ≡ resolved_program p → found ≡ Some r → WellTyped (view_program r)
+    option_map view_program found ≡ resolved_program p → found ≡ Some r → IsWellTyped (view_program r)
 typed law p found r declared kept h g =
     let known = law p declared kept in
     let same : Some known.0 ≡ Some (view_program r) = sym known.1 ∙ sym h ∙ ap (option_map view_program) g in
     let one : known.0 ≡ view_program r = cc in
-    subst WellTyped one known.2
+    subst IsWellTyped one known.2
 
 pub not_missing : ProgramsResolve → (p : ProgramTree) (found : Option ProgramValue) → declared_refusal p ≡ None → refusal_of p ≡ None →
     option_map view_program found ≡ resolved_program p → found ≡ None → ⊥
@@ -50,7 +50,7 @@ small law p found r made h g same =
 
 -- a program that breaks no rule becomes what it is resolved to
 pub becomes : (p : ProgramTree) (found : Option ProgramValue) (r made : ProgramValue) → refusal_of p ≡ None →
-    option_map view_program found ≡ resolved_program p → found ≡ Some r → made ≡ r → Becomes p made
+    option_map view_program found ≡ resolved_program p → found ≡ Some r → made ≡ r → HasProgram p made
 becomes p found r made kept h g same = record {
   kept = kept;
   resolved = sym h ∙ ap (option_map view_program) g ∙ ap (λ (z : ProgramValue). Some (view_program z)) (sym same);

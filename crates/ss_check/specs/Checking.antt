@@ -19,11 +19,11 @@ abbrev pub refusal_of : ProgramTree → Option CheckError
 refusal_of p = refusal_of_uses p
 
 -- the program of a tree that breaks none of the rules
-pub record Becomes (p : ProgramTree) (r : ProgramValue) : Type 0 where
+pub record HasProgram (p : ProgramTree) (r : ProgramValue) : Type 0 where
   pub kept : refusal_of p ≡ None
   pub resolved : resolved_program p ≡ Some (view_program r)
 
 -- the error is the first breach, unless memory was refused
-abbrev pub ReportsCheckError : CheckError → Option CheckError → Type 0
-ReportsCheckError errors.Memory found = Unit {0}
-ReportsCheckError e found = found ≡ Some e
+abbrev pub IsReportedBreach : CheckError → Option CheckError → Type 0
+IsReportedBreach errors.Memory found = Unit {0}
+IsReportedBreach e found = found ≡ Some e

@@ -10,7 +10,7 @@ ghost use Rattle.ss_program.specs.Checking.{checked_program};
 ghost use Rattle.ss_program.specs.Nodes.{nodes};
 ghost use Rattle.ss_program.specs.View.{view_program as program_seen};
 ghost use Rattle.ss_tables.specs.Tables.{AreTablesOf};
-ghost use Rattle.ss_check.specs.Checking.{Becomes, ReportsCheckError, refusal_of};
+ghost use Rattle.ss_check.specs.Checking.{HasProgram, IsReportedBreach, refusal_of};
 
 use crate::program::resolve;
 use ss_check_laws::program_laws::programs_resolve;
@@ -29,7 +29,7 @@ fn keep_rules(alloc: Global, program: &Program, names: &Names) -> Result<Vec<Loc
     requires { names.now ≡ table (view_program_tree program.now) }
     ensures locals { IfOk result (λ found. found.items ≡ map (locals_of names.now) (map view_section program.now.sections.items)) }
     ensures kept { OnOk result (refusal_of (view_program_tree program.now) ≡ None) }
-    ensures refused { IfErr result (λ e. ReportsCheckError e (refusal_of (view_program_tree program.now))) }
+    ensures refused { IfErr result (λ e. IsReportedBreach e (refusal_of (view_program_tree program.now))) }
 {
     let (broken, locals) = judge(alloc, program, names)?;
     match broken {
@@ -42,9 +42,9 @@ fn keep_rules(alloc: Global, program: &Program, names: &Names) -> Result<Vec<Loc
 fn checked(alloc: Global, program: &Program, names: &Names) -> Result<Checked, CheckError>
     requires names { names.now ≡ table (view_program_tree program.now) }
     requires declared { declared_refusal (view_program_tree program.now) ≡ None }
-    ensures checked { IfOk result (λ c. Becomes (view_program_tree program.now) (checked_program c)) }
+    ensures checked { IfOk result (λ c. HasProgram (view_program_tree program.now) (checked_program c)) }
     ensures nodes { IfOk result (λ c. nodes (program_seen (checked_program c)) ≤ tree_nodes (view_program_tree program.now)) }
-    ensures refused { IfErr result (λ e. ReportsCheckError e (refusal_of (view_program_tree program.now))) }
+    ensures refused { IfErr result (λ e. IsReportedBreach e (refusal_of (view_program_tree program.now))) }
 {
     programs_resolve();
     laws_of_sizes();
@@ -65,9 +65,9 @@ fn checked(alloc: Global, program: &Program, names: &Names) -> Result<Checked, C
 /// the first place where it does, 0 for `NoMain`; `Memory` where memory is refused.
 pub fn check(alloc: Global, program: Program, tables: Tables) -> Result<Checked, CheckError>
     requires tables { AreTablesOf (view_program_tree program) tables }
-    ensures checked { IfOk result (λ c. Becomes (view_program_tree program) (checked_program c)) }
+    ensures checked { IfOk result (λ c. HasProgram (view_program_tree program) (checked_program c)) }
     ensures nodes { IfOk result (λ c. nodes (program_seen (checked_program c)) ≤ tree_nodes (view_program_tree program)) }
-    ensures refused { IfErr result (λ e. ReportsCheckError e (refusal_of (view_program_tree program))) }
+    ensures refused { IfErr result (λ e. IsReportedBreach e (refusal_of (view_program_tree program))) }
 {
     let names = tables.into_names();
     let result = checked(alloc, &program, &names);

@@ -3,7 +3,7 @@
 ghost use Rattle.std.specs.Prelude.{◌≡◌, map, IfOk};
 ghost use Rattle.ss_names_declarations.specs.NameTable.{value_for};
 ghost use Rattle.ss_program.specs.View.{view_event};
-ghost use Rattle.ss_names_meaning.specs.Answers.{Gives, each};
+ghost use Rattle.ss_names_meaning.specs.Answers.{HasGiven, each};
 ghost use Rattle.ss_names_meaning.specs.Resolved.{class_event_from, event_from, event_of_class, saved};
 ghost use Rattle.ss_check.specs.View.{parts_in, table_of_sections, view_parts};
 
@@ -17,7 +17,7 @@ use std::alloc::{AllocError, Global};
 
 // The global variable that gets the number of the notice, if it is saved.
 fn saved(names: &Names, class: &Name, saving: bool) -> Result<Option<usize>, ResolveError>
-    ensures { Gives (λ x. x) result (saved names.now class.now saving) }
+    ensures { HasGiven (λ x. x) result (saved names.now class.now saving) }
 {
     if !saving {
         return Ok(None);
@@ -68,7 +68,7 @@ impl ProgramSections<'_> {
         name: &Name,
         known: EventSection,
     ) -> Result<Event, ResolveError>
-        ensures { Gives view_event result (class_event_from (table_of_sections self.now) (parts_in self.now) class name.now known) }
+        ensures { HasGiven view_event result (class_event_from (table_of_sections self.now) (parts_in self.now) class name.now known) }
     {
         if self.names.attributes_of(class).len() < known.given {
             return Err(ResolveError::Unresolved);
@@ -82,7 +82,7 @@ impl ProgramSections<'_> {
 
     // The notice class of this number.
     fn resolve_event(&self, class: usize) -> Result<Event, ResolveError>
-        ensures { Gives view_event result (event_from (table_of_sections self.now) (parts_in self.now) class) }
+        ensures { HasGiven view_event result (event_from (table_of_sections self.now) (parts_in self.now) class) }
     {
         let names = self.names;
         let Some(name) = key_at(&names.classes, class) else {
@@ -96,7 +96,7 @@ impl ProgramSections<'_> {
 
     // Notice classes.
     fn events_of(&self, trees: &[usize]) -> Result<Vec<Event>, ResolveError>
-        ensures { Gives (λ v. map view_event v.items) result (each (event_from (table_of_sections self.now) (parts_in self.now)) trees.now) }
+        ensures { HasGiven (λ v. map view_event v.items) result (each (event_from (table_of_sections self.now) (parts_in self.now)) trees.now) }
     {
         let mut resolved = Vec::new(self.alloc);
         for tree in trees {
@@ -108,7 +108,7 @@ impl ProgramSections<'_> {
 
     /// The notice classes with their event routines, in the order of rank.
     pub(crate) fn resolve_events(&self) -> Result<Vec<Event>, ResolveError>
-        ensures { Gives (λ v. map view_event v.items) result (each (event_from (table_of_sections self.now) (parts_in self.now)) (table_of_sections self.now).ranks) }
+        ensures { HasGiven (λ v. map view_event v.items) result (each (event_from (table_of_sections self.now) (parts_in self.now)) (table_of_sections self.now).ranks) }
     {
         let names = self.names;
         self.events_of(names.ranks.as_slice())

@@ -5,7 +5,7 @@ ghost use Rattle.std.specs.List.{list_all, position};
 ghost use Rattle.ss_tree.specs.View.{view_section};
 ghost use Rattle.ss_program.specs.View.{view_program};
 ghost use Rattle.std.specs.Option.{option_map};
-ghost use Rattle.ss_names_meaning.specs.Answers.{Gives};
+ghost use Rattle.ss_names_meaning.specs.Answers.{HasGiven};
 ghost use Rattle.ss_names_meaning.specs.Resolved.{is_known, main_from, resolved_with_locals};
 ghost use Rattle.ss_names_scopes.specs.Scopes.{is_main_section};
 ghost use Rattle.ss_check.specs.View.{locals_in, parts_in, sections_in, table_of_sections, view_parts};
@@ -51,7 +51,7 @@ impl ProgramSections<'_> {
     // The resolved section of MAIN.
     #[tactic(auto, using(crate::proofs::Found::position_viewed))]
     fn main_parts(&self) -> Result<Parts, ResolveError>
-        ensures { Gives view_parts result (main_from (parts_in self.now) (sections_in self.now)) }
+        ensures { HasGiven view_parts result (main_from (parts_in self.now) (sections_in self.now)) }
     {
         match main_number(self.sections) {
             Some(number) => self.parts_at(number),
@@ -62,7 +62,7 @@ impl ProgramSections<'_> {
     // The program.
     #[tactic(auto, unfolding(ss_names_meaning::specs::Resolved::resolved_with_locals))]
     fn resolve_program(&self) -> Result<Resolved, ResolveError>
-        ensures { Gives view_program result (resolved_with_locals (table_of_sections self.now) (locals_in self.now) (sections_in self.now)) }
+        ensures { HasGiven view_program result (resolved_with_locals (table_of_sections self.now) (locals_in self.now) (sections_in self.now)) }
     {
         let laid = lay_out(self.alloc, self.names)?;
         if !all_known(self.names, self.sections) {

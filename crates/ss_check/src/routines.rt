@@ -3,7 +3,7 @@
 ghost use Rattle.std.specs.Prelude.{◌≡◌, map, IfOk};
 ghost use Rattle.std.specs.Map.{values_of};
 ghost use Rattle.ss_program.specs.View.{view_routine};
-ghost use Rattle.ss_names_meaning.specs.Answers.{Gives, each};
+ghost use Rattle.ss_names_meaning.specs.Answers.{HasGiven, each};
 ghost use Rattle.ss_names_meaning.specs.Resolved.{routine_from, routine_of};
 ghost use Rattle.ss_check.specs.View.{parts_in, table_of_sections, view_parts};
 
@@ -38,7 +38,7 @@ fn routine_of(
 impl ProgramSections<'_> {
     // A routine.
     fn resolve_routine(&self, known: &RoutineSection) -> Result<Routine, ResolveError>
-        ensures { Gives view_routine result (routine_from (parts_in self.now) known.now) }
+        ensures { HasGiven view_routine result (routine_from (parts_in self.now) known.now) }
     {
         let parts = self.parts_at(known.section)?;
         let routine = routine_of(self.alloc, known.given, known.yielding, parts)?;
@@ -47,7 +47,7 @@ impl ProgramSections<'_> {
 
     // Routines.
     fn routines_of(&self, trees: &[RoutineSection]) -> Result<Vec<Routine>, ResolveError>
-        ensures { Gives (λ v. map view_routine v.items) result (each (routine_from (parts_in self.now)) trees.now) }
+        ensures { HasGiven (λ v. map view_routine v.items) result (each (routine_from (parts_in self.now)) trees.now) }
     {
         let mut resolved = Vec::new(self.alloc);
         for tree in trees {
@@ -59,7 +59,7 @@ impl ProgramSections<'_> {
 
     /// The routines, by their numbers.
     pub(crate) fn resolve_routines(&self) -> Result<Vec<Routine>, ResolveError>
-        ensures { Gives (λ v. map view_routine v.items) result (each (routine_from (parts_in self.now)) (values_of (table_of_sections self.now).routines)) }
+        ensures { HasGiven (λ v. map view_routine v.items) result (each (routine_from (parts_in self.now)) (values_of (table_of_sections self.now).routines)) }
     {
         let names = self.names;
         self.routines_of(names.routines.values())

@@ -3,7 +3,7 @@
 ghost use Rattle.std.specs.Prelude.{◌≡◌, drop, take};
 ghost use Rattle.ss_tree.specs.View.{view_section};
 ghost use Rattle.ss_program.specs.View.{view_body};
-ghost use Rattle.ss_names_meaning.specs.Answers.{Gives};
+ghost use Rattle.ss_names_meaning.specs.Answers.{HasGiven};
 ghost use Rattle.ss_names_scopes.specs.Scopes.{local_mode};
 ghost use Rattle.ss_names_meaning.specs.Resolved.{resolved_body, local_modes, parts_with};
 ghost use Rattle.ss_check.specs.View.{locals_in, parts_in, table_of_sections, view_parts};
@@ -37,7 +37,7 @@ pub(crate) struct Parts {
 
 // The mode of the local variable of this number.
 fn local_mode(locals: &Locals, number: usize) -> Result<Mode, ResolveError>
-    ensures { Gives (λ x. x) result (local_mode locals.now number) }
+    ensures { HasGiven (λ x. x) result (local_mode locals.now number) }
 {
     let Some(known) = locals.mode_at(number) else {
         return Err(ResolveError::Unresolved);
@@ -50,7 +50,7 @@ fn local_mode(locals: &Locals, number: usize) -> Result<Mode, ResolveError>
 
 // The modes of the local variables, in the order of their numbers.
 fn local_modes(alloc: Global, locals: &Locals) -> Result<Vec<Mode>, ResolveError>
-    ensures { Gives (λ v. v.items) result (local_modes locals.now) }
+    ensures { HasGiven (λ v. v.items) result (local_modes locals.now) }
 {
     let mut resolved = Vec::new(alloc);
     for number in 0..locals.len() {
@@ -67,7 +67,7 @@ impl ProgramSections<'_> {
         locals: &Locals,
         section: &Section,
     ) -> Result<Vec<Statement>, ResolveError>
-        ensures { Gives (λ v. view_body v.items) result (resolved_body (table_of_sections self.now) (locals_in self.now) locals.now (view_section section.now)) }
+        ensures { HasGiven (λ v. view_body v.items) result (resolved_body (table_of_sections self.now) (locals_in self.now) locals.now (view_section section.now)) }
     {
         let scope = Scope {
             names: self.names,
@@ -83,7 +83,7 @@ impl ProgramSections<'_> {
 
     // A section with these local variables.
     fn parts_with(&self, locals: &Locals, section: &Section) -> Result<Parts, ResolveError>
-        ensures { Gives view_parts result (parts_with (table_of_sections self.now) (locals_in self.now) locals.now (view_section section.now)) }
+        ensures { HasGiven view_parts result (parts_with (table_of_sections self.now) (locals_in self.now) locals.now (view_section section.now)) }
     {
         let modes = local_modes(self.alloc, locals)?;
         let body = self.resolve_statements(locals, section)?;
@@ -96,7 +96,7 @@ impl ProgramSections<'_> {
 
     /// The section of this number.
     pub(crate) fn parts_at(&self, number: usize) -> Result<Parts, ResolveError>
-        ensures { Gives view_parts result (parts_in self.now number) }
+        ensures { HasGiven view_parts result (parts_in self.now number) }
     {
         let Some(section) = self.sections.get(number) else {
             return Err(ResolveError::Unresolved);

@@ -25,7 +25,7 @@ use Rattle.ss_program.specs.View.{block_of, view_body, view_condition as conditi
 use Rattle.ss_program.specs.Views.{view_if_made as if_seen, view_loop_made as loop_seen, view_for_made as for_seen, view_find_made as find_seen}
 use Rattle.ss_names_meaning.specs.declared.error.ResolveError.{ResolveError}
 use Rattle.ss_names_meaning.specs.declared.error.ResolveError.TheVariants.{Memory, Unresolved}
-use Rattle.ss_names_meaning.specs.Answers.{◌>>=◌, each, Fails}
+use Rattle.ss_names_meaning.specs.Answers.{◌>>=◌, each, HasFailed}
 use Rattle.ss_names_scopes.specs.Scopes.{Scope}
 use Rattle.ss_names_meaning.specs.Expressions.{item}
 use Rattle.ss_names_meaning.specs.Conditions.{condition}
@@ -66,10 +66,10 @@ print_made c t line v ps es qs xs ls is e f h g =
     rw (is, shown, lines) refl
 
 pub print_fails : (c : Scope) (t : Parsed) (line : Line) (v : Vec ExpressionParsed) (ps : Vec (List ℕ)) (es : List ExpressionParsed) (e : ResolveError) →
-    t ≡ parsed.Print line v ps → es ≡ v.items → Fails e (each (item c) (map view_expression_tree es)) → Fails e (simple_statement c (view_statement_tree t))
+    t ≡ parsed.Print line v ps → es ≡ v.items → HasFailed e (each (item c) (map view_expression_tree es)) → HasFailed e (simple_statement c (view_statement_tree t))
 unfolding simple_statement view_statement_tree
 print_fails c t line v ps es e is f h =
-    let shown : Fails e (each (item c) (map view_expression_tree v.items)) = subst (λ l. Fails e (each (item c) (map view_expression_tree l))) f h in
+    let shown : HasFailed e (each (item c) (map view_expression_tree v.items)) = subst (λ l. HasFailed e (each (item c) (map view_expression_tree l))) f h in
     rw is (fails_then (each (item c) (map view_expression_tree v.items)) _ e shown)
 
 -- FIND without an IF
@@ -118,7 +118,7 @@ statements_none c (x ∷ xs) (suc i) d lt h =
     none_after (statement c (view_statement_tree x)) (λ y. statements c (statement_row (map view_statement_tree xs)) >>= λ ys. Some (Then y ys)) (λ y. rw rest refl)
 
 pub statements_fail : (c : Scope) (xs : List Parsed) (i : ℕ) (x : Parsed) (e : ResolveError) → i < length xs → x ≡ get_or xs i x →
-    Fails e (statement c (view_statement_tree x)) → Fails e (statements c (statement_row (map view_statement_tree xs)))
+    HasFailed e (statement c (view_statement_tree x)) → HasFailed e (statements c (statement_row (map view_statement_tree xs)))
 statements_fail c xs i x Memory lt is h = tt
 statements_fail c xs i x Unresolved lt is h = statements_none c xs i x lt (subst (λ y. statement c (view_statement_tree y) ≡ None) is h)
 

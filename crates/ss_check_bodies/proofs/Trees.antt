@@ -22,7 +22,7 @@ use Rattle.ss_program.specs.View.{view_expression as view_made}
 use Rattle.ss_program.specs.Views.{with_operation, view_calculate_made}
 use Rattle.ss_names_meaning.specs.declared.error.ResolveError.{ResolveError}
 use Rattle.ss_names_meaning.specs.declared.error.ResolveError.TheVariants.{Memory, Unresolved}
-use Rattle.ss_names_meaning.specs.Answers.{◌>>=◌, Fails}
+use Rattle.ss_names_meaning.specs.Answers.{◌>>=◌, HasFailed}
 use Rattle.ss_names_scopes.specs.Scopes.{Scope}
 use Rattle.ss_names_meaning.specs.Expressions.{resolved_operator, expression, subscript, one, two, factors, terms}
 use Rattle.ss_names_meaning.proofs.Steps.{none_after, some_after}
@@ -48,22 +48,22 @@ unfolding expression
 sum_is c b v = ap (expression c) (view_sum_made b v)
 
 -- the second step of two failed
-second_fails : {A B : Type 0} (r : Option A) (next : A → Option B) (x : A) (e : ResolveError) → r ≡ Some x → ((y : A) → Fails e (next y)) → Fails e (r >>= next)
+second_fails : {A B : Type 0} (r : Option A) (next : A → Option B) (x : A) (e : ResolveError) → r ≡ Some x → ((y : A) → HasFailed e (next y)) → HasFailed e (r >>= next)
 second_fails r next x Memory h k = tt
 second_fails r next x Unresolved h k = none_after r next k
 
 pub product_fails : (c : Scope) (t : Parsed) (b : Box Parsed) (v : Vec Parsed) (es : List Parsed) (x : Expression) (e : ResolveError) →
     t ≡ variants.Product b v → es ≡ v.items → expression c (view_expression_tree b.value) ≡ Some x →
-    ((left : Expression) → Fails e (factors c left (expression_row (map view_expression_tree es)))) → Fails e (expression c (view_expression_tree t))
+    ((left : Expression) → HasFailed e (factors c left (expression_row (map view_expression_tree es)))) → HasFailed e (expression c (view_expression_tree t))
 product_fails c t b v es x e is listed h k =
-    let all : (left : Expression) → Fails e (factors c left (expression_row (map view_expression_tree v.items))) = subst (λ l. (left : Expression) → Fails e (factors c left (expression_row (map view_expression_tree l)))) listed k in
+    let all : (left : Expression) → HasFailed e (factors c left (expression_row (map view_expression_tree v.items))) = subst (λ l. (left : Expression) → HasFailed e (factors c left (expression_row (map view_expression_tree l)))) listed k in
     rw (is, product_is c b v) (second_fails (expression c (view_expression_tree b.value)) (λ left. factors c left (expression_row (map view_expression_tree v.items))) x e h all)
 
 pub sum_fails : (c : Scope) (t : Parsed) (b : Box Parsed) (v : Vec Term) (es : List Term) (x : Expression) (e : ResolveError) →
     t ≡ variants.Sum b v → es ≡ v.items → expression c (view_expression_tree b.value) ≡ Some x →
-    ((left : Expression) → Fails e (terms c left (term_row (map view_term es)))) → Fails e (expression c (view_expression_tree t))
+    ((left : Expression) → HasFailed e (terms c left (term_row (map view_term es)))) → HasFailed e (expression c (view_expression_tree t))
 sum_fails c t b v es x e is listed h k =
-    let all : (left : Expression) → Fails e (terms c left (term_row (map view_term v.items))) = subst (λ l. (left : Expression) → Fails e (terms c left (term_row (map view_term l)))) listed k in
+    let all : (left : Expression) → HasFailed e (terms c left (term_row (map view_term v.items))) = subst (λ l. (left : Expression) → HasFailed e (terms c left (term_row (map view_term l)))) listed k in
     rw (is, sum_is c b v) (second_fails (expression c (view_expression_tree b.value)) (λ left. terms c left (term_row (map view_term v.items))) x e h all)
 
 pub product_made : (c : Scope) (t : Parsed) (b : Box Parsed) (v : Vec Parsed) (es : List Parsed) (x : Box Made) (xs : Vec Operation) →
@@ -170,12 +170,12 @@ terms_none c (x ∷ xs) (suc i) d left lt h =
     none_after (expression c (view_expression_tree x.value)) (λ y. terms c (Calculate (resolved_operator x.sign) left y) (term_row (map view_term xs))) (λ y. terms_none c xs i d (Calculate (resolved_operator x.sign) left y) (omega (arith, lt)) h)
 
 pub factors_fail : (c : Scope) (xs : List Parsed) (i : ℕ) (x : Parsed) (e : ResolveError) (left : Expression) → i < length xs → x ≡ get_or xs i x →
-    Fails e (expression c (view_expression_tree x)) → Fails e (factors c left (expression_row (map view_expression_tree xs)))
+    HasFailed e (expression c (view_expression_tree x)) → HasFailed e (factors c left (expression_row (map view_expression_tree xs)))
 factors_fail c xs i x Memory left lt is h = tt
 factors_fail c xs i x Unresolved left lt is h = factors_none c xs i x left lt (subst (λ y. expression c (view_expression_tree y) ≡ None) is h)
 
 pub terms_fail : (c : Scope) (xs : List Term) (i : ℕ) (x : Term) (e : ResolveError) (left : Expression) → i < length xs → x ≡ get_or xs i x →
-    Fails e (expression c (view_expression_tree x.value)) → Fails e (terms c left (term_row (map view_term xs)))
+    HasFailed e (expression c (view_expression_tree x.value)) → HasFailed e (terms c left (term_row (map view_term xs)))
 terms_fail c xs i x Memory left lt is h = tt
 terms_fail c xs i x Unresolved left lt is h = terms_none c xs i x left lt (subst (λ (y : Term). expression c (view_expression_tree y.value) ≡ None) is h)
 

@@ -21,20 +21,20 @@ abbrev pub scope_in : ResolverValue → Scope
 scope_in r = view_scope r.scope
 
 -- what was made first, beside what was made next, unless that failed
-abbrev pub MadeBeside : {A B : Type 0} → A → Result B ResolveError → Result (A × B) ResolveError → Type 0
-MadeBeside first next (Ok p) = (p.0 ≡ first) × (next ≡ Ok p.1)
-MadeBeside first next (Err e) = next ≡ Err e
+abbrev pub IsMadeBeside : {A B : Type 0} → A → Result B ResolveError → Result (A × B) ResolveError → Type 0
+IsMadeBeside first next (Ok p) = (p.0 ≡ first) × (next ≡ Ok p.1)
+IsMadeBeside first next (Err e) = next ≡ Err e
 
 -- what was made first, beside what was made next, unless one of them failed
-abbrev pub MadeBoth : {A B : Type 0} → Result A ResolveError → Result B ResolveError → Result (A × B) ResolveError → Type 0
-MadeBoth first next (Ok p) = (first ≡ Ok p.0) × (next ≡ Ok p.1)
-MadeBoth first next (Err e) = (first ≡ Err e) ⊎ ((x : _) × (first ≡ Ok x) × (next ≡ Err e))
+abbrev pub IsMadeOfBoth : {A B : Type 0} → Result A ResolveError → Result B ResolveError → Result (A × B) ResolveError → Type 0
+IsMadeOfBoth first next (Ok p) = (first ≡ Ok p.0) × (next ≡ Ok p.1)
+IsMadeOfBoth first next (Err e) = (first ≡ Err e) ⊎ ((x : _) × (first ≡ Ok x) × (next ≡ Err e))
 
 -- what was made first, and then what was made next, unless that failed
-abbrev pub MadeAfter : {A : Type 0} → Vec A → Result A ResolveError → Result (Vec A) ResolveError → Type 0
-MadeAfter made next (Ok all) = (x : _) × (next ≡ Ok x) × (all.items ≡ made.items ++ x ∷ [])
-MadeAfter made next (Err Memory) = Unit {0}
-MadeAfter made next (Err Unresolved) = next ≡ Err Unresolved
+abbrev pub IsMadeAfter : {A : Type 0} → Vec A → Result A ResolveError → Result (Vec A) ResolveError → Type 0
+IsMadeAfter made next (Ok all) = (x : _) × (next ≡ Ok x) × (all.items ≡ made.items ++ x ∷ [])
+IsMadeAfter made next (Err Memory) = Unit {0}
+IsMadeAfter made next (Err Unresolved) = next ≡ Err Unresolved
 
 -- what a FOR goes over, and its phrases
 abbrev pub resolved_over : Scope → HeadTree → Option (Head × List Phrase)

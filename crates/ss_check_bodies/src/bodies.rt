@@ -4,7 +4,7 @@ ghost use Rattle.std.specs.Prelude.{map};
 ghost use Rattle.ss_tree.specs.View.{view_condition_tree, view_head_tree, view_statement_tree};
 ghost use Rattle.ss_tree.specs.Tree.{statement_row};
 ghost use Rattle.ss_program.specs.View.{view_body, view_statement as view_resolved};
-ghost use Rattle.ss_names_meaning.specs.Answers.{Gives};
+ghost use Rattle.ss_names_meaning.specs.Answers.{HasGiven};
 ghost use Rattle.ss_names_meaning.specs.Statements.{find_by, if_over, statement, statements};
 ghost use Rattle.ss_check_bodies.specs.Results.{scope_in};
 
@@ -27,7 +27,7 @@ impl Resolver<'_> {
         then: Vec<Resolved>,
         otherwise: Vec<Resolved>,
     ) -> Result<Resolved, ResolveError>
-        ensures { Gives view_resolved result (if_over line (scope_in self.now) (view_condition_tree condition.now) (view_body then.items) (view_body otherwise.items)) }
+        ensures { HasGiven view_resolved result (if_over line (scope_in self.now) (view_condition_tree condition.now) (view_body then.items) (view_body otherwise.items)) }
     {
         let condition = self.resolve_condition(condition)?;
         Ok(Resolved::If {
@@ -47,7 +47,7 @@ impl Resolver<'_> {
         first: Vec<Resolved>,
         second: Vec<Resolved>,
     ) -> Result<Resolved, ResolveError>
-        ensures { Gives view_resolved result (find_by outcome line (scope_in self.now) (view_head_tree head.now) (view_body first.items) (view_body second.items)) }
+        ensures { HasGiven view_resolved result (find_by outcome line (scope_in self.now) (view_head_tree head.now) (view_body first.items) (view_body second.items)) }
     {
         match outcome {
             FindOutcome::Found => self.resolve_find(line, head, first, second),
@@ -59,7 +59,7 @@ impl Resolver<'_> {
     #[cycle(nesting)]
     #[tactic(auto, unfolding(ss_names_meaning::specs::Statements::statement, ss_tree::specs::View::view_statement_tree))]
     fn resolve_statement(&self, tree: &Statement) -> Result<Resolved, ResolveError>
-        ensures { Gives view_resolved result (statement (scope_in self.now) (view_statement_tree tree.now)) }
+        ensures { HasGiven view_resolved result (statement (scope_in self.now) (view_statement_tree tree.now)) }
     {
         match tree {
             Statement::If {
@@ -114,7 +114,7 @@ impl Resolver<'_> {
     /// Statements one after the other.
     #[cycle(nesting)]
     pub fn resolve_body(&self, trees: &[Statement]) -> Result<Vec<Resolved>, ResolveError>
-        ensures { Gives (λ v. view_body v.items) result (statements (scope_in self.now) (statement_row (map view_statement_tree trees.now))) }
+        ensures { HasGiven (λ v. view_body v.items) result (statements (scope_in self.now) (statement_row (map view_statement_tree trees.now))) }
     {
         let mut resolved = Vec::new(self.alloc);
         for tree in trees {

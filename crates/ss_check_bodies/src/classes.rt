@@ -1,7 +1,7 @@
 //! Classes by the kind that their place needs.
 
 ghost use Rattle.std.specs.Prelude.{◌≡◌};
-ghost use Rattle.ss_names_meaning.specs.Answers.{Gives, each};
+ghost use Rattle.ss_names_meaning.specs.Answers.{HasGiven, each};
 ghost use Rattle.ss_names_meaning.specs.Classes.{class_named, class_number, count_of, counted, variable_named};
 ghost use Rattle.ss_check_bodies.specs.Results.{scope_in};
 
@@ -44,7 +44,7 @@ fn count_of(meaning: Option<Meaning>) -> Option<CountedClass>
 impl Resolver<'_> {
     /// The variable that a name means here: of a class its own, which a local one may hide.
     pub(crate) fn variable_named(&self, name: &Name) -> Result<Variable, ResolveError>
-        ensures { Gives (λ x. x) result (variable_named (scope_in self.now) name.now) }
+        ensures { HasGiven (λ x. x) result (variable_named (scope_in self.now) name.now) }
     {
         match self.scope.meaning_of_name(name) {
             Some(meaning) => variable_of(meaning).ok_or(ResolveError::Unresolved),
@@ -58,7 +58,7 @@ impl Resolver<'_> {
         need: ClassNeed,
         name: &Name,
     ) -> Result<NamedClass, ResolveError>
-        ensures { Gives (λ x. x) result (class_named (scope_in self.now) need name.now) }
+        ensures { HasGiven (λ x. x) result (class_named (scope_in self.now) need name.now) }
     {
         let Some(class) = class_number(need, self.scope.names.meaning(name)) else {
             return Err(ResolveError::Unresolved);
@@ -74,7 +74,7 @@ impl Resolver<'_> {
 
     // A permanent class with its N.
     fn counted(&self, name: &Name) -> Result<CountedClass, ResolveError>
-        ensures { Gives (λ x. x) result (counted (scope_in self.now) name.now) }
+        ensures { HasGiven (λ x. x) result (counted (scope_in self.now) name.now) }
     {
         let names = self.scope.names;
         count_of(names.meanings.meaning(&Spelling::derived(b'N', name))).ok_or(
@@ -84,7 +84,7 @@ impl Resolver<'_> {
 
     /// The classes of a CREATE EVERY.
     pub(crate) fn all_counted(&self, trees: &[Name]) -> Result<Vec<CountedClass>, ResolveError>
-        ensures { Gives (λ v. v.items) result (each (counted (scope_in self.now)) trees.now) }
+        ensures { HasGiven (λ v. v.items) result (each (counted (scope_in self.now)) trees.now) }
     {
         let mut resolved = Vec::new(self.alloc);
         for tree in trees {

@@ -3,7 +3,7 @@
 ghost use Rattle.std.specs.Prelude.{map};
 ghost use Rattle.ss_tree.specs.View.{view_condition_tree, view_conjunction_tree, view_test_tree};
 ghost use Rattle.ss_program.specs.View.{view_condition as condition_seen, view_conjunction as conjunction_seen, view_test as test_seen};
-ghost use Rattle.ss_names_meaning.specs.Answers.{Gives};
+ghost use Rattle.ss_names_meaning.specs.Answers.{HasGiven};
 ghost use Rattle.ss_names_meaning.specs.Conditions.{condition, conjunction, one_test};
 ghost use Rattle.ss_check_bodies.specs.Results.{scope_in};
 
@@ -19,7 +19,7 @@ impl Resolver<'_> {
     // A test.
     #[tactic(auto, unfolding(ss_names_meaning::specs::Conditions::one_test))]
     fn resolve_test(&self, tree: &Test) -> Result<ResolvedTest, ResolveError>
-        ensures { Gives test_seen result (one_test (scope_in self.now) (view_test_tree tree.now)) }
+        ensures { HasGiven test_seen result (one_test (scope_in self.now) (view_test_tree tree.now)) }
     {
         match tree {
             Test::Compare {
@@ -63,7 +63,7 @@ impl Resolver<'_> {
 
     // Tests joined by AND.
     fn resolve_tests(&self, trees: &[Test]) -> Result<Vec<ResolvedTest>, ResolveError>
-        ensures { Gives (λ v. map test_seen v.items) result (conjunction (scope_in self.now) (map view_test_tree trees.now)) }
+        ensures { HasGiven (λ v. map test_seen v.items) result (conjunction (scope_in self.now) (map view_test_tree trees.now)) }
     {
         let mut resolved = Vec::new(self.alloc);
         for tree in trees {
@@ -74,7 +74,7 @@ impl Resolver<'_> {
 
     // A conjunction.
     fn resolve_conjunction(&self, tree: &Conjunction) -> Result<ResolvedConjunction, ResolveError>
-        ensures { Gives conjunction_seen result (conjunction (scope_in self.now) (view_conjunction_tree tree.now)) }
+        ensures { HasGiven conjunction_seen result (conjunction (scope_in self.now) (view_conjunction_tree tree.now)) }
     {
         let tests = self.resolve_tests(&tree.tests)?;
         Ok(ResolvedConjunction { tests })
@@ -85,7 +85,7 @@ impl Resolver<'_> {
         &self,
         trees: &[Conjunction],
     ) -> Result<Vec<ResolvedConjunction>, ResolveError>
-        ensures { Gives (λ v. map conjunction_seen v.items) result (condition (scope_in self.now) (map view_conjunction_tree trees.now)) }
+        ensures { HasGiven (λ v. map conjunction_seen v.items) result (condition (scope_in self.now) (map view_conjunction_tree trees.now)) }
     {
         let mut resolved = Vec::new(self.alloc);
         for tree in trees {
@@ -99,7 +99,7 @@ impl Resolver<'_> {
         &self,
         tree: &Condition,
     ) -> Result<ResolvedCondition, ResolveError>
-        ensures { Gives condition_seen result (condition (scope_in self.now) (view_condition_tree tree.now)) }
+        ensures { HasGiven condition_seen result (condition (scope_in self.now) (view_condition_tree tree.now)) }
     {
         let alternatives = self.resolve_alternatives(&tree.alternatives)?;
         Ok(ResolvedCondition { alternatives })

@@ -8,7 +8,7 @@ ghost use Rattle.ss_program.specs.Program.{Calculate};
 ghost use Rattle.ss_program.specs.View.{view_expression as view_resolved};
 ghost use Rattle.std.specs.Option.{option_map};
 ghost use Rattle.ss_program.specs.Views.{with_operation};
-ghost use Rattle.ss_names_meaning.specs.Answers.{Gives, each};
+ghost use Rattle.ss_names_meaning.specs.Answers.{HasGiven, each};
 ghost use Rattle.ss_names_meaning.specs.Expressions.{entity_implied, entity_of, expression, factors, entity_or_implied, of_owner, one, place_named, resolved_operator, resolved_value, subscript, terms, two, value_alone, value_of_entity, meaning_with_entity};
 ghost use Rattle.ss_check_bodies.specs.Results.{operation, scope_in};
 
@@ -29,7 +29,7 @@ fn value_of_entity(
     meaning: Meaning,
     entity: Resolved,
 ) -> Result<Resolved, ResolveError>
-    ensures { Gives view_resolved result (value_of_entity meaning (view_resolved entity)) }
+    ensures { HasGiven view_resolved result (value_of_entity meaning (view_resolved entity)) }
 {
     let of = Box::new(alloc, entity)?;
     match meaning {
@@ -60,7 +60,7 @@ fn value_of_entity(
 // The value of what there is one of.
 #[tactic(auto, unfolding(ss_program::specs::View::view_expression))]
 fn value_alone(meaning: Meaning) -> Result<Resolved, ResolveError>
-    ensures { Gives view_resolved result (value_alone meaning) }
+    ensures { HasGiven view_resolved result (value_alone meaning) }
 {
     match meaning {
         Meaning::Variable { variable, .. } => Ok(Resolved::Fetch { variable }),
@@ -88,7 +88,7 @@ pub(crate) fn resolved_value(
     meaning: Meaning,
     entity: Option<Resolved>,
 ) -> Result<Resolved, ResolveError>
-    ensures { Gives view_resolved result (resolved_value meaning (option_map view_resolved entity)) }
+    ensures { HasGiven view_resolved result (resolved_value meaning (option_map view_resolved entity)) }
 {
     match entity {
         Some(entity) => value_of_entity(alloc, meaning, entity),
@@ -113,7 +113,7 @@ fn calculate(
     operator: Operator,
     right: Resolved,
 ) -> Result<Resolved, ResolveError>
-    ensures { Gives view_resolved result (Some (Calculate operator (view_resolved first.value) (view_resolved right))) }
+    ensures { HasGiven view_resolved result (Some (Calculate operator (view_resolved first.value) (view_resolved right))) }
 {
     let mut further = Vec::new(alloc);
     further.push(Operation {
@@ -129,7 +129,7 @@ impl Resolver<'_> {
     // The entity in the variable of a class.
     #[tactic(auto, unfolding(ss_program::specs::View::view_expression))]
     fn entity_implied(&self, class: usize) -> Result<Resolved, ResolveError>
-        ensures { Gives view_resolved result (entity_implied (scope_in self.now) class) }
+        ensures { HasGiven view_resolved result (entity_implied (scope_in self.now) class) }
     {
         let Some(meaning) = self.scope.meaning_of_class(class) else {
             return Err(ResolveError::Unresolved);
@@ -146,7 +146,7 @@ impl Resolver<'_> {
         class: usize,
         subscript: Option<Resolved>,
     ) -> Result<Option<Resolved>, ResolveError>
-        ensures { Gives (option_map view_resolved) result (entity_or_implied (scope_in self.now) class (option_map view_resolved subscript)) }
+        ensures { HasGiven (option_map view_resolved) result (entity_or_implied (scope_in self.now) class (option_map view_resolved subscript)) }
     {
         match subscript {
             Some(entity) => Ok(Some(entity)),
@@ -163,7 +163,7 @@ impl Resolver<'_> {
         owner: Owner,
         subscript: Option<Resolved>,
     ) -> Result<Option<Resolved>, ResolveError>
-        ensures { Gives (option_map view_resolved) result (of_owner (scope_in self.now) owner (option_map view_resolved subscript)) }
+        ensures { HasGiven (option_map view_resolved) result (of_owner (scope_in self.now) owner (option_map view_resolved subscript)) }
     {
         match owner {
             Owner::Class(class) => self.of_class(class, subscript),
@@ -181,7 +181,7 @@ impl Resolver<'_> {
         meaning: Meaning,
         subscript: Option<Resolved>,
     ) -> Result<Option<Resolved>, ResolveError>
-        ensures { Gives (option_map view_resolved) result (entity_of (scope_in self.now) meaning (option_map view_resolved subscript)) }
+        ensures { HasGiven (option_map view_resolved) result (entity_of (scope_in self.now) meaning (option_map view_resolved subscript)) }
     {
         match meaning {
             Meaning::NoticeTime => Ok(subscript),
@@ -195,7 +195,7 @@ impl Resolver<'_> {
         place: Designator,
         subscript: Option<Resolved>,
     ) -> Result<(Meaning, Option<Resolved>), ResolveError>
-        ensures { Gives (λ p. (p.0, option_map view_resolved p.1)) result (meaning_with_entity (scope_in self.now) place (option_map view_resolved subscript)) }
+        ensures { HasGiven (λ p. (p.0, option_map view_resolved p.1)) result (meaning_with_entity (scope_in self.now) place (option_map view_resolved subscript)) }
     {
         match self.scope.meaning(place) {
             Some(meaning) => {
@@ -212,7 +212,7 @@ impl Resolver<'_> {
         place: Designator,
         subscripts: &[Expression],
     ) -> Result<(Meaning, Option<Resolved>), ResolveError>
-        ensures { Gives (λ p. (p.0, option_map view_resolved p.1)) result (place_named (scope_in self.now) place (expression_row (map view_expression_tree subscripts.now))) }
+        ensures { HasGiven (λ p. (p.0, option_map view_resolved p.1)) result (place_named (scope_in self.now) place (expression_row (map view_expression_tree subscripts.now))) }
     {
         let subscript = self.resolve_subscript(subscripts)?;
         self.with_entity(place, subscript)
@@ -224,7 +224,7 @@ impl Resolver<'_> {
     #[cycle(resolving)]
     #[tactic(auto, unfolding(ss_tree::specs::View::view_expression_tree, ss_program::specs::View::view_expression, ss_names_meaning::specs::Expressions::expression))]
     pub(crate) fn resolve_expression(&self, tree: &Expression) -> Result<Resolved, ResolveError>
-        ensures { Gives view_resolved result (expression (scope_in self.now) (view_expression_tree tree.now)) }
+        ensures { HasGiven view_resolved result (expression (scope_in self.now) (view_expression_tree tree.now)) }
     {
         match tree {
             Expression::Number(number) => Ok(Resolved::Constant {
@@ -267,7 +267,7 @@ impl Resolver<'_> {
         designator: Designator,
         subscripts: &[Expression],
     ) -> Result<Resolved, ResolveError>
-        ensures { Gives view_resolved result (expression (scope_in self.now) (named designator (expression_row (map view_expression_tree subscripts.now)))) }
+        ensures { HasGiven view_resolved result (expression (scope_in self.now) (named designator (expression_row (map view_expression_tree subscripts.now)))) }
     {
         let subscript = self.resolve_subscript(subscripts)?;
         let (meaning, entity) = self.with_entity(designator, subscript)?;
@@ -281,7 +281,7 @@ impl Resolver<'_> {
         &self,
         subscripts: &[Expression],
     ) -> Result<Option<Resolved>, ResolveError>
-        ensures { Gives (option_map view_resolved) result (subscript (scope_in self.now) (expression_row (map view_expression_tree subscripts.now))) }
+        ensures { HasGiven (option_map view_resolved) result (subscript (scope_in self.now) (expression_row (map view_expression_tree subscripts.now))) }
     {
         match subscripts {
             [] => Ok(None),
@@ -301,7 +301,7 @@ impl Resolver<'_> {
         function: Function,
         arguments: &[Expression],
     ) -> Result<Resolved, ResolveError>
-        ensures { Gives view_resolved result (expression (scope_in self.now) (call function (expression_row (map view_expression_tree arguments.now)))) }
+        ensures { HasGiven view_resolved result (expression (scope_in self.now) (call function (expression_row (map view_expression_tree arguments.now)))) }
     {
         match function {
             Function::One(operator) => {
@@ -320,7 +320,7 @@ impl Resolver<'_> {
         operator: Operator,
         arguments: &[Expression],
     ) -> Result<Resolved, ResolveError>
-        ensures { Gives view_resolved result (operation (scope_in self.now) operator (expression_row (map view_expression_tree arguments.now))) }
+        ensures { HasGiven view_resolved result (operation (scope_in self.now) operator (expression_row (map view_expression_tree arguments.now))) }
     {
         let (left, right) = self.resolve_two(arguments)?;
         calculate(self.alloc, left, operator, right)
@@ -330,7 +330,7 @@ impl Resolver<'_> {
     #[cycle(resolving)]
     #[tactic(auto, unfolding(ss_names_meaning::specs::Expressions::one))]
     fn resolve_one(&self, arguments: &[Expression]) -> Result<Resolved, ResolveError>
-        ensures { Gives view_resolved result (one (scope_in self.now) (expression_row (map view_expression_tree arguments.now))) }
+        ensures { HasGiven view_resolved result (one (scope_in self.now) (expression_row (map view_expression_tree arguments.now))) }
     {
         match arguments {
             [only] => self.resolve_expression(only),
@@ -346,7 +346,7 @@ impl Resolver<'_> {
         &self,
         arguments: &[Expression],
     ) -> Result<(Box<Resolved>, Resolved), ResolveError>
-        ensures { Gives (λ p. (view_resolved p.0.value, view_resolved p.1)) result (two (scope_in self.now) (expression_row (map view_expression_tree arguments.now))) }
+        ensures { HasGiven (λ p. (view_resolved p.0.value, view_resolved p.1)) result (two (scope_in self.now) (expression_row (map view_expression_tree arguments.now))) }
     {
         match arguments {
             [left, right] => {
@@ -364,7 +364,7 @@ impl Resolver<'_> {
     // The further factors of a product.
     #[cycle(resolving)]
     fn resolve_factors(&self, trees: &[Expression]) -> Result<Vec<Operation>, ResolveError>
-        ensures { (left : _) → Gives (λ v. fold with_operation left v.items) result (factors (scope_in self.now) left (expression_row (map view_expression_tree trees.now))) }
+        ensures { (left : _) → HasGiven (λ v. fold with_operation left v.items) result (factors (scope_in self.now) left (expression_row (map view_expression_tree trees.now))) }
     {
         let mut operations = Vec::new(self.alloc);
         for tree in trees {
@@ -380,7 +380,7 @@ impl Resolver<'_> {
     // The further terms of a sum.
     #[cycle(resolving)]
     fn resolve_terms(&self, trees: &[Term]) -> Result<Vec<Operation>, ResolveError>
-        ensures { (left : _) → Gives (λ v. fold with_operation left v.items) result (terms (scope_in self.now) left (term_row (map view_term trees.now))) }
+        ensures { (left : _) → HasGiven (λ v. fold with_operation left v.items) result (terms (scope_in self.now) left (term_row (map view_term trees.now))) }
     {
         let mut operations = Vec::new(self.alloc);
         for tree in trees {
@@ -395,7 +395,7 @@ impl Resolver<'_> {
 
     /// Expressions.
     pub(crate) fn resolve_all(&self, trees: &[Expression]) -> Result<Vec<Resolved>, ResolveError>
-        ensures { Gives (λ v. map view_resolved v.items) result (each (expression (scope_in self.now)) (map view_expression_tree trees.now)) }
+        ensures { HasGiven (λ v. map view_resolved v.items) result (each (expression (scope_in self.now)) (map view_expression_tree trees.now)) }
     {
         let mut resolved = Vec::new(self.alloc);
         for tree in trees {

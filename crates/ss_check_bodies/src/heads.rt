@@ -5,7 +5,7 @@ ghost use Rattle.ss_tree.specs.View.{view_expression_tree, view_guard_tree, view
 ghost use Rattle.std.specs.Option.{option_map};
 ghost use Rattle.ss_program.specs.View.{view_expression as view_resolved, view_guard as guard_seen, view_head as head_seen, view_phrase as phrase_seen, view_start as start_seen};
 ghost use Rattle.std.specs.Option.{option_map as option_seen};
-ghost use Rattle.ss_names_meaning.specs.Answers.{Gives, each, if_there};
+ghost use Rattle.ss_names_meaning.specs.Answers.{HasGiven, each, if_there};
 ghost use Rattle.ss_names_meaning.specs.Expressions.{expression};
 ghost use Rattle.ss_names_meaning.specs.Heads.{called_variable, guard, head, phrases_of, resolved_phrase, resolved_start};
 ghost use Rattle.ss_check_bodies.specs.Results.{scope_in};
@@ -37,7 +37,7 @@ impl Resolver<'_> {
 
     // A phrase.
     fn resolve_phrase(&self, tree: &Phrase) -> Result<ResolvedPhrase, ResolveError>
-        ensures { Gives phrase_seen result (resolved_phrase (scope_in self.now) (view_phrase_tree tree.now)) }
+        ensures { HasGiven phrase_seen result (resolved_phrase (scope_in self.now) (view_phrase_tree tree.now)) }
     {
         let condition = self.resolve_condition(&tree.condition)?;
         Ok(ResolvedPhrase {
@@ -51,7 +51,7 @@ impl Resolver<'_> {
         &self,
         trees: &[Phrase],
     ) -> Result<Vec<ResolvedPhrase>, ResolveError>
-        ensures { Gives (λ v. map phrase_seen v.items) result (each (resolved_phrase (scope_in self.now)) (map view_phrase_tree trees.now)) }
+        ensures { HasGiven (λ v. map phrase_seen v.items) result (each (resolved_phrase (scope_in self.now)) (map view_phrase_tree trees.now)) }
     {
         let mut resolved = Vec::new(self.alloc);
         for tree in trees {
@@ -62,7 +62,7 @@ impl Resolver<'_> {
 
     // A condition of a loop that begins with WHILE or UNTIL.
     fn resolve_guard(&self, tree: &Guard) -> Result<ResolvedGuard, ResolveError>
-        ensures { Gives guard_seen result (guard (scope_in self.now) (view_guard_tree tree.now)) }
+        ensures { HasGiven guard_seen result (guard (scope_in self.now) (view_guard_tree tree.now)) }
     {
         let condition = self.resolve_condition(&tree.condition)?;
         Ok(ResolvedGuard {
@@ -73,7 +73,7 @@ impl Resolver<'_> {
 
     /// The conditions of a loop that begins with WHILE or UNTIL.
     pub(crate) fn resolve_guards(&self, trees: &[Guard]) -> Result<Vec<ResolvedGuard>, ResolveError>
-        ensures { Gives (λ v. map guard_seen v.items) result (each (guard (scope_in self.now)) (map view_guard_tree trees.now)) }
+        ensures { HasGiven (λ v. map guard_seen v.items) result (each (guard (scope_in self.now)) (map view_guard_tree trees.now)) }
     {
         let mut resolved = Vec::new(self.alloc);
         for tree in trees {
@@ -90,7 +90,7 @@ impl Resolver<'_> {
         implied: Variable,
         called: &Option<Name>,
     ) -> Result<Variable, ResolveError>
-        ensures { Gives (λ x. x) result (called_variable (scope_in self.now) implied called.now) }
+        ensures { HasGiven (λ x. x) result (called_variable (scope_in self.now) implied called.now) }
     {
         match called {
             None => Ok(implied),
@@ -100,7 +100,7 @@ impl Resolver<'_> {
 
     // The member with which a FOR over a set begins.
     fn resolve_start(&self, tree: &MemberStart) -> Result<Start, ResolveError>
-        ensures { Gives start_seen result (resolved_start (scope_in self.now) (view_start_tree tree.now)) }
+        ensures { HasGiven start_seen result (resolved_start (scope_in self.now) (view_start_tree tree.now)) }
     {
         match tree {
             MemberStart::End => Ok(Start::AtEnd),
@@ -117,7 +117,7 @@ impl Resolver<'_> {
 
     // The step of a FOR, where one is written.
     fn resolve_step(&self, tree: &Option<Expression>) -> Result<Option<Resolved>, ResolveError>
-        ensures { Gives (option_seen view_resolved) result (if_there (expression (scope_in self.now)) (option_map view_expression_tree tree.now)) }
+        ensures { HasGiven (option_seen view_resolved) result (if_there (expression (scope_in self.now)) (option_map view_expression_tree tree.now)) }
     {
         match tree {
             None => Ok(None),
@@ -131,7 +131,7 @@ impl Resolver<'_> {
     /// What a FOR goes over.
     #[tactic(auto, unfolding(ss_names_meaning::specs::Heads::head))]
     pub(crate) fn resolve_head(&self, tree: &Head) -> Result<ResolvedHead, ResolveError>
-        ensures { Gives head_seen result (head (scope_in self.now) (view_head_tree tree.now)) }
+        ensures { HasGiven head_seen result (head (scope_in self.now) (view_head_tree tree.now)) }
     {
         match tree {
             Head::Range {

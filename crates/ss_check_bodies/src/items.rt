@@ -6,7 +6,7 @@ ghost use Rattle.ss_tree.specs.View.{view_expression_tree};
 ghost use Rattle.ss_program.specs.Program.{AValue};
 ghost use Rattle.ss_program.specs.View.{view_expression as view_resolved, view_item};
 ghost use Rattle.std.specs.Option.{option_map};
-ghost use Rattle.ss_names_meaning.specs.Answers.{Gives, each};
+ghost use Rattle.ss_names_meaning.specs.Answers.{HasGiven, each};
 ghost use Rattle.ss_names_meaning.specs.Expressions.{expression, item, resolved_item, resolved_value};
 ghost use Rattle.ss_check_bodies.specs.Results.{scope_in};
 
@@ -26,7 +26,7 @@ fn value_item(
     meaning: Meaning,
     entity: Option<Resolved>,
 ) -> Result<PrintItem, ResolveError>
-    ensures { Gives view_item result (option_map AValue (resolved_value meaning (option_map view_resolved entity))) }
+    ensures { HasGiven view_item result (option_map AValue (resolved_value meaning (option_map view_resolved entity))) }
 {
     let value = resolved_value(alloc, meaning, entity)?;
     Ok(PrintItem::Value { value })
@@ -38,7 +38,7 @@ fn resolved_item(
     meaning: Meaning,
     entity: Option<Resolved>,
 ) -> Result<PrintItem, ResolveError>
-    ensures { Gives view_item result (resolved_item meaning (option_map view_resolved entity)) }
+    ensures { HasGiven view_item result (resolved_item meaning (option_map view_resolved entity)) }
 {
     match meaning {
         Meaning::Statistic { fold, statistic } => match fold {
@@ -59,7 +59,7 @@ impl Resolver<'_> {
         designator: Designator,
         subscripts: &[Expression],
     ) -> Result<PrintItem, ResolveError>
-        ensures { Gives view_item result (item (scope_in self.now) (named designator (expression_row (map view_expression_tree subscripts.now)))) }
+        ensures { HasGiven view_item result (item (scope_in self.now) (named designator (expression_row (map view_expression_tree subscripts.now)))) }
     {
         let (meaning, entity) = self.resolve_place(designator, subscripts)?;
         resolved_item(self.alloc, meaning, entity)
@@ -67,7 +67,7 @@ impl Resolver<'_> {
 
     // A value.
     fn resolve_value_item(&self, tree: &Expression) -> Result<PrintItem, ResolveError>
-        ensures { Gives view_item result (option_map AValue (expression (scope_in self.now) (view_expression_tree tree.now))) }
+        ensures { HasGiven view_item result (option_map AValue (expression (scope_in self.now) (view_expression_tree tree.now))) }
     {
         let value = self.resolve_expression(tree)?;
         Ok(PrintItem::Value { value })
@@ -76,7 +76,7 @@ impl Resolver<'_> {
     // An item: a mean where that is named alone, through any parentheses, and else a value.
     #[tactic(auto, unfolding(ss_tree::specs::View::view_expression_tree))]
     fn resolve_item(&self, tree: &Expression) -> Result<PrintItem, ResolveError>
-        ensures { Gives view_item result (item (scope_in self.now) (view_expression_tree tree.now)) }
+        ensures { HasGiven view_item result (item (scope_in self.now) (view_expression_tree tree.now)) }
     {
         match tree {
             Expression::Named(named) => {
@@ -94,7 +94,7 @@ impl Resolver<'_> {
 
     /// The items of a PRINT.
     pub(crate) fn resolve_items(&self, trees: &[Expression]) -> Result<Vec<PrintItem>, ResolveError>
-        ensures { Gives (λ v. map view_item v.items) result (each (item (scope_in self.now)) (map view_expression_tree trees.now)) }
+        ensures { HasGiven (λ v. map view_item v.items) result (each (item (scope_in self.now)) (map view_expression_tree trees.now)) }
     {
         let mut resolved = Vec::new(self.alloc);
         for tree in trees {

@@ -2,7 +2,7 @@
 
 ghost use Rattle.ss_tree.specs.View.{view_head_tree, view_loop_head};
 ghost use Rattle.ss_program.specs.View.{view_body, view_statement as view_resolved};
-ghost use Rattle.ss_names_meaning.specs.Answers.{Gives};
+ghost use Rattle.ss_names_meaning.specs.Answers.{HasGiven};
 ghost use Rattle.ss_names_meaning.specs.Statements.{find, for_over, resolved_loop};
 ghost use Rattle.ss_check_bodies.specs.Results.{over_seen, resolved_over, scope_in};
 
@@ -18,7 +18,7 @@ use ss_tree::head::{Head, LoopHead};
 impl Resolver<'_> {
     // What a FOR goes over, and its phrases.
     fn resolve_over(&self, head: &Head) -> Result<(ResolvedHead, Vec<Phrase>), ResolveError>
-        ensures { Gives over_seen result (resolved_over (scope_in self.now) (view_head_tree head.now)) }
+        ensures { HasGiven over_seen result (resolved_over (scope_in self.now) (view_head_tree head.now)) }
     {
         let over = self.resolve_head(head);
         both(over, self.resolve_phrases(phrases_of(head)))
@@ -31,7 +31,7 @@ impl Resolver<'_> {
         head: &Head,
         body: Vec<Resolved>,
     ) -> Result<Resolved, ResolveError>
-        ensures { Gives view_resolved result (for_over line (scope_in self.now) (view_head_tree head.now) (view_body body.items)) }
+        ensures { HasGiven view_resolved result (for_over line (scope_in self.now) (view_head_tree head.now) (view_body body.items)) }
     {
         let (head, phrases) = self.resolve_over(head)?;
         Ok(Resolved::For {
@@ -49,7 +49,7 @@ impl Resolver<'_> {
         head: &LoopHead,
         body: Vec<Resolved>,
     ) -> Result<Resolved, ResolveError>
-        ensures { Gives view_resolved result (resolved_loop line (scope_in self.now) (view_loop_head head.now) (view_body body.items)) }
+        ensures { HasGiven view_resolved result (resolved_loop line (scope_in self.now) (view_loop_head head.now) (view_body body.items)) }
     {
         match head {
             LoopHead::For(head) => self.resolve_for(line, head, body),
@@ -68,7 +68,7 @@ impl Resolver<'_> {
         found: Vec<Resolved>,
         none: Vec<Resolved>,
     ) -> Result<Resolved, ResolveError>
-        ensures { Gives view_resolved result (find line (scope_in self.now) (view_head_tree head.now) (view_body found.items) (view_body none.items)) }
+        ensures { HasGiven view_resolved result (find line (scope_in self.now) (view_head_tree head.now) (view_body found.items) (view_body none.items)) }
     {
         let ((found, none), (head, phrases)) = beside((found, none), self.resolve_over(head))?;
         Ok(Resolved::Find {

@@ -5,7 +5,7 @@ ghost use Rattle.ss_tree.specs.Tree.{schedule_new, schedule_statement};
 ghost use Rattle.ss_tree.specs.View.{view_expression_tree, view_named, view_when_tree};
 ghost use Rattle.std.specs.Option.{option_map};
 ghost use Rattle.ss_program.specs.View.{view_statement as view_resolved, view_when as when_seen};
-ghost use Rattle.ss_names_meaning.specs.Answers.{Gives};
+ghost use Rattle.ss_names_meaning.specs.Answers.{HasGiven};
 ghost use Rattle.ss_names_meaning.specs.Statements.{simple_statement, when};
 ghost use Rattle.ss_check_bodies.specs.Results.{scope_in};
 
@@ -29,7 +29,7 @@ impl Resolver<'_> {
         given: &[Expression],
         when: &When,
     ) -> Result<Resolved, ResolveError>
-        ensures { Gives view_resolved result (simple_statement (scope_in self.now) (schedule_new line class.now (option_map view_named called.now) (map view_expression_tree given.now) (view_when_tree when.now))) }
+        ensures { HasGiven view_resolved result (simple_statement (scope_in self.now) (schedule_new line class.now (option_map view_named called.now) (map view_expression_tree given.now) (view_when_tree when.now))) }
     {
         let class = self.class_named(ClassNeed::Notice, class)?;
         let into = self.resolve_new_place(class.variable, called);
@@ -58,7 +58,7 @@ impl Resolver<'_> {
         given: &[Expression],
         when: &When,
     ) -> Result<Resolved, ResolveError>
-        ensures { Gives view_resolved result (simple_statement (scope_in self.now) (schedule_statement line class.now (option_map view_expression_tree called.now) (map view_expression_tree given.now) (view_when_tree when.now))) }
+        ensures { HasGiven view_resolved result (simple_statement (scope_in self.now) (schedule_statement line class.now (option_map view_expression_tree called.now) (map view_expression_tree given.now) (view_when_tree when.now))) }
     {
         let class = self.class_named(ClassNeed::Notice, class)?;
         let notice = self.resolve_entity_called(class.variable, called);
@@ -79,7 +79,7 @@ impl Resolver<'_> {
 
     /// The time for which a notice is scheduled.
     pub(crate) fn resolve_when(&self, tree: &When) -> Result<ResolvedWhen, ResolveError>
-        ensures { Gives when_seen result (when (scope_in self.now) (view_when_tree tree.now)) }
+        ensures { HasGiven when_seen result (when (scope_in self.now) (view_when_tree tree.now)) }
     {
         match tree {
             When::At(time) => {

@@ -5,7 +5,7 @@ ghost use Rattle.ss_tree.specs.View.{view_expression_tree, view_named, view_posi
 ghost use Rattle.std.specs.Option.{option_map};
 ghost use Rattle.ss_program.specs.View.{view_expression as view_resolved, view_owner, view_place, view_position as position_seen, view_restart, view_target};
 ghost use Rattle.std.specs.Option.{option_map as option_seen};
-ghost use Rattle.ss_names_meaning.specs.Answers.{Gives, each};
+ghost use Rattle.ss_names_meaning.specs.Answers.{HasGiven, each};
 ghost use Rattle.ss_names_meaning.specs.Expressions.{set_owner, place_of, set_named, set_number, set_of_name, target};
 ghost use Rattle.ss_names_meaning.specs.Statements.{entity_called, new_place, position, reader, restart};
 ghost use Rattle.ss_check_bodies.specs.Results.{scope_in};
@@ -22,7 +22,7 @@ use ss_tree::statement::Position;
 
 // The target that is of no entity.
 fn place_alone(meaning: Meaning) -> Result<Place, ResolveError>
-    ensures { Gives view_place result (place_of meaning None) }
+    ensures { HasGiven view_place result (place_of meaning None) }
 {
     match meaning {
         Meaning::Variable { variable, .. } => Ok(Place::ToVariable { variable }),
@@ -36,7 +36,7 @@ fn place_alone(meaning: Meaning) -> Result<Place, ResolveError>
 
 // The target that a name means, of the entity that has it.
 fn place_of(meaning: Meaning, entity: Option<Resolved>) -> Result<Place, ResolveError>
-    ensures { Gives view_place result (place_of meaning (option_seen view_resolved entity)) }
+    ensures { HasGiven view_place result (place_of meaning (option_seen view_resolved entity)) }
 {
     match entity {
         None => place_alone(meaning),
@@ -70,7 +70,7 @@ fn set_number(meaning: Option<Meaning>) -> Option<usize>
 impl Resolver<'_> {
     /// A target.
     pub(crate) fn resolve_target(&self, tree: &Named) -> Result<Place, ResolveError>
-        ensures { Gives view_place result (target (scope_in self.now) (view_named tree.now)) }
+        ensures { HasGiven view_place result (target (scope_in self.now) (view_named tree.now)) }
     {
         let (meaning, entity) = self.resolve_place(tree.designator, &tree.subscripts)?;
         place_of(meaning, entity)
@@ -78,7 +78,7 @@ impl Resolver<'_> {
 
     /// Targets.
     pub(crate) fn resolve_targets(&self, trees: &[Named]) -> Result<Vec<Place>, ResolveError>
-        ensures { Gives (λ v. map view_place v.items) result (each (target (scope_in self.now)) (map view_named trees.now)) }
+        ensures { HasGiven (λ v. map view_place v.items) result (each (target (scope_in self.now)) (map view_named trees.now)) }
     {
         let mut resolved = Vec::new(self.alloc);
         for tree in trees {
@@ -89,7 +89,7 @@ impl Resolver<'_> {
 
     // A target of READ.
     fn resolve_reader(&self, tree: &Named) -> Result<InputTarget, ResolveError>
-        ensures { Gives view_target result (reader (scope_in self.now) (view_named tree.now)) }
+        ensures { HasGiven view_target result (reader (scope_in self.now) (view_named tree.now)) }
     {
         let (meaning, entity) = self.resolve_place(tree.designator, &tree.subscripts)?;
         let place = place_of(meaning, entity)?;
@@ -101,7 +101,7 @@ impl Resolver<'_> {
 
     /// The targets of READ.
     pub(crate) fn resolve_readers(&self, trees: &[Named]) -> Result<Vec<InputTarget>, ResolveError>
-        ensures { Gives (λ v. map view_target v.items) result (each (reader (scope_in self.now)) (map view_named trees.now)) }
+        ensures { HasGiven (λ v. map view_target v.items) result (each (reader (scope_in self.now)) (map view_named trees.now)) }
     {
         let mut resolved = Vec::new(self.alloc);
         for tree in trees {
@@ -116,7 +116,7 @@ impl Resolver<'_> {
         variable: Variable,
         called: &Option<Named>,
     ) -> Result<Place, ResolveError>
-        ensures { Gives view_place result (new_place (scope_in self.now) variable (option_map view_named called.now)) }
+        ensures { HasGiven view_place result (new_place (scope_in self.now) variable (option_map view_named called.now)) }
     {
         match called {
             None => Ok(Place::ToVariable { variable }),
@@ -131,7 +131,7 @@ impl Resolver<'_> {
         variable: Variable,
         called: &Option<Expression>,
     ) -> Result<Resolved, ResolveError>
-        ensures { Gives view_resolved result (entity_called (scope_in self.now) variable (option_map view_expression_tree called.now)) }
+        ensures { HasGiven view_resolved result (entity_called (scope_in self.now) variable (option_map view_expression_tree called.now)) }
     {
         match called {
             None => Ok(Resolved::Fetch { variable }),
@@ -152,7 +152,7 @@ impl Resolver<'_> {
 
     /// The number of the set that is named, and its owner.
     pub(crate) fn resolve_set(&self, tree: &Named) -> Result<(usize, SetOwner), ResolveError>
-        ensures { Gives (λ p. (p.0, view_owner p.1)) result (set_named (scope_in self.now) (view_named tree.now)) }
+        ensures { HasGiven (λ p. (p.0, view_owner p.1)) result (set_named (scope_in self.now) (view_named tree.now)) }
     {
         let Some(set) = self.set_of_name(&tree.designator) else {
             return Err(ResolveError::Unresolved);
@@ -164,7 +164,7 @@ impl Resolver<'_> {
 
     /// Where a member is filed.
     pub(crate) fn resolve_position(&self, tree: &Position) -> Result<ResolvedPosition, ResolveError>
-        ensures { Gives position_seen result (position (scope_in self.now) (view_position_tree tree.now)) }
+        ensures { HasGiven position_seen result (position (scope_in self.now) (view_position_tree tree.now)) }
     {
         match tree {
             Position::Discipline => Ok(ResolvedPosition::ByDiscipline),
@@ -185,7 +185,7 @@ impl Resolver<'_> {
 
     // A statistic that starts afresh, and of which entity.
     fn resolve_restart(&self, tree: &Named) -> Result<Restart, ResolveError>
-        ensures { Gives view_restart result (restart (scope_in self.now) (view_named tree.now)) }
+        ensures { HasGiven view_restart result (restart (scope_in self.now) (view_named tree.now)) }
     {
         let Some(statistic) = self.scope.history_of(&tree.designator) else {
             return Err(ResolveError::Unresolved);
@@ -196,7 +196,7 @@ impl Resolver<'_> {
 
     /// The statistics of a RESET.
     pub(crate) fn resolve_restarts(&self, trees: &[Named]) -> Result<Vec<Restart>, ResolveError>
-        ensures { Gives (λ v. map view_restart v.items) result (each (restart (scope_in self.now)) (map view_named trees.now)) }
+        ensures { HasGiven (λ v. map view_restart v.items) result (each (restart (scope_in self.now)) (map view_named trees.now)) }
     {
         let mut resolved = Vec::new(self.alloc);
         for tree in trees {

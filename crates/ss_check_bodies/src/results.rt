@@ -2,8 +2,8 @@
 
 ghost use Rattle.std.specs.Prelude.{◌≡◌};
 ghost use Rattle.ss_names_meaning.specs.declared.error.ResolveError.TheVariants.{Unresolved};
-ghost use Rattle.ss_names_meaning.specs.Answers.{Gives, where_holds};
-ghost use Rattle.ss_check_bodies.specs.Results.{MadeAfter, MadeBeside, MadeBoth};
+ghost use Rattle.ss_names_meaning.specs.Answers.{HasGiven, where_holds};
+ghost use Rattle.ss_check_bodies.specs.Results.{IsMadeAfter, IsMadeBeside, IsMadeOfBoth};
 
 use ss_names_meaning::ResolveError;
 
@@ -12,7 +12,7 @@ pub(crate) fn beside<A: Drop, B>(
     first: A,
     next: Result<B, ResolveError>,
 ) -> Result<(A, B), ResolveError>
-    ensures { MadeBeside first next result }
+    ensures { IsMadeBeside first next result }
 {
     match next {
         Ok(next) => Ok((first, next)),
@@ -25,7 +25,7 @@ pub(crate) fn both<A: Drop, B: Drop>(
     first: Result<A, ResolveError>,
     next: Result<B, ResolveError>,
 ) -> Result<(A, B), ResolveError>
-    ensures { MadeBoth first next result }
+    ensures { IsMadeOfBoth first next result }
 {
     beside(first?, next)
 }
@@ -35,7 +35,7 @@ pub(crate) fn followed<T: Drop>(
     mut made: Vec<T>,
     next: Result<T, ResolveError>,
 ) -> Result<Vec<T>, ResolveError>
-    ensures { MadeAfter made next result }
+    ensures { IsMadeAfter made next result }
 {
     made.push(next?)?;
     Ok(made)
@@ -43,7 +43,7 @@ pub(crate) fn followed<T: Drop>(
 
 /// A value, where a test holds.
 pub(crate) fn where_holds<T: Drop>(holds: bool, value: T) -> Result<T, ResolveError>
-    ensures { Gives (λ x. x) result (where_holds holds value) }
+    ensures { HasGiven (λ x. x) result (where_holds holds value) }
 {
     if holds {
         Ok(value)

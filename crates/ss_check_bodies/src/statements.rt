@@ -5,7 +5,7 @@ ghost use Rattle.ss_tree.specs.Tree.{call_statement};
 ghost use Rattle.ss_tree.specs.View.{view_expression_tree, view_named, view_statement_tree};
 ghost use Rattle.ss_program.specs.View.{view_statement as view_resolved};
 ghost use Rattle.ss_program.specs.Program.{Change};
-ghost use Rattle.ss_names_meaning.specs.Answers.{Gives, of_two};
+ghost use Rattle.ss_names_meaning.specs.Answers.{HasGiven, of_two};
 ghost use Rattle.ss_names_meaning.specs.Expressions.{expression, target};
 ghost use Rattle.ss_names_meaning.specs.Statements.{routine_named, routine_number, simple_statement};
 ghost use Rattle.ss_check_bodies.specs.Results.{scope_in};
@@ -46,7 +46,7 @@ fn picture_lines(alloc: Global, pictures: &[PictureLine]) -> Result<Vec<Vec<u8>>
 impl Resolver<'_> {
     // The routine of a name, with its number.
     fn routine_named(&self, name: &Name) -> Result<(usize, RoutineSection), ResolveError>
-        ensures { Gives (λ x. x) result (routine_named (scope_in self.now) name.now) }
+        ensures { HasGiven (λ x. x) result (routine_named (scope_in self.now) name.now) }
     {
         let Some(routine) = routine_number(self.scope.names.meaning(name)) else {
             return Err(ResolveError::Unresolved);
@@ -67,7 +67,7 @@ impl Resolver<'_> {
         given: &[Expression],
         yielding: &[Named],
     ) -> Result<Resolved, ResolveError>
-        ensures { Gives view_resolved result (simple_statement (scope_in self.now) (call_statement line routine.now (map view_expression_tree given.now) (map view_named yielding.now))) }
+        ensures { HasGiven view_resolved result (simple_statement (scope_in self.now) (call_statement line routine.now (map view_expression_tree given.now) (map view_named yielding.now))) }
     {
         let (routine, section) = self.routine_named(routine)?;
         let values = self.resolve_all(given);
@@ -93,7 +93,7 @@ impl Resolver<'_> {
         amount: &Expression,
         place: &Named,
     ) -> Result<Resolved, ResolveError>
-        ensures { Gives view_resolved result (of_two (expression (scope_in self.now) (view_expression_tree amount.now)) (target (scope_in self.now) (view_named place.now)) (λ x p. Change line sign p x)) }
+        ensures { HasGiven view_resolved result (of_two (expression (scope_in self.now) (view_expression_tree amount.now)) (target (scope_in self.now) (view_named place.now)) (λ x p. Change line sign p x)) }
     {
         let value = self.resolve_expression(amount);
         let (value, target) = both(value, self.resolve_target(place))?;
@@ -108,7 +108,7 @@ impl Resolver<'_> {
     /// A statement without statements in it. `Unresolved` for another.
     #[tactic(auto, unfolding(ss_names_meaning::specs::Statements::simple_statement, ss_tree::specs::View::view_statement_tree, ss_program::specs::View::view_statement))]
     pub(crate) fn resolve_simple(&self, tree: &Statement) -> Result<Resolved, ResolveError>
-        ensures { Gives view_resolved result (simple_statement (scope_in self.now) (view_statement_tree tree.now)) }
+        ensures { HasGiven view_resolved result (simple_statement (scope_in self.now) (view_statement_tree tree.now)) }
     {
         match tree {
             Statement::Let {

@@ -7,10 +7,10 @@ use Rattle.ss_tree.specs.Tree.{ConditionTree, HeadTree, LoopHeadTree, for_head, 
 use Rattle.ss_names_uses.specs.Uses as uses
 use Rattle.ss_names_scopes.specs.Scopes.{Scope}
 use Rattle.ss_program.specs.Program.{For, Find, Block, Done}
-use Rattle.ss_program.specs.WellTyped.{TypedScope as Place, Good, GoodBlock}
+use Rattle.ss_program.specs.WellTyped.{TypedScope as Place, IsTypedStatement, IsTypedBlock}
 use Rattle.ss_names_meaning.specs.Statements.{find_by, statement, statements}
 use Rattle.ss_check_laws.specs.Links.{IsLinked, AreValid}
-use Rattle.ss_check_laws.specs.BodyLaws.{BodiesResolve, ConditionResolves, ForResolves, HeadResolves}
+use Rattle.ss_check_laws.specs.BodyLaws.{BodiesResolve, IsResolvedCondition, IsResolvedForHead, IsResolvedHead}
 use Rattle.ss_check_laws.proofs.Steps.{GoesWell, two_parts, three_parts}
 use Rattle.ss_check_laws.proofs.Lists.{after, after_one, after_two}
 use Rattle.ss_check_laws.proofs.Parts.{conditions_resolve, heads_resolve}
@@ -24,31 +24,31 @@ module _ (s : Scope) (g : Place) where
   -- ---- forms with statements in them
 
   abbrev Resolved : StatementTree → Type 0
-  Resolved t = GoesWell (Good g) (statement s t)
+  Resolved t = GoesWell (IsTypedStatement g) (statement s t)
 
   abbrev RowResolved : StatementRow → Type 0
-  RowResolved row = GoesWell (GoodBlock g) (statements s row)
+  RowResolved row = GoesWell (IsTypedBlock g) (statements s row)
 
-  if_made : (line : Line) (test : ConditionTree) (first second : StatementRow) → ConditionResolves s g test → RowResolved first → RowResolved second → Resolved (if_statement line test first second)
+  if_made : (line : Line) (test : ConditionTree) (first second : StatementRow) → IsResolvedCondition s g test → RowResolved first → RowResolved second → Resolved (if_statement line test first second)
   unfolding statement
   if_made line test first second x a b =
-      after (Good g) _ _ a.0 a.1 (after (Good g) _ _ b.0 b.1 (after_one (Good g) _ _ x (λ t h. (h, a.2, b.2))))
+      after (IsTypedStatement g) _ _ a.0 a.1 (after (IsTypedStatement g) _ _ b.0 b.1 (after_one (IsTypedStatement g) _ _ x (λ t h. (h, a.2, b.2))))
 
-  loop_made : (line : Line) (over : LoopHeadTree) (row : StatementRow) → HeadResolves s g over → RowResolved row → Resolved (loop_statement line over row)
+  loop_made : (line : Line) (over : LoopHeadTree) (row : StatementRow) → IsResolvedHead s g over → RowResolved row → Resolved (loop_statement line over row)
   unfolding statement
   loop_made line (for_head over) row h b =
-      after (Good g) _ _ b.0 b.1 (over_head s g over (λ x ps. For line x ps b.0) h (λ x ps f k. (f, k, b.2)))
+      after (IsTypedStatement g) _ _ b.0 b.1 (over_head s g over (λ x ps. For line x ps b.0) h (λ x ps f k. (f, k, b.2)))
   loop_made line (guarded guards) row h b =
-      after (Good g) _ _ b.0 b.1 (after_one (Good g) _ _ h (λ gs k. (k, b.2)))
+      after (IsTypedStatement g) _ _ b.0 b.1 (after_one (IsTypedStatement g) _ _ h (λ gs k. (k, b.2)))
 
-  by_outcome : (outcome : FindOutcome) (line : Line) (over : HeadTree) (first second : Block) → ForResolves s g over → GoodBlock g first → GoodBlock g second → GoesWell (Good g) (find_by outcome line s over first second)
+  by_outcome : (outcome : FindOutcome) (line : Line) (over : HeadTree) (first second : Block) → IsResolvedForHead s g over → IsTypedBlock g first → IsTypedBlock g second → GoesWell (IsTypedStatement g) (find_by outcome line s over first second)
   by_outcome outcomes.Found line over first second h a b = over_head s g over (λ x ps. Find line x ps first second) h (λ x ps f k. (f, k, a, b))
   by_outcome outcomes.None line over first second h a b = over_head s g over (λ x ps. Find line x ps second first) h (λ x ps f k. (f, k, b, a))
 
-  find_if_made : (line : Line) (over : HeadTree) (outcome : FindOutcome) (first second : StatementRow) → ForResolves s g over → RowResolved first → RowResolved second → Resolved (find_if_statement line over outcome first second)
+  find_if_made : (line : Line) (over : HeadTree) (outcome : FindOutcome) (first second : StatementRow) → IsResolvedForHead s g over → RowResolved first → RowResolved second → Resolved (find_if_statement line over outcome first second)
   unfolding statement
   find_if_made line over outcome first second h a b =
-      after (Good g) _ _ a.0 a.1 (after (Good g) _ _ b.0 b.1 (by_outcome outcome line over a.0 b.0 h a.2 b.2))
+      after (IsTypedStatement g) _ _ a.0 a.1 (after (IsTypedStatement g) _ _ b.0 b.1 (by_outcome outcome line over a.0 b.0 h a.2 b.2))
 
   -- ---- rows
 
@@ -58,7 +58,7 @@ module _ (s : Scope) (g : Place) where
 
   row_made : (t : StatementTree) (ts : StatementRow) → Resolved t → RowResolved ts → RowResolved (and_statement t ts)
   unfolding statements
-  row_made t ts x r = after_two (GoodBlock g) _ _ _ x r (λ u v h f. (h, f))
+  row_made t ts x r = after_two (IsTypedBlock g) _ _ _ x r (λ u v h f. (h, f))
 
 module _ (s : Scope) (g : Place) (linked : IsLinked s g) where
   mutual

@@ -8,7 +8,7 @@ use Rattle.ss_base.specs.declared.layout.ClassKind.TheVariants as kinds
 use Rattle.ss_base.specs.declared.layout.Mode.TheVariants.{Integer}
 use Rattle.ss_tree.specs.Names.{NameBytes}
 use Rattle.ss_program.specs.Program.{ToVariable}
-use Rattle.ss_program.specs.WellTyped.{TypedScope as Place, TakesMode}
+use Rattle.ss_program.specs.WellTyped.{TypedScope as Place, CanTakeMode}
 use Rattle.ss_names_declarations.specs.NameTable.{value_for}
 use Rattle.ss_names_uses.specs.Uses.{class_used}
 use Rattle.ss_names_uses.specs.declared.used.ClassNeed.{ClassNeed}
@@ -24,7 +24,7 @@ use Rattle.ss_check_rules.specs.declared.error.CheckError.TheVariants as errors
 use Rattle.ss_names_meaning.specs.Answers.{where_holds}
 use Rattle.ss_names_meaning.specs.Classes.{class_number, variable_named}
 use Rattle.ss_names_meaning.specs.declared.classes.NamedClass.{NamedClass}
-use Rattle.ss_check_laws.specs.BodyLaws.{ClassResolves, ClassesResolve}
+use Rattle.ss_check_laws.specs.BodyLaws.{IsResolvedClass, ClassesResolve}
 use Rattle.ss_check_laws.specs.Links.{IsLinked}
 use Rattle.ss_check_laws.proofs.Steps.{alike, first_holds, goes, holds_unless, two_steps}
 use Rattle.ss_check_laws.proofs.Linked.{IsVariable, class_variable, meant_here}
@@ -39,12 +39,12 @@ class_meant _ need h = absurd cc
 
 module _ (s : Scope) (g : Place) (k : IsLinked s g) (line : Line) where
   -- where no entity is named, the variable takes numbers
-  numeric : (is_called : Bool) (o : Option Meaning) (m : Meaning) (v : IsVariable s g k m) → unless (is_called || not (is_text o)) (errors.Mode line) ≡ None → o ≡ Some m → is_called ≡ false → TakesMode g (ToVariable v.0) Integer
+  numeric : (is_called : Bool) (o : Option Meaning) (m : Meaning) (v : IsVariable s g k m) → unless (is_called || not (is_text o)) (errors.Mode line) ≡ None → o ≡ Some m → is_called ≡ false → CanTakeMode g (ToVariable v.0) Integer
   numeric is_called o m v h e f =
       let plain = not-true (is_text o) (subst (λ b. (b || not (is_text o)) ≡ true) f (holds_unless (is_called || not (is_text o)) (errors.Mode line) h)) in
-      subst (λ n. TakesMode g (ToVariable v.0) n) (alike (meaning_mode o) (Some Integer) v.1 Integer plain (ap meaning_mode e ∙ v.3) refl) v.4
+      subst (λ n. CanTakeMode g (ToVariable v.0) n) (alike (meaning_mode o) (Some Integer) v.1 Integer plain (ap meaning_mode e ∙ v.3) refl) v.4
 
-  pub class_resolves : (need : ClassNeed) (name : NameBytes) (is_called : Bool) → use_breaks s g.is_main (class_used line need name is_called) ≡ None → ClassResolves s g need name is_called
+  pub class_resolves : (need : ClassNeed) (name : NameBytes) (is_called : Bool) → use_breaks s g.is_main (class_used line need name is_called) ≡ None → IsResolvedClass s g need name is_called
   class_resolves need name is_called h =
       let global = value_for s.table.meanings name in
       let here = meaning_of_name s name in

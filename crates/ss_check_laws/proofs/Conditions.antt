@@ -4,7 +4,7 @@ use Rattle.std.specs.List.{AllByRecursion as Every, flat_map}
 use Rattle.ss_base.specs.declared.line.Line.{Line}
 use Rattle.ss_tree.specs.Tree.{TestTree, compare, empty, member, data_ended, ConditionTree}
 use Rattle.ss_program.specs.Program.{Test, Compare, DataEnded, Empty, Member}
-use Rattle.ss_program.specs.WellTyped.{TypedScope as Place, GoodTest, HasMode}
+use Rattle.ss_program.specs.WellTyped.{TypedScope as Place, IsTypedTest, HasMode}
 use Rattle.ss_names_uses.specs.Uses.{in_condition, in_expression, in_named, in_test, expression_tree_mode}
 use Rattle.ss_names_uses.specs.declared.used.Role.TheVariants as roles
 use Rattle.ss_names_scopes.specs.Scopes.{Scope}
@@ -12,14 +12,14 @@ use Rattle.ss_check_rules.specs.Modes.{mode_of_use}
 use Rattle.ss_check_rules.specs.declared.error.CheckError.TheVariants as errors
 use Rattle.ss_names_meaning.specs.Conditions.{conjunction, one_test}
 use Rattle.ss_names_meaning.specs.Expressions.{expression, set_named}
-use Rattle.ss_check_laws.specs.BodyLaws.{ConditionResolves, ConditionsResolve}
+use Rattle.ss_check_laws.specs.BodyLaws.{IsResolvedCondition, ConditionsResolve}
 use Rattle.ss_check_laws.specs.Links.{IsLinked, AreValid}
 use Rattle.ss_check_laws.proofs.Steps.{GoesWell, agree, each_resolves, goes, two_parts, two_steps}
 use Rattle.ss_check_laws.proofs.Expressions.{number_kept, resolves}
 use Rattle.ss_check_laws.proofs.Targets.{set_resolves}
 
 module _ (s : Scope) (g : Place) (k : IsLinked s g) (line : Line) where
-  test_resolves : (t : TestTree) → AreValid s g.is_main (in_test line t) → GoesWell (GoodTest g) (one_test s t)
+  test_resolves : (t : TestTree) → AreValid s g.is_main (in_test line t) → GoesWell (IsTypedTest g) (one_test s t)
   unfolding one_test
   test_resolves (compare left relation right) h =
       let p = two_parts s g.is_main (in_expression line false left) (in_expression line false right) h.1 in
@@ -40,11 +40,11 @@ module _ (s : Scope) (g : Place) (k : IsLinked s g) (line : Line) where
       (made, two_steps (expression s e) (set_named s set) (λ a b. Some (Member negated b.0 a b.1)) x.0 q.0 made x.1 q.1 refl, (x.2, q.2))
   test_resolves (data_ended negated) h = (DataEnded negated, refl, tt)
 
-  conjunction_resolves : (ts : List TestTree) → AreValid s g.is_main (flat_map (in_test line) ts) → GoesWell (Every (GoodTest g)) (conjunction s ts)
-  conjunction_resolves ts h = each_resolves s g.is_main (one_test s) (in_test line) (GoodTest g) test_resolves ts h
+  conjunction_resolves : (ts : List TestTree) → AreValid s g.is_main (flat_map (in_test line) ts) → GoesWell (Every (IsTypedTest g)) (conjunction s ts)
+  conjunction_resolves ts h = each_resolves s g.is_main (one_test s) (in_test line) (IsTypedTest g) test_resolves ts h
 
-  pub condition_resolves : (t : ConditionTree) → AreValid s g.is_main (in_condition line t) → ConditionResolves s g t
-  condition_resolves t h = each_resolves s g.is_main (conjunction s) (flat_map (in_test line)) (Every (GoodTest g)) conjunction_resolves t h
+  pub condition_resolves : (t : ConditionTree) → AreValid s g.is_main (in_condition line t) → IsResolvedCondition s g t
+  condition_resolves t h = each_resolves s g.is_main (conjunction s) (flat_map (in_test line)) (Every (IsTypedTest g)) conjunction_resolves t h
 
 pub conditions_resolve : ConditionsResolve
 conditions_resolve s g k line t h = condition_resolves s g k line t h

@@ -22,7 +22,7 @@ use Rattle.ss_check_rules.specs.Refusal.{use_breaks}
 use Rattle.ss_program.specs.declared.expression.Variable.{Variable}
 use Rattle.ss_program.specs.declared.statement.CountedClass.{CountedClass}
 use Rattle.ss_program.specs.Program.{Fetch, ToVariable, ByDiscipline, AsFirst, AsLast}
-use Rattle.ss_program.specs.WellTyped.{TypedScope as Place, HasMode, TakesMode, GoodPosition, Good, is_created_singly}
+use Rattle.ss_program.specs.WellTyped.{TypedScope as Place, HasMode, CanTakeMode, IsTypedPosition, IsTypedStatement, is_created_singly}
 use Rattle.ss_names_meaning.specs.declared.classes.NamedClass.{NamedClass}
 use Rattle.ss_names_meaning.specs.Answers.{◌>>=◌, each}
 use Rattle.ss_names_meaning.specs.Classes.{class_named, class_number, count_of, counted, variable_named}
@@ -30,7 +30,7 @@ use Rattle.ss_names_meaning.specs.Statements.{entity_called, new_place, position
 use Rattle.ss_names_laws.proofs.Results.{held}
 use Rattle.ss_names_laws.proofs.Steps.{got}
 use Rattle.ss_check_laws.specs.Links.{IsLinked, AreValid}
-use Rattle.ss_check_laws.specs.BodyLaws.{ClassResolves}
+use Rattle.ss_check_laws.specs.BodyLaws.{IsResolvedClass}
 use Rattle.ss_check_laws.proofs.Steps.{GoesWell, two_parts, three_parts}
 use Rattle.ss_check_laws.proofs.Expressions.{number_kept}
 use Rattle.ss_check_laws.proofs.Lists.{after, after_one, after_two}
@@ -72,29 +72,29 @@ class_is s need name c e =
 module _ (s : Scope) (g : Place) (linked : IsLinked s g) (line : Line) where
   -- ---- what follows CALLED
 
-  pub new_resolves : (need : ClassNeed) (name : NameBytes) (called : Option NamedTree) (c : ClassResolves s g need name (is_some called)) →
-      AreValid s g.is_main (uses.in_option (uses.in_named line roles.Target true) called) → GoesWell (λ x. TakesMode g x Integer) (new_place s c.0.variable called)
+  pub new_resolves : (need : ClassNeed) (name : NameBytes) (called : Option NamedTree) (c : IsResolvedClass s g need name (is_some called)) →
+      AreValid s g.is_main (uses.in_option (uses.in_named line roles.Target true) called) → GoesWell (λ x. CanTakeMode g x Integer) (new_place s c.0.variable called)
   new_resolves need name None c k = (ToVariable c.0.variable, refl, c.5 refl)
   new_resolves need name (Some n) c k = takes_number s g linked line n k
 
-  pub old_resolves : (need : ClassNeed) (name : NameBytes) (called : Option ExpressionTree) (c : ClassResolves s g need name (is_some called)) →
+  pub old_resolves : (need : ClassNeed) (name : NameBytes) (called : Option ExpressionTree) (c : IsResolvedClass s g need name (is_some called)) →
       AreValid s g.is_main (uses.in_option (uses.in_expression line true) called) → GoesWell (λ x. HasMode g x Integer) (entity_called s c.0.variable called)
   old_resolves need name None c k = (Fetch c.0.variable, refl, (c.5 refl).0)
   old_resolves need name (Some e) c k = number_kept s g linked line e k
 
   -- ---- CREATE and DESTROY
 
-  pub create_resolves : (name : NameBytes) (called : Option NamedTree) → AreValid s g.is_main (uses.in_new line needs.Single name called) → GoesWell (Good g) (simple_statement s (create_statement line name called))
+  pub create_resolves : (name : NameBytes) (called : Option NamedTree) → AreValid s g.is_main (uses.in_new line needs.Single name called) → GoesWell (IsTypedStatement g) (simple_statement s (create_statement line name called))
   unfolding simple_statement
   create_resolves name called k =
       let c = classes_resolve s g linked line needs.Single name (is_some called) (k.0, tt) in
-      after (Good g) _ _ c.0 c.2 (after_one (Good g) _ _ (new_resolves needs.Single name called c k.1) (λ x h. (ap is_created_singly c.3 ∙ single_kind c.1 c.4, h)))
+      after (IsTypedStatement g) _ _ c.0 c.2 (after_one (IsTypedStatement g) _ _ (new_resolves needs.Single name called c k.1) (λ x h. (ap is_created_singly c.3 ∙ single_kind c.1 c.4, h)))
 
-  pub destroy_resolves : (name : NameBytes) (called : Option ExpressionTree) → AreValid s g.is_main (uses.in_old line needs.Single name called) → GoesWell (Good g) (simple_statement s (destroy_statement line name called))
+  pub destroy_resolves : (name : NameBytes) (called : Option ExpressionTree) → AreValid s g.is_main (uses.in_old line needs.Single name called) → GoesWell (IsTypedStatement g) (simple_statement s (destroy_statement line name called))
   unfolding simple_statement
   destroy_resolves name called k =
       let c = classes_resolve s g linked line needs.Single name (is_some called) (k.0, tt) in
-      after (Good g) _ _ c.0 c.2 (after_one (Good g) _ _ (old_resolves needs.Single name called c k.1) (λ x h. (ap is_created_singly c.3 ∙ single_kind c.1 c.4, h)))
+      after (IsTypedStatement g) _ _ c.0 c.2 (after_one (IsTypedStatement g) _ _ (old_resolves needs.Single name called c k.1) (λ x h. (ap is_created_singly c.3 ∙ single_kind c.1 c.4, h)))
 
   counted_there : (name : NameBytes) → use_breaks s g.is_main (uses.class_used line needs.Permanent name true) ≡ None → GoesWell (Contains g.program.counts) (counted s name)
   counted_there name k =
@@ -112,37 +112,37 @@ module _ (s : Scope) (g : Place) (linked : IsLinked s g) (line : Line) where
   all_counted (name ∷ names) k =
       after_two (Every (Contains g.program.counts)) _ _ _ (counted_there name k.0) (all_counted names k.1) (λ y ys h hs. (h, hs))
 
-  pub create_every_resolves : (names : List NameBytes) → AreValid s g.is_main (map (λ (name : NameBytes). uses.class_used line needs.Permanent name true) names) → GoesWell (Good g) (simple_statement s (create_every line names))
+  pub create_every_resolves : (names : List NameBytes) → AreValid s g.is_main (map (λ (name : NameBytes). uses.class_used line needs.Permanent name true) names) → GoesWell (IsTypedStatement g) (simple_statement s (create_every line names))
   unfolding simple_statement
-  create_every_resolves names k = after_one (Good g) _ _ (all_counted names k) (λ ys h. h)
+  create_every_resolves names k = after_one (IsTypedStatement g) _ _ (all_counted names k) (λ ys h. h)
 
   -- ---- FILE and REMOVE
 
-  position_resolves : (t : PositionTree) → AreValid s g.is_main (uses.in_position line t) → GoesWell (GoodPosition g) (position s t)
+  position_resolves : (t : PositionTree) → AreValid s g.is_main (uses.in_position line t) → GoesWell (IsTypedPosition g) (position s t)
   position_resolves by_discipline k = (ByDiscipline, refl, tt)
   position_resolves at_first k = (AsFirst, refl, tt)
   position_resolves at_last k = (AsLast, refl, tt)
-  position_resolves (before e) k = after_one (GoodPosition g) _ _ (number_kept s g linked line e k) (λ x h. h)
-  position_resolves (after_member e) k = after_one (GoodPosition g) _ _ (number_kept s g linked line e k) (λ x h. h)
+  position_resolves (before e) k = after_one (IsTypedPosition g) _ _ (number_kept s g linked line e k) (λ x h. h)
+  position_resolves (after_member e) k = after_one (IsTypedPosition g) _ _ (number_kept s g linked line e k) (λ x h. h)
 
   pub file_resolves : (e : ExpressionTree) (t : PositionTree) (n : NamedTree) → AreValid s g.is_main (uses.in_expression line true e ++ uses.in_position line t ++ uses.in_named line roles.Set false n) →
-      GoesWell (Good g) (simple_statement s (file_statement line e t n))
+      GoesWell (IsTypedStatement g) (simple_statement s (file_statement line e t n))
   unfolding simple_statement
   file_resolves e t n k =
       let p = three_parts s g.is_main (uses.in_expression line true e) (uses.in_position line t) (uses.in_named line roles.Set false n) k in
       let x = number_kept s g linked line e p.0 in
-      after (Good g) _ _ x.0 x.1 (after_two (Good g) _ _ _ (position_resolves t p.1) (sets_resolve s g linked line n p.2) (λ u v h f. (x.2, h, f)))
+      after (IsTypedStatement g) _ _ x.0 x.1 (after_two (IsTypedStatement g) _ _ _ (position_resolves t p.1) (sets_resolve s g linked line n p.2) (λ u v h f. (x.2, h, f)))
 
   pub remove_end_resolves : (end : End) (n set : NamedTree) → AreValid s g.is_main (uses.in_named line roles.Target true n ++ uses.in_named line roles.Set false set) →
-      GoesWell (Good g) (simple_statement s (remove_end line end n set))
+      GoesWell (IsTypedStatement g) (simple_statement s (remove_end line end n set))
   unfolding simple_statement
   remove_end_resolves end n set k =
       let p = two_parts s g.is_main (uses.in_named line roles.Target true n) (uses.in_named line roles.Set false set) k in
-      after_two (Good g) _ _ _ (takes_number s g linked line n p.0) (sets_resolve s g linked line set p.1) (λ x v h f. (h, f))
+      after_two (IsTypedStatement g) _ _ _ (takes_number s g linked line n p.0) (sets_resolve s g linked line set p.1) (λ x v h f. (h, f))
 
   pub remove_resolves : (e : ExpressionTree) (n : NamedTree) → AreValid s g.is_main (uses.in_expression line true e ++ uses.in_named line roles.Set false n) →
-      GoesWell (Good g) (simple_statement s (remove_statement line e n))
+      GoesWell (IsTypedStatement g) (simple_statement s (remove_statement line e n))
   unfolding simple_statement
   remove_resolves e n k =
       let p = two_parts s g.is_main (uses.in_expression line true e) (uses.in_named line roles.Set false n) k in
-      after_two (Good g) _ _ _ (number_kept s g linked line e p.0) (sets_resolve s g linked line n p.1) (λ x v h f. (h, f))
+      after_two (IsTypedStatement g) _ _ _ (number_kept s g linked line e p.0) (sets_resolve s g linked line n p.1) (λ x v h f. (h, f))

@@ -35,7 +35,7 @@ use Rattle.ss_names_scopes.specs.Scopes.{Scope, hidden_by, is_main, known_mode, 
 use Rattle.ss_program.specs.declared.expression.Variable.TheVariants.{Global}
 use Rattle.ss_program.specs.declared.statement.CountedClass.{CountedClass}
 use Rattle.ss_program.specs.Program.{Done, Event, Program}
-use Rattle.ss_program.specs.WellTyped.{GoodBlock, GoodEvent, GoodKeys, IsPlain}
+use Rattle.ss_program.specs.WellTyped.{IsTypedBlock, IsTypedEvent, AreTypedKeys, IsPlain}
 use Rattle.ss_check_rules.specs.Counts.{suits_count}
 use Rattle.ss_check_rules.specs.Modes.{attribute_mode, meaning_mode, mode_of_use}
 use Rattle.ss_check_rules.specs.Refusal.{eventless, eventless_of, in_preamble, use_breaks}
@@ -250,7 +250,7 @@ module _ (p : tree.ProgramTree) (x : ResolvedLayout) (k : IsUnbroken p x) where
               (ap (λ l. slice_get l n.named.variable) b.layout.globals ∙ plain.0, subst (λ l. Every (λ (count : CountedClass). count.variable ≢ n.named.variable) l) (sym b.layout.counts) plain.1),
         )
 
-    pub event_made : (e : Event) × (event_from t (section p x k) class ≡ Some e) × (e.class ≡ class) × ((q : Program) → IsWhole p x k q → GoodEvent q e)
+    pub event_made : (e : Event) × (event_from t (section p x k) class ≡ Some e) × (e.class ≡ class) × ((q : Program) → IsWhole p x k q → IsTypedEvent q e)
     event_made =
         let at = n.known.section in
         let parts = section_modes p x k at s n.section.2 in
@@ -272,21 +272,21 @@ module _ (p : tree.ProgramTree) (x : ResolvedLayout) (k : IsUnbroken p x) where
                 modes = n.laid.fields;
                 fields = ap (option_map (λ (c : PlainClass). c.fields)) laid;
                 notice = ap (option_map (λ (c : PlainClass). c.kind)) laid ∙ ap Some n.notice;
-                ties = subst (GoodKeys q class) (same_Some ties.0 keys.0 (sym ties.1 ∙ keys.1)) ties.2;
+                ties = subst (AreTypedKeys q class) (same_Some ties.0 keys.0 (sym ties.1 ∙ keys.1)) ties.2;
                 given = cut ∙ ap (λ i. take i n.laid.fields) (sym count);
                 saved = variable.2 q b;
-                body = subst₂ (λ (locals : List Mode) (in_main : Bool). GoodBlock (record { program = q; locals = locals; is_main = in_main }) parts.0.body) (sym (take-append-drop n.known.given parts.0.modes)) (ap is_main n.section.3)
+                body = subst₂ (λ (locals : List Mode) (in_main : Bool). IsTypedBlock (record { program = q; locals = locals; is_main = in_main }) parts.0.body) (sym (take-append-drop n.known.given parts.0.modes)) (ap is_main n.section.3)
                     (body_good p x k q b at s parts.0 n.section.2 parts.1);
               },
         )
 
   pub event_there : (i class : ℕ) → slice_get t.ranks i ≡ Some class →
-      (e : Event) × (event_from t (section p x k) class ≡ Some e) × (e.class ≡ class) × ((q : Program) → IsWhole p x k q → GoodEvent q e)
+      (e : Event) × (event_from t (section p x k) class ≡ Some e) × (e.class ≡ class) × ((q : Program) → IsWhole p x k q → IsTypedEvent q e)
   event_there i class e = event_made class (has_section class (at_place (IsNotice t.classes) t.ranks i class (ranks_are_notices (declarations p)) e))
 
-  pub events_there : (es : List Event) × (each (event_from t (section p x k)) t.ranks ≡ Some es) × Every (λ e. (q : Program) → IsWhole p x k q → GoodEvent q e) es
+  pub events_there : (es : List Event) × (each (event_from t (section p x k)) t.ranks ≡ Some es) × Every (λ e. (q : Program) → IsWhole p x k q → IsTypedEvent q e) es
   events_there =
-      let good = λ (e : Event). (q : Program) → IsWhole p x k q → GoodEvent q e in
+      let good = λ (e : Event). (q : Program) → IsWhole p x k q → IsTypedEvent q e in
       let found = each_made (event_from t (section p x k)) good t.ranks (from_places (λ class. (e : Event) × (event_from t (section p x k) class ≡ Some e) × good e) t.ranks (λ i class e.
       let r = event_there i class e in (r.0, r.1, r.3))) in
       (found.0, found.1, found.3)

@@ -29,7 +29,7 @@ use Rattle.ss_check_rules.specs.Refusal.{use_breaks}
 use Rattle.ss_check_rules.specs.declared.error.CheckError.TheVariants as errors
 use Rattle.ss_names_meaning.specs.Answers.{◌>>=◌}
 use Rattle.ss_names_meaning.specs.Expressions.{expression, factors, one, resolved_operator, resolved_value, subscript, terms, two, meaning_with_entity}
-use Rattle.ss_check_laws.specs.BodyLaws.{ExpressionsResolve, Resolves}
+use Rattle.ss_check_laws.specs.BodyLaws.{ExpressionsResolve, IsResolved}
 use Rattle.ss_check_laws.specs.Links.{IsLinked, AreValid}
 use Rattle.ss_check_laws.proofs.Steps.{goes, holds_unless, two_parts, two_steps}
 use Rattle.ss_check_laws.proofs.Linked.{IsHere}
@@ -39,22 +39,22 @@ module _ (s : Scope) (g : Place) where
   -- ---- numbers
 
   -- a number has the mode of a number
-  from_number : (b : Bool) (e : ExpressionTree) → Number s g e → mode_of_use s (uses.expression_tree_mode e) ≡ Some Integer → Resolves s g b e
+  from_number : (b : Bool) (e : ExpressionTree) → Number s g e → mode_of_use s (uses.expression_tree_mode e) ≡ Some Integer → IsResolved s g b e
   from_number b e n h = (n.0, Integer, n.1, n.2, h, λ t. refl)
 
-  pub as_number : (e : ExpressionTree) → Resolves s g true e → Number s g e
+  pub as_number : (e : ExpressionTree) → IsResolved s g true e → Number s g e
   as_number e r = (r.0, r.2, subst (HasMode g r.0) (r.5 refl) r.3)
 
-  number_resolves : (b : Bool) (z : _) → Resolves s g b (number z)
+  number_resolves : (b : Bool) (z : _) → IsResolved s g b (number z)
   unfolding expression
   number_resolves b z = (Constant (Whole z), Integer, refl, refl, refl, λ t. refl)
 
-  text_resolves : (line : Line) (b : Bool) (t : List ℕ) → AreValid s g.is_main (uses.in_expression line b (text t)) → Resolves s g b (text t)
+  text_resolves : (line : Line) (b : Bool) (t : List ℕ) → AreValid s g.is_main (uses.in_expression line b (text t)) → IsResolved s g b (text t)
   unfolding expression
   text_resolves line true t h = absurd (none-some (errors.Mode line) (sym h.0))
   text_resolves line false t h = (Constant (Text t), Alpha, refl, refl, refl, λ f. absurd (false≢true f))
 
-  parenthesised_resolves : (b : Bool) (e : ExpressionTree) → Resolves s g b e → Resolves s g b (parenthesised e)
+  parenthesised_resolves : (b : Bool) (e : ExpressionTree) → IsResolved s g b e → IsResolved s g b (parenthesised e)
   unfolding expression
   parenthesised_resolves b e r = r
 
@@ -159,7 +159,7 @@ module _ (s : Scope) (g : Place) (k : IsLinked s g) where
   meant_value _ of i f h n = absurd cc
 
   module _ (line : Line) where
-    named_resolves : (b : Bool) (d : Designator) (es : ExpressionRow) → use_breaks s g.is_main (place_use line roles.Value b d (row_length es)) ≡ None → Numbers s g es → Resolves s g b (named d es)
+    named_resolves : (b : Bool) (d : Designator) (es : ExpressionRow) → use_breaks s g.is_main (place_use line roles.Value b d (row_length es)) ≡ None → Numbers s g es → IsResolved s g b (named d es)
     unfolding expression
     named_resolves b d es h n =
         let p = in_role s g k line roles.Value has_value d es b refl refl h n in
@@ -178,7 +178,7 @@ module _ (s : Scope) (g : Place) (k : IsLinked s g) where
     -- ---- expressions
 
     mutual
-      pub resolves : (b : Bool) (e : ExpressionTree) → AreValid s g.is_main (uses.in_expression line b e) → Resolves s g b e
+      pub resolves : (b : Bool) (e : ExpressionTree) → AreValid s g.is_main (uses.in_expression line b e) → IsResolved s g b e
       resolves b (number z) h = number_resolves s g b z
       resolves b (text t) h = text_resolves s g line b t h
       resolves b (named d es) h = named_resolves b d es h.0 (numbers es h.1)

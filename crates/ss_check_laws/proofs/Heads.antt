@@ -8,7 +8,7 @@ use Rattle.ss_tree.specs.Names.{NameBytes}
 use Rattle.ss_tree.specs.Tree.{ExpressionTree, no_expression, PhraseTree, GuardTree, StartTree, from_end, from_member, after_member, HeadTree, over_range, over_members, over_class, LoopHeadTree, for_head, guarded}
 use Rattle.ss_tree.specs.declared.expression.Designator.TheVariants.{Name}
 use Rattle.ss_program.specs.Program.{ToVariable, AtEnd, From, After, Head, Numbers, Members, Each, Phrase, Guard}
-use Rattle.ss_program.specs.WellTyped.{TypedScope as Place, GoodCondition, GoodPhrase, GoodStart, HasMode, TakesMode, kind_of_class}
+use Rattle.ss_program.specs.WellTyped.{TypedScope as Place, IsTypedCondition, IsTypedPhrase, IsTypedStart, HasMode, CanTakeMode, kind_of_class}
 use Rattle.ss_program.specs.declared.expression.Variable.{Variable}
 use Rattle.ss_names_uses.specs.Uses.{in_expression, in_guard, in_head, in_loop_head, in_named, in_option, in_phrase, in_start, loop_variable}
 use Rattle.ss_names_uses.specs.declared.used.ClassNeed.TheVariants as needs
@@ -20,7 +20,7 @@ use Rattle.ss_names_meaning.specs.Classes.{class_named, variable_named}
 use Rattle.ss_names_meaning.specs.Conditions.{condition}
 use Rattle.ss_names_meaning.specs.Expressions.{expression, set_named}
 use Rattle.ss_names_meaning.specs.Heads.{called_variable, guard, head, resolved_phrase, resolved_start}
-use Rattle.ss_check_laws.specs.BodyLaws.{ForResolves, HeadResolves, HeadsResolve}
+use Rattle.ss_check_laws.specs.BodyLaws.{IsResolvedForHead, IsResolvedHead, HeadsResolve}
 use Rattle.ss_check_laws.specs.Links.{IsLinked, AreValid}
 use Rattle.ss_check_laws.proofs.Steps.{GoesWell, each_resolves, goes, three_parts, two_parts}
 use Rattle.ss_check_laws.proofs.Linked.{variable_here}
@@ -44,31 +44,31 @@ module _ (s : Scope) (g : Place) (k : IsLinked s g) (line : Line) where
   -- ---- variables of loops
 
   abbrev TakesNumbers : Option Variable → Type 0
-  TakesNumbers o = GoesWell (λ v. TakesMode g (ToVariable v) Integer) o
+  TakesNumbers o = GoesWell (λ v. CanTakeMode g (ToVariable v) Integer) o
 
   loops : (name : NameBytes) → AreValid s g.is_main (loop_variable line name) → TakesNumbers (variable_named s name)
   loops name h =
       let p = in_role s g k line roles.LoopVariable is_variable (Name name) no_expression true refl refl h.0 tt in
       let v = variable_here s g k p.0 p.3 p.2 in
       let mode = number_mode true p.0 v.1 v.3 p.4.mode refl in
-      (v.0, goes (meaning_of_name s name) variable_of p.0 v.0 p.1 v.2, subst (λ m. TakesMode g (ToVariable v.0) m) mode v.4)
+      (v.0, goes (meaning_of_name s name) variable_of p.0 v.0 p.1 v.2, subst (λ m. CanTakeMode g (ToVariable v.0) m) mode v.4)
 
-  called_loops : (v : Variable) (called : Option NameBytes) → (is_some called ≡ false → TakesMode g (ToVariable v) Integer) → AreValid s g.is_main (in_option (loop_variable line) called) → TakesNumbers (called_variable s v called)
+  called_loops : (v : Variable) (called : Option NameBytes) → (is_some called ≡ false → CanTakeMode g (ToVariable v) Integer) → AreValid s g.is_main (in_option (loop_variable line) called) → TakesNumbers (called_variable s v called)
   called_loops v None f h = (v, refl, f refl)
   called_loops v (Some name) f h = loops name h
 
   -- ---- phrases and guards
 
-  phrase_resolves : (p : PhraseTree) → AreValid s g.is_main (in_phrase line p) → GoesWell (GoodPhrase g) (resolved_phrase s p)
+  phrase_resolves : (p : PhraseTree) → AreValid s g.is_main (in_phrase line p) → GoesWell (IsTypedPhrase g) (resolved_phrase s p)
   phrase_resolves p h =
       let r = condition_resolves s g k line p.condition h in
       let made : Phrase = record { kind = p.kind; condition = r.0 } in
       (made, goes (condition s p.condition) (λ tests. Some (record { kind = p.kind; condition = tests })) r.0 made r.1 refl, r.2)
 
-  phrases_resolve : (ps : List PhraseTree) → AreValid s g.is_main (flat_map (in_phrase line) ps) → GoesWell (Every (GoodPhrase g)) (each (resolved_phrase s) ps)
-  phrases_resolve ps h = each_resolves s g.is_main (resolved_phrase s) (in_phrase line) (GoodPhrase g) phrase_resolves ps h
+  phrases_resolve : (ps : List PhraseTree) → AreValid s g.is_main (flat_map (in_phrase line) ps) → GoesWell (Every (IsTypedPhrase g)) (each (resolved_phrase s) ps)
+  phrases_resolve ps h = each_resolves s g.is_main (resolved_phrase s) (in_phrase line) (IsTypedPhrase g) phrase_resolves ps h
 
-  guard_resolves : (t : GuardTree) → AreValid s g.is_main (in_guard line t) → GoesWell (λ (x : Guard). GoodCondition g x.condition) (guard s t)
+  guard_resolves : (t : GuardTree) → AreValid s g.is_main (in_guard line t) → GoesWell (λ (x : Guard). IsTypedCondition g x.condition) (guard s t)
   guard_resolves t h =
       let r = condition_resolves s g k line t.condition h in
       let made : Guard = record { kind = t.kind; condition = r.0 } in
@@ -82,7 +82,7 @@ module _ (s : Scope) (g : Place) (k : IsLinked s g) (line : Line) where
       let n = number_kept s g k line e h in
       (Some n.0, goes (expression s e) (λ x. Some (Some x)) n.0 (Some n.0) n.1 refl, n.2)
 
-  start_resolves : (t : StartTree) → AreValid s g.is_main (in_start line t) → GoesWell (GoodStart g) (resolved_start s t)
+  start_resolves : (t : StartTree) → AreValid s g.is_main (in_start line t) → GoesWell (IsTypedStart g) (resolved_start s t)
   start_resolves from_end h = (AtEnd, refl, tt)
   start_resolves (from_member e) h =
       let n = number_kept s g k line e h in
@@ -93,7 +93,7 @@ module _ (s : Scope) (g : Place) (k : IsLinked s g) (line : Line) where
 
   -- ---- heads
 
-  pub for_resolves : (over : HeadTree) → AreValid s g.is_main (in_head line over) → ForResolves s g over
+  pub for_resolves : (over : HeadTree) → AreValid s g.is_main (in_head line over) → IsResolvedForHead s g over
   unfolding head
   for_resolves (over_range variable from to by phrases) h =
       let first = in_expression line true from in
@@ -143,9 +143,9 @@ module _ (s : Scope) (g : Place) (k : IsLinked s g) (line : Line) where
         ps.2,
       )
 
-  head_resolves : (over : LoopHeadTree) → AreValid s g.is_main (in_loop_head line over) → HeadResolves s g over
+  head_resolves : (over : LoopHeadTree) → AreValid s g.is_main (in_loop_head line over) → IsResolvedHead s g over
   head_resolves (for_head over) h = for_resolves over h
-  head_resolves (guarded guards) h = each_resolves s g.is_main (guard s) (in_guard line) (λ (x : Guard). GoodCondition g x.condition) guard_resolves guards h
+  head_resolves (guarded guards) h = each_resolves s g.is_main (guard s) (in_guard line) (λ (x : Guard). IsTypedCondition g x.condition) guard_resolves guards h
 
 pub heads_resolve : HeadsResolve
 heads_resolve s g k line over h = head_resolves s g k line over h

@@ -8,7 +8,7 @@ use Rattle.ss_picture.specs.declared.field.Field.{Field}
 use Rattle.ss_tree.specs.Tree.{ExpressionTree, named, parenthesised, ExpressionRow}
 use Rattle.ss_tree.specs.declared.expression.Designator.{Designator}
 use Rattle.ss_program.specs.Program.{Expression, PrintItem, AValue, AMean, AMeanOf}
-use Rattle.ss_program.specs.WellTyped.{TypedScope as Place, TakesItem}
+use Rattle.ss_program.specs.WellTyped.{TypedScope as Place, CanTakeItem}
 use Rattle.ss_names_uses.specs.Uses.{as_mean, in_item, place_use, row_length, with_decimals}
 use Rattle.ss_names_uses.specs.declared.used.Role.TheVariants as roles
 use Rattle.ss_names_uses.specs.declared.used.Used.{Used}
@@ -20,7 +20,7 @@ use Rattle.ss_check_rules.specs.Kinds.{has_value, if_means, is_mean}
 use Rattle.ss_check_rules.specs.Refusal.{use_breaks, used_breaks}
 use Rattle.ss_check_rules.specs.declared.error.CheckError.TheVariants as errors
 use Rattle.ss_names_meaning.specs.Expressions.{expression, item, place_named, resolved_item}
-use Rattle.ss_check_laws.specs.BodyLaws.{ItemResolves, ItemsResolve, Resolves}
+use Rattle.ss_check_laws.specs.BodyLaws.{IsResolvedItem, ItemsResolve, IsResolved}
 use Rattle.ss_check_laws.specs.Links.{IsLinked, AreValid}
 use Rattle.ss_check_laws.proofs.Steps.{goes, holds_unless}
 use Rattle.ss_check_laws.proofs.Linked.{IsHere}
@@ -63,7 +63,7 @@ module _ (s : Scope) (in_main : Bool) (line : Line) where
 
 module _ (s : Scope) (g : Place) (k : IsLinked s g) (line : Line) (field : Field) where
   abbrev HasItem : Meaning → Option Expression → Type 0
-  HasItem m of = (x : PrintItem) × (resolved_item m of ≡ Some x) × TakesItem g field x
+  HasItem m of = (x : PrintItem) × (resolved_item m of ≡ Some x) × CanTakeItem g field x
 
   -- a MEAN, or else a value in a field without decimals
   meant_item : (m : Meaning) (of : Option Expression) → IsHere s g k m → EntityFits s g m of → has_value m ≡ true → FewDecimals field.decimals (is_mean m ≡ true) → HasItem m of
@@ -75,7 +75,7 @@ module _ (s : Scope) (g : Place) (k : IsLinked s g) (line : Line) (field : Field
       let v = meant_value s g k m of i f h refl in
       (AValue v.0, ap (option_map AValue) v.2, ((v.1, v.4), none_unless field.decimals (is_mean m ≡ true) (both_ways (is_mean m) refl) d))
 
-  named_item : (d : Designator) (es : ExpressionRow) → FewDecimals field.decimals (IsMeanKept s g.is_main line (Mean d)) → use_breaks s g.is_main (place_use line roles.Item false d (row_length es)) ≡ None → Numbers s g es → ItemResolves s g field (named d es)
+  named_item : (d : Designator) (es : ExpressionRow) → FewDecimals field.decimals (IsMeanKept s g.is_main line (Mean d)) → use_breaks s g.is_main (place_use line roles.Item false d (row_length es)) ≡ None → Numbers s g es → IsResolvedItem s g field (named d es)
   named_item d es few h n =
       let p = in_role s g k line roles.Item has_value d es false refl refl h n in
       let r = meant_item p.0 p.5.1 p.3 p.5.4 p.2 (decimals_meant s g.is_main line d p.0 field.decimals p.1 few) in
@@ -83,10 +83,10 @@ module _ (s : Scope) (g : Place) (k : IsLinked s g) (line : Line) (field : Field
       (r.0, goes (place_named s d es) (λ x. resolved_item x.0 x.1) q r.0 (placed s g d es p.0 p.5 p.1) r.1, r.2)
 
   -- what is no name alone has a value
-  valued_item : (e : ExpressionTree) → item s e ≡ option_map AValue (expression s e) → (IsMeanKept s g.is_main line (as_mean e) → ⊥) → FewDecimals field.decimals (IsMeanKept s g.is_main line (as_mean e)) → Resolves s g false e → ItemResolves s g field e
+  valued_item : (e : ExpressionTree) → item s e ≡ option_map AValue (expression s e) → (IsMeanKept s g.is_main line (as_mean e) → ⊥) → FewDecimals field.decimals (IsMeanKept s g.is_main line (as_mean e)) → IsResolved s g false e → IsResolvedItem s g field e
   valued_item e same never few r = (AValue r.0, same ∙ ap (option_map AValue) r.2, ((r.1, r.3), none_unless field.decimals (IsMeanKept s g.is_main line (as_mean e)) never few))
 
-  item_resolves : (e : ExpressionTree) → FewDecimals field.decimals (IsMeanKept s g.is_main line (as_mean e)) → AreValid s g.is_main (in_item line e) → ItemResolves s g field e
+  item_resolves : (e : ExpressionTree) → FewDecimals field.decimals (IsMeanKept s g.is_main line (as_mean e)) → AreValid s g.is_main (in_item line e) → IsResolvedItem s g field e
   item_resolves (named d es) few h = named_item d es few h.0 (numbers s g k line es h.1)
   item_resolves (parenthesised e) few h = item_resolves e few h
   item_resolves e few h = valued_item e refl (no_mean s g.is_main line) few (resolves s g k line false e h)

@@ -20,7 +20,7 @@ use Rattle.ss_tree.specs.Names.{NameBytes}
 use Rattle.ss_tree.specs.declared.expression.Designator.{Designator}
 use Rattle.ss_tree.specs.declared.expression.Designator.TheVariants as designators
 use Rattle.ss_program.specs.Program.{ToVariable}
-use Rattle.ss_program.specs.WellTyped.{TypedScope as Place, TakesMode, field_mode, kind_of_class}
+use Rattle.ss_program.specs.WellTyped.{TypedScope as Place, CanTakeMode, field_mode, kind_of_class}
 use Rattle.ss_program.specs.declared.expression.SetQuery.TheVariants.{MemberCount}
 use Rattle.ss_program.specs.declared.expression.Variable.{Variable}
 use Rattle.ss_program.specs.declared.expression.Variable.TheVariants.{Global, Local}
@@ -153,8 +153,8 @@ module _ (s : Scope) (g : Place) (k : IsLinked s g) where
 
   -- what a name means here is there in the program, and of its mode and kind
   abbrev pub IsHere : Meaning → Type 0
-  IsHere (meanings.Variable variable mode) = TakesMode g (ToVariable variable) mode
-  IsHere (meanings.Class class kind variable) = TakesMode g (ToVariable (Global variable)) Integer × (kind_of_class g.program class ≡ Some kind)
+  IsHere (meanings.Variable variable mode) = CanTakeMode g (ToVariable variable) mode
+  IsHere (meanings.Class class kind variable) = CanTakeMode g (ToVariable (Global variable)) Integer × (kind_of_class g.program class ≡ Some kind)
   IsHere (meanings.Count count) = Contains g.program.counts count × (slice_get g.program.globals count.variable ≡ Some Integer)
   IsHere (meanings.Attribute class field mode) = (field_mode g.program class field ≡ Some mode) × IsClassHere class
   IsHere (meanings.Set set) = IsSetHere set
@@ -165,7 +165,7 @@ module _ (s : Scope) (g : Place) (k : IsLinked s g) where
   IsHere meanings.Clock = Unit {0}
   IsHere meanings.NoticeTime = Unit {0}
 
-  plain_here : (n : ℕ) (mode : Mode) → IsPlainAt k.laid n mode → TakesMode g (ToVariable (Global n)) mode
+  plain_here : (n : ℕ) (mode : Mode) → IsPlainAt k.laid n mode → CanTakeMode g (ToVariable (Global n)) mode
   plain_here n mode i = (
     ap (λ (l : List Mode). slice_get l n) k.globals ∙ i.0,
     subst (Every (λ (c : CountedClass). c.variable ≢ n)) (sym k.counts) i.1,
@@ -238,7 +238,7 @@ module _ (s : Scope) (g : Place) (k : IsLinked s g) where
 
   -- the variable of what a name means
   abbrev pub IsVariable : Meaning → Type 0
-  IsVariable m = (v : Variable) × (mode : Mode) × (variable_of m ≡ Some v) × (mode_of_meaning m ≡ Some mode) × TakesMode g (ToVariable v) mode
+  IsVariable m = (v : Variable) × (mode : Mode) × (variable_of m ≡ Some v) × (mode_of_meaning m ≡ Some mode) × CanTakeMode g (ToVariable v) mode
 
   pub variable_here : (m : Meaning) → IsHere m → is_variable m ≡ true → IsVariable m
   variable_here (meanings.Variable v mode) i h = (v, mode, refl, refl, i)

@@ -22,14 +22,14 @@ use Rattle.ss_names_scopes.specs.Scopes.{Scope, is_kind}
 use Rattle.ss_check_rules.specs.declared.error.CheckError.TheVariants as errors
 use Rattle.ss_check_rules.specs.Modes.{attribute_mode}
 use Rattle.ss_program.specs.Program.{Expression, Now, When, Restart, Statement, ScheduleNew, Schedule}
-use Rattle.ss_program.specs.WellTyped.{TypedScope as Place, HasMode, HaveModes, GoodWhen, GoodGiven, GoodRestart, Good}
+use Rattle.ss_program.specs.WellTyped.{TypedScope as Place, HasMode, HaveModes, IsTypedWhen, AreTypedGiven, IsTypedRestart, IsTypedStatement}
 use Rattle.ss_names_meaning.specs.declared.classes.NamedClass.{NamedClass}
 use Rattle.ss_names_meaning.specs.Answers.{◌>>=◌, each, where_holds}
 use Rattle.ss_names_meaning.specs.Expressions.{expression}
 use Rattle.ss_names_meaning.specs.Statements.{restart, simple_statement, when}
 use Rattle.ss_names_laws.proofs.Steps.{each_at}
 use Rattle.ss_check_laws.specs.Links.{IsLinked, AreValid}
-use Rattle.ss_check_laws.specs.BodyLaws.{ClassResolves}
+use Rattle.ss_check_laws.specs.BodyLaws.{IsResolvedClass}
 use Rattle.ss_check_laws.proofs.Steps.{GoesWell, each_resolves, holds_unless, three_parts}
 use Rattle.ss_check_laws.proofs.Expressions.{number_kept}
 use Rattle.ss_check_laws.proofs.Lists.{after, after_one, each_length, holds, in_order}
@@ -53,16 +53,16 @@ field_there t names fields i m h e =
     ap (option_and_then (mode_of_attribute t)) name.1 ∙ at.2 ∙ (sym at.1 ∙ e)
 
 module _ (s : Scope) (g : Place) (linked : IsLinked s g) (line : Line) where
-  when_resolves : (t : WhenTree) → AreValid s g.is_main (uses.in_when line t) → GoesWell (GoodWhen g) (when s t)
-  when_resolves (at_time e) k = after_one (GoodWhen g) _ _ (number_kept s g linked line e k) (λ x h. h)
-  when_resolves (in_units e) k = after_one (GoodWhen g) _ _ (number_kept s g linked line e k) (λ x h. h)
+  when_resolves : (t : WhenTree) → AreValid s g.is_main (uses.in_when line t) → GoesWell (IsTypedWhen g) (when s t)
+  when_resolves (at_time e) k = after_one (IsTypedWhen g) _ _ (number_kept s g linked line e k) (λ x h. h)
+  when_resolves (in_units e) k = after_one (IsTypedWhen g) _ _ (number_kept s g linked line e k) (λ x h. h)
   when_resolves now k = (Now, refl, tt)
 
   -- values for the first attributes of a class of notices
   abbrev GivenTo : NamedClass → List Expression → Type 0
-  GivenTo c xs = (nat_le (length xs) c.attributes ≡ true) × GoodGiven g c.class xs
+  GivenTo c xs = (nat_le (length xs) c.attributes ≡ true) × AreTypedGiven g c.class xs
 
-  given_resolve : (name : NameBytes) (is_called : Bool) (c : ClassResolves s g needs.Notice name is_called) (given : List ExpressionTree) → AreValid s g.is_main (uses.in_given line name given) →
+  given_resolve : (name : NameBytes) (is_called : Bool) (c : IsResolvedClass s g needs.Notice name is_called) (given : List ExpressionTree) → AreValid s g.is_main (uses.in_given line name given) →
       GoesWell (GivenTo c.0) (each (expression s) given)
   given_resolve name is_called c given k =
       let class = c.0.class in
@@ -92,44 +92,44 @@ module _ (s : Scope) (g : Place) (linked : IsLinked s g) (line : Line) where
       )
 
   -- what both forms of SCHEDULE end with
-  scheduled : (name : NameBytes) (is_called : Bool) (c : ClassResolves s g needs.Notice name is_called) (given : List ExpressionTree) (time : WhenTree) (f : List Expression → When → Statement) →
-      AreValid s g.is_main (uses.in_given line name given) → AreValid s g.is_main (uses.in_when line time) → ((xs : List Expression) (due : When) → GoodGiven g c.0.class xs → GoodWhen g due → Good g (f xs due)) →
-      GoesWell (Good g) (each (expression s) given >>= λ xs. when s time >>= λ due. where_holds (nat_le (length xs) c.0.attributes) (f xs due))
+  scheduled : (name : NameBytes) (is_called : Bool) (c : IsResolvedClass s g needs.Notice name is_called) (given : List ExpressionTree) (time : WhenTree) (f : List Expression → When → Statement) →
+      AreValid s g.is_main (uses.in_given line name given) → AreValid s g.is_main (uses.in_when line time) → ((xs : List Expression) (due : When) → AreTypedGiven g c.0.class xs → IsTypedWhen g due → IsTypedStatement g (f xs due)) →
+      GoesWell (IsTypedStatement g) (each (expression s) given >>= λ xs. when s time >>= λ due. where_holds (nat_le (length xs) c.0.attributes) (f xs due))
   scheduled name is_called c given time f k j good =
       let us = given_resolve name is_called c given k in
       let t = when_resolves time j in
-      after (Good g) _ _ us.0 us.1 (after (Good g) _ _ t.0 t.1
+      after (IsTypedStatement g) _ _ us.0 us.1 (after (IsTypedStatement g) _ _ t.0 t.1
       (f us.0 t.0, holds (nat_le (length us.0) c.0.attributes) (f us.0 t.0) us.2.0, good us.0 t.0 us.2.1 t.2))
 
   pub schedule_new_resolves : (name : NameBytes) (called : Option NamedTree) (given : List ExpressionTree) (time : WhenTree) →
       AreValid s g.is_main (uses.in_new line needs.Notice name called ++ uses.in_given line name given ++ uses.in_when line time) →
-      GoesWell (Good g) (simple_statement s (schedule_new line name called given time))
+      GoesWell (IsTypedStatement g) (simple_statement s (schedule_new line name called given time))
   unfolding simple_statement
   schedule_new_resolves name called given time k =
       let p = three_parts s g.is_main (uses.in_new line needs.Notice name called) (uses.in_given line name given) (uses.in_when line time) k in
       let c = classes_resolve s g linked line needs.Notice name (is_some called) (p.0.0, tt) in
       let x = new_resolves s g linked line needs.Notice name called c p.0.1 in
-      after (Good g) _ _ c.0 c.2 (after (Good g) _ _ x.0 x.1
+      after (IsTypedStatement g) _ _ c.0 c.2 (after (IsTypedStatement g) _ _ x.0 x.1
       (scheduled name (is_some called) c given time (λ xs due. ScheduleNew line c.0.class x.0 xs due) p.1 p.2 (λ xs due h f. (h, x.2, f))))
 
   pub schedule_resolves : (name : NameBytes) (called : Option ExpressionTree) (given : List ExpressionTree) (time : WhenTree) →
       AreValid s g.is_main (uses.in_old line needs.Notice name called ++ uses.in_given line name given ++ uses.in_when line time) →
-      GoesWell (Good g) (simple_statement s (schedule_statement line name called given time))
+      GoesWell (IsTypedStatement g) (simple_statement s (schedule_statement line name called given time))
   unfolding simple_statement
   schedule_resolves name called given time k =
       let p = three_parts s g.is_main (uses.in_old line needs.Notice name called) (uses.in_given line name given) (uses.in_when line time) k in
       let c = classes_resolve s g linked line needs.Notice name (is_some called) (p.0.0, tt) in
       let x = old_resolves s g linked line needs.Notice name called c p.0.1 in
-      after (Good g) _ _ c.0 c.2 (after (Good g) _ _ x.0 x.1
+      after (IsTypedStatement g) _ _ c.0 c.2 (after (IsTypedStatement g) _ _ x.0 x.1
       (scheduled name (is_some called) c given time (λ xs due. Schedule line c.0.class x.0 xs due) p.1 p.2 (λ xs due h f. (h, x.2, f))))
 
-  pub cancel_resolves : (name : NameBytes) (called : Option ExpressionTree) → AreValid s g.is_main (uses.in_old line needs.Notice name called) → GoesWell (Good g) (simple_statement s (cancel_statement line name called))
+  pub cancel_resolves : (name : NameBytes) (called : Option ExpressionTree) → AreValid s g.is_main (uses.in_old line needs.Notice name called) → GoesWell (IsTypedStatement g) (simple_statement s (cancel_statement line name called))
   unfolding simple_statement
   cancel_resolves name called k =
       let c = classes_resolve s g linked line needs.Notice name (is_some called) (k.0, tt) in
-      after (Good g) _ _ c.0 c.2 (after_one (Good g) _ _ (old_resolves s g linked line needs.Notice name called c k.1) (λ x h. (c.3 ∙ ap Some (notice_kind c.1 c.4), h)))
+      after (IsTypedStatement g) _ _ c.0 c.2 (after_one (IsTypedStatement g) _ _ (old_resolves s g linked line needs.Notice name called c k.1) (λ x h. (c.3 ∙ ap Some (notice_kind c.1 c.4), h)))
 
-  pub reset_resolves : (ns : List NamedTree) → AreValid s g.is_main (uses.in_all_named line roles.Reset ns) → GoesWell (Good g) (simple_statement s (reset_statement line ns))
+  pub reset_resolves : (ns : List NamedTree) → AreValid s g.is_main (uses.in_all_named line roles.Reset ns) → GoesWell (IsTypedStatement g) (simple_statement s (reset_statement line ns))
   unfolding simple_statement
   reset_resolves ns k =
-      after_one (Good g) _ _ (each_resolves s g.is_main (restart s) (uses.in_named line roles.Reset false) (λ (r : Restart). GoodRestart g r.statistic r.of) (restarts_resolve s g linked line) ns k) (λ xs h. h)
+      after_one (IsTypedStatement g) _ _ (each_resolves s g.is_main (restart s) (uses.in_named line roles.Reset false) (λ (r : Restart). IsTypedRestart g r.statistic r.of) (restarts_resolve s g linked line) ns k) (λ xs h. h)

@@ -12,7 +12,7 @@ use Rattle.ss_tree.specs.Tree.{ExpressionTree, ExpressionRow, no_expression, and
 use Rattle.ss_tree.specs.declared.expression.Designator.{Designator}
 use Rattle.ss_tree.specs.declared.expression.Designator.TheVariants as designators
 use Rattle.ss_program.specs.Program.{Expression, Fetch}
-use Rattle.ss_program.specs.WellTyped.{TypedScope as Place, GoodRestart, HasMode, IsAlone, IsOfEntities, OwnerFits, mode_at, owner_of_set as owner_in_program}
+use Rattle.ss_program.specs.WellTyped.{TypedScope as Place, IsTypedRestart, HasMode, IsAlone, IsOfEntities, IsTypedOwner, mode_at, owner_of_set as owner_in_program}
 use Rattle.ss_program.specs.declared.expression.Variable.{Variable}
 use Rattle.ss_program.specs.declared.sections.Statistic.{Statistic}
 use Rattle.ss_program.specs.declared.sections.Subject.{Subject}
@@ -184,10 +184,10 @@ module _ (s : Scope) (g : Place) (k : IsLinked s g) where
   -- ---- sets and statistics
 
   -- the entity of a set is an owner such as its sets have
-  pub owner_fits : (set : ℕ) → IsSetHere s g k set → (of : Option Expression) → OwnerHas s g (owner_kind_of_set (slice_get s.table.sets set)) of → OwnerFits g set (set_owner of)
+  pub owner_fits : (set : ℕ) → IsSetHere s g k set → (of : Option Expression) → OwnerHas s g (owner_kind_of_set (slice_get s.table.sets set)) of → IsTypedOwner g set (set_owner of)
   owner_fits set i of f = by i.laid.owner of (ap (option_map (λ (l : SetLayout). l.owner)) i.there) (subst (λ o. OwnerHas s g o of) i.owner f)
     where
-      by : (o : Owner) (of : Option Expression) → owner_in_program g.program set ≡ Some o → OwnerHas s g o of → OwnerFits g set (set_owner of)
+      by : (o : Owner) (of : Option Expression) → owner_in_program g.program set ≡ Some o → OwnerHas s g o of → IsTypedOwner g set (set_owner of)
       by owners.System None e f = e
       by owners.System (Some x) e f = absurd f
       by (owners.Class class) None e f = absurd f
@@ -207,11 +207,11 @@ module _ (s : Scope) (g : Place) (k : IsLinked s g) where
 
   -- a statistic is that of one thing or, with an entity, of each
   pub statistic_fits : (n : ℕ) (x : Statistic) (of : Option Expression) → slice_get g.program.statistics n ≡ Some x → IsSubjectHere s g k x.subject →
-      OwnerHas s g (owner_of_subject s.table (Some x.subject)) of → GoodRestart g n of
+      OwnerHas s g (owner_of_subject s.table (Some x.subject)) of → IsTypedRestart g n of
   statistic_fits n x None e i f = (x, e, subject_fits x.subject None i f)
   statistic_fits n x (Some y) e i f =
       let p = subject_fits x.subject (Some y) i f in
       ((x, e, p.0), p.1)
 
-  pub named_statistic_fits : (n : ℕ) (i : IsStatisticHere s g k n) (of : Option Expression) → OwnerHas s g (owner_of_statistic s.table (slice_get s.table.subjects n)) of → GoodRestart g n of
+  pub named_statistic_fits : (n : ℕ) (i : IsStatisticHere s g k n) (of : Option Expression) → OwnerHas s g (owner_of_statistic s.table (slice_get s.table.subjects n)) of → IsTypedRestart g n of
   named_statistic_fits n i of f = statistic_fits n i.0 of i.1 i.3 (subst (λ o. OwnerHas s g o of) (ap (owner_of_statistic s.table) i.2) f)

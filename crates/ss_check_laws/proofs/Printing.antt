@@ -10,7 +10,7 @@ use Rattle.ss_names_uses.specs.Uses as uses
 use Rattle.ss_names_scopes.specs.Scopes.{Scope}
 use Rattle.ss_check_rules.specs.declared.error.CheckError.TheVariants as errors
 use Rattle.ss_program.specs.Program.{PrintItem}
-use Rattle.ss_program.specs.WellTyped.{TypedScope as Place, TakesItem, Good}
+use Rattle.ss_program.specs.WellTyped.{TypedScope as Place, CanTakeItem, IsTypedStatement}
 use Rattle.ss_names_meaning.specs.Answers.{each}
 use Rattle.ss_names_meaning.specs.Expressions.{item}
 use Rattle.ss_names_meaning.specs.Statements.{simple_statement}
@@ -32,9 +32,9 @@ fits s in_main line false k = absurd (none-some (errors.Fields line) (sym k.0))
 module _ (s : Scope) (g : Place) (linked : IsLinked s g) (line : Line) where
   -- a field takes an item
   abbrev Shown : PrintItem → Field → Type 0
-  Shown x field = TakesItem g field x
+  Shown x field = CanTakeItem g field x
 
-  items_shown : (items : List ExpressionTree) (fields : List Field) → AreValid s g.is_main (uses.in_items line items fields) → GoesWell (AllZip (TakesItem g) fields) (each (item s) items)
+  items_shown : (items : List ExpressionTree) (fields : List Field) → AreValid s g.is_main (uses.in_items line items fields) → GoesWell (AllZip (CanTakeItem g) fields) (each (item s) items)
   items_shown items fields k =
       let p = two_parts s g.is_main (uses.of_fit line (length items == length fields)) (uses.in_places (uses.in_item_at line fields) 0 items) k in
       let long : length items ≡ length fields = eqb-true (length items) (length fields) (fits s g.is_main line (length items == length fields) p.0) in
@@ -45,7 +45,7 @@ module _ (s : Scope) (g : Place) (linked : IsLinked s g) (line : Line) where
       (omega (arith, long)) p.1 in
       (xs.0, xs.1, turned Shown xs.0 fields (subst (AllZip Shown xs.0) (take_all (length items) fields (omega (arith, long))) xs.2.1))
 
-  pub print_resolves : (items : List ExpressionTree) (pictures : List (List ℕ)) → AreValid s g.is_main (uses.in_items line items (uses.fields_of_pictures pictures)) → GoesWell (Good g) (simple_statement s (print_statement line items pictures))
+  pub print_resolves : (items : List ExpressionTree) (pictures : List (List ℕ)) → AreValid s g.is_main (uses.in_items line items (uses.fields_of_pictures pictures)) → GoesWell (IsTypedStatement g) (simple_statement s (print_statement line items pictures))
   unfolding simple_statement
   print_resolves items pictures k =
-      after_one (Good g) _ _ (items_shown items (uses.fields_of_pictures pictures) k) (λ xs h. h)
+      after_one (IsTypedStatement g) _ _ (items_shown items (uses.fields_of_pictures pictures) k) (λ xs h. h)

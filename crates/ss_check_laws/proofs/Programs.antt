@@ -19,7 +19,7 @@ use Rattle.ss_names.specs.Table.{Table, table}
 use Rattle.ss_names_scopes.specs.Locals.{Moded, locals_of}
 use Rattle.ss_names_scopes.specs.Scopes.{is_main, is_main_section}
 use Rattle.ss_program.specs.Program.{Event, Program, Routine}
-use Rattle.ss_program.specs.WellTyped.{GoodBlock, GoodEvent, GoodRoutine, WellTyped, kind_of_class}
+use Rattle.ss_program.specs.WellTyped.{IsTypedBlock, IsTypedEvent, IsTypedRoutine, IsWellTyped, kind_of_class}
 use Rattle.ss_check_rules.specs.declared.error.CheckError.{CheckError}
 use Rattle.ss_check_rules.specs.Kinds.{suits_class}
 use Rattle.ss_check_rules.specs.Order.{check_error_order}
@@ -123,7 +123,7 @@ module _ (p : tree.ProgramTree) (x : ResolvedLayout) (k : IsUnbroken p x) where
   in_whole : {A : Type 0} (P : Program → A → Type 0) (q : Program) → IsWhole p x k q → (xs : List A) → Every (λ z. (r : Program) → IsWhole p x k r → P r z) xs → Every (P q) xs
   in_whole P q b xs h = each_item (P q) xs (λ z a. at_item (λ z. (r : Program) → IsWhole p x k r → P r z) xs z h a q b)
 
-  program_resolves : (q : Program) × (resolved t p.sections ≡ Some q) × WellTyped q
+  program_resolves : (q : Program) × (resolved t p.sections ≡ Some q) × IsWellTyped q
   program_resolves =
       let routines = routines_there p x k in
       let events = events_there p x k in
@@ -131,7 +131,7 @@ module _ (p : tree.ProgramTree) (x : ResolvedLayout) (k : IsUnbroken p x) where
       let parts = section_modes p x k main.0 main.1 main.2 in
       let q = program_with p x k routines.0 events.0 parts.0.modes parts.0.body in
       let b : IsWhole p x k q = record { layout = laid_with p x k routines.0 events.0 parts.0.modes parts.0.body; routines = routines.1 } in
-      let body = subst (λ in_main. GoodBlock (record { program = q; locals = parts.0.modes; is_main = in_main }) parts.0.body) main.4 (body_good p x k q b main.0 main.1 parts.0 main.2 parts.1) in
+      let body = subst (λ in_main. IsTypedBlock (record { program = q; locals = parts.0.modes; is_main = in_main }) parts.0.body) main.4 (body_good p x k q b main.0 main.1 parts.0 main.2 parts.1) in
       let laid = k.typed q b.layout in (
         q,
         assembled t (map (locals_of t) p.sections) p.sections x routines.0 events.0 main.0 parts.0 k.valid.laid all_known routines.1 events.1 main.3 parts.1,
@@ -140,8 +140,8 @@ module _ (p : tree.ProgramTree) (x : ResolvedLayout) (k : IsUnbroken p x) where
           disciplines = laid.disciplines;
           counts = laid.counts;
           statistics = laid.statistics;
-          routines = in_whole GoodRoutine q b routines.0 routines.2;
-          events = in_whole GoodEvent q b events.0 events.2;
+          routines = in_whole IsTypedRoutine q b routines.0 routines.2;
+          events = in_whole IsTypedEvent q b events.0 events.2;
           served = served q b events.1;
           main = body;
         },

@@ -17,7 +17,7 @@ use Rattle.std.specs.Prelude.{option_to_list}
 use Rattle.ss_names_scopes.specs.Locals.{Moded, locals_of}
 use Rattle.ss_names_scopes.specs.Scopes.{is_main, local_mode, scope_of}
 use Rattle.ss_program.specs.Program.{Block, Done, Event, Program, Routine}
-use Rattle.ss_program.specs.WellTyped.{TypedScope as Place, GoodBlock, GoodRoutine}
+use Rattle.ss_program.specs.WellTyped.{TypedScope as Place, IsTypedBlock, IsTypedRoutine}
 use Rattle.ss_check_rules.specs.Refusal.{breaches, breaks, in_preamble, in_program, breaches_in_section, use_breaks}
 use Rattle.ss_names_meaning.specs.Answers.{◌>>=◌, each}
 use Rattle.ss_names_meaning.specs.Layouts.{ResolvedLayout}
@@ -186,7 +186,7 @@ module _ (p : tree.ProgramTree) (x : ResolvedLayout) (k : IsUnbroken p x) where
     parts : Parts
     resolved : parts_with_locals t all p.sections n ≡ Some parts
     modes : local_modes (locals_of t s) ≡ Some parts.modes
-    body : GoodBlock (record { program = q; locals = parts.modes; is_main = is_main s.kind }) parts.body
+    body : IsTypedBlock (record { program = q; locals = parts.modes; is_main = is_main s.kind }) parts.body
 
   part_there : (section : ℕ → Option Parts) → HasModes section → (q : Program) → IsBuilt section q → (n : ℕ) (s : tree.SectionTree) → slice_get p.sections n ≡ Some s → HasPart q n s
   part_there section m q b n s e =
@@ -248,10 +248,10 @@ module _ (p : tree.ProgramTree) (x : ResolvedLayout) (k : IsUnbroken p x) where
   IsWhole q = IsBuilt section q
 
   -- the statements of a section are well typed in each such program
-  pub body_good : (q : Program) → IsWhole q → (n : ℕ) (s : tree.SectionTree) (parts : Parts) → slice_get p.sections n ≡ Some s → section n ≡ Some parts → GoodBlock (record { program = q; locals = parts.modes; is_main = is_main s.kind }) parts.body
+  pub body_good : (q : Program) → IsWhole q → (n : ℕ) (s : tree.SectionTree) (parts : Parts) → slice_get p.sections n ≡ Some s → section n ≡ Some parts → IsTypedBlock (record { program = q; locals = parts.modes; is_main = is_main s.kind }) parts.body
   body_good q b n s parts e f =
       let part = part_there section section_modes q b n s e in
-      subst (λ (z : Parts). GoodBlock (record { program = q; locals = z.modes; is_main = is_main s.kind }) z.body) (same_Some part.parts parts (sym part.resolved ∙ f)) part.body
+      subst (λ (z : Parts). IsTypedBlock (record { program = q; locals = z.modes; is_main = is_main s.kind }) z.body) (same_Some part.parts parts (sym part.resolved ∙ f)) part.body
 
   -- ---- routines
 
@@ -268,10 +268,10 @@ module _ (p : tree.ProgramTree) (x : ResolvedLayout) (k : IsUnbroken p x) where
   of_routines = every_first IsOfRoutine (given_by routine_by (declarations p)) (every_declared IsOfRoutine routine_by routines_quiet p (λ n s e. routine_head n s s.kind e refl))
 
   -- they are well typed in each such program
-  pub routines_there : (rs : List Routine) × (each (routine_from section) (values_of t.routines) ≡ Some rs) × Every (λ r. (q : Program) → IsWhole q → GoodRoutine q r) rs
-  routines_there = routines_made section section_modes (λ r. (q : Program) → IsWhole q → GoodRoutine q r) (λ i known e q b.
+  pub routines_there : (rs : List Routine) × (each (routine_from section) (values_of t.routines) ≡ Some rs) × Every (λ r. (q : Program) → IsWhole q → IsTypedRoutine q r) rs
+  routines_there = routines_made section section_modes (λ r. (q : Program) → IsWhole q → IsTypedRoutine q r) (λ i known e q b.
       let parts = (has_routine section section_modes i known e).parts in
       let entry = entry_of_value t.routines i known e in
       let s = at_place IsOfRoutine t.routines i (entry.0, known) of_routines entry.1 in
-      subst₂ (λ (locals : List Mode) (in_main : Bool). GoodBlock (record { program = q; locals = locals; is_main = in_main }) parts.body) (sym (all_locals known.given known.yielding parts.modes)) s.2
+      subst₂ (λ (locals : List Mode) (in_main : Bool). IsTypedBlock (record { program = q; locals = locals; is_main = in_main }) parts.body) (sym (all_locals known.given known.yielding parts.modes)) s.2
       (body_good q b known.section s.0 parts s.1 (has_routine section section_modes i known e).resolved))

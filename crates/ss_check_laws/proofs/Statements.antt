@@ -7,12 +7,12 @@ use Rattle.ss_names_uses.specs.Uses as uses
 use Rattle.ss_names_scopes.specs.Scopes.{Scope}
 use Rattle.ss_check_rules.specs.declared.error.CheckError.TheVariants as errors
 use Rattle.ss_program.specs.Program.{Head, Phrase, Statement, Find, Return, Simulate, Stop, Done}
-use Rattle.ss_program.specs.WellTyped.{TypedScope as Place, Good, GoodHead, GoodPhrase}
+use Rattle.ss_program.specs.WellTyped.{TypedScope as Place, IsTypedStatement, IsTypedHead, IsTypedPhrase}
 use Rattle.ss_names_meaning.specs.Answers.{◌>>=◌, each}
 use Rattle.ss_names_meaning.specs.Heads.{head, phrases_of, resolved_phrase}
 use Rattle.ss_names_meaning.specs.Statements.{simple_statement, statement}
 use Rattle.ss_check_laws.specs.Links.{IsLinked, AreValid}
-use Rattle.ss_check_laws.specs.BodyLaws.{ForResolves}
+use Rattle.ss_check_laws.specs.BodyLaws.{IsResolvedForHead}
 use Rattle.ss_check_laws.proofs.Steps.{GoesWell, holds_unless}
 use Rattle.ss_check_laws.proofs.Expressions.{number_kept}
 use Rattle.ss_check_laws.proofs.Lists.{after_one, after_two}
@@ -24,19 +24,19 @@ use Rattle.ss_check_laws.proofs.Printing.{print_resolves}
 
 module _ (s : Scope) (g : Place) where
   -- what is made of the head of a FOR or a FIND, and its phrases
-  pub over_head : (over : HeadTree) (f : Head → List Phrase → Statement) → ForResolves s g over → ((x : Head) (ps : List Phrase) → GoodHead g x → Every (GoodPhrase g) ps → Good g (f x ps)) →
-      GoesWell (Good g) (head s over >>= λ x. each (resolved_phrase s) (phrases_of over) >>= λ ps. Some (f x ps))
+  pub over_head : (over : HeadTree) (f : Head → List Phrase → Statement) → IsResolvedForHead s g over → ((x : Head) (ps : List Phrase) → IsTypedHead g x → Every (IsTypedPhrase g) ps → IsTypedStatement g (f x ps)) →
+      GoesWell (IsTypedStatement g) (head s over >>= λ x. each (resolved_phrase s) (phrases_of over) >>= λ ps. Some (f x ps))
   over_head over f h good =
-      let x : GoesWell (GoodHead g) (head s over) = (h.0, h.1, h.2) in
-      let ps : GoesWell (Every (GoodPhrase g)) (each (resolved_phrase s) (phrases_of over)) = (h.3, h.4, h.5) in
-      after_two (Good g) _ _ f x ps good
+      let x : GoesWell (IsTypedHead g) (head s over) = (h.0, h.1, h.2) in
+      let ps : GoesWell (Every (IsTypedPhrase g)) (each (resolved_phrase s) (phrases_of over)) = (h.3, h.4, h.5) in
+      after_two (IsTypedStatement g) _ _ f x ps good
 
   -- a statement without statements in it resolves, and is well typed
   abbrev pub AloneResolves : StatementTree → Type 0
   AloneResolves (if_statement line test first second) = Unit {0}
   AloneResolves (loop_statement line over body) = Unit {0}
   AloneResolves (find_if_statement line over outcome first second) = Unit {0}
-  AloneResolves t = GoesWell (Good g) (statement s t)
+  AloneResolves t = GoesWell (IsTypedStatement g) (statement s t)
 
 module _ (s : Scope) (g : Place) (linked : IsLinked s g) where
   pub alone_resolves : (t : StatementTree) → AreValid s g.is_main (uses.in_itself t) → AloneResolves s g t
@@ -65,4 +65,4 @@ module _ (s : Scope) (g : Place) (linked : IsLinked s g) where
   alone_resolves (cancel_statement line name called) k = cancel_resolves s g linked line name called k
   alone_resolves (reset_statement line targets) k = reset_resolves s g linked line targets k
   alone_resolves (print_statement line items pictures) k = print_resolves s g linked line items pictures k
-  alone_resolves (skip_statement line e) k = after_one (Good g) _ _ (number_kept s g linked line e k) (λ x h. h)
+  alone_resolves (skip_statement line e) k = after_one (IsTypedStatement g) _ _ (number_kept s g linked line e k) (λ x h. h)

@@ -10,7 +10,7 @@ use Rattle.ss_tree.specs.Tree.{ExpressionRow, NamedTree}
 use Rattle.ss_tree.specs.declared.expression.Designator.{Designator}
 use Rattle.ss_tree.specs.declared.expression.Designator.TheVariants.{Name, TimeV, TimeA}
 use Rattle.ss_program.specs.Program.{Expression, Place as Target, ToVariable, ToAttribute, ToCount, InputTarget as ReadTarget, SetOwner, Restart}
-use Rattle.ss_program.specs.WellTyped.{TypedScope as Place, TakesMode}
+use Rattle.ss_program.specs.WellTyped.{TypedScope as Place, CanTakeMode}
 use Rattle.ss_program.specs.declared.expression.SetQuery.TheVariants.{MemberCount}
 use Rattle.ss_program.specs.declared.expression.Variable.TheVariants.{Global}
 use Rattle.ss_program.specs.declared.sections.Subject.{Subject}
@@ -27,7 +27,7 @@ use Rattle.ss_check_rules.specs.Refusal.{place_breaks}
 use Rattle.ss_check_rules.specs.declared.error.CheckError.TheVariants as errors
 use Rattle.ss_names_meaning.specs.Answers.{◌>>=◌}
 use Rattle.ss_names_meaning.specs.Expressions.{entity_of, set_owner, place_named, place_of, set_number, set_of_name, subscript}
-use Rattle.ss_check_laws.specs.BodyLaws.{RestartResolves, RestartsResolve, SetResolves, SetsResolve, TargetResolves, TargetsResolve}
+use Rattle.ss_check_laws.specs.BodyLaws.{IsResolvedRestart, RestartsResolve, IsResolvedSet, SetsResolve, IsResolvedTarget, TargetsResolve}
 use Rattle.ss_check_laws.specs.Links.{IsLinked, AreValid}
 use Rattle.ss_check_laws.proofs.Steps.{goes, meant, two_steps}
 use Rattle.ss_check_laws.proofs.Linked.{IsHere, meant_here, named_here, seen, watched_here}
@@ -53,7 +53,7 @@ module _ (s : Scope) (g : Place) (k : IsLinked s g) where
   -- ---- targets
 
   abbrev HasPlace : Meaning → Option Expression → Type 0
-  HasPlace m of = (x : Target) × (mode : Mode) × (place_of m of ≡ Some x) × (mode_of_meaning m ≡ Some mode) × TakesMode g x mode
+  HasPlace m of = (x : Target) × (mode : Mode) × (place_of m of ≡ Some x) × (mode_of_meaning m ≡ Some mode) × CanTakeMode g x mode
 
   meant_place : (m : Meaning) (of : Option Expression) → IsHere s g k m → EntityFits s g m of → takes_values m ≡ true → HasPlace m of
   meant_place (meanings.Variable v mode) None i f h = (ToVariable v, mode, refl, refl, i)
@@ -66,7 +66,7 @@ module _ (s : Scope) (g : Place) (k : IsLinked s g) where
   meant_place (meanings.Attribute class field mode) (Some e) i f h = (ToAttribute class field e, mode, refl, refl, (i.0, f))
   meant_place _ of i f h = absurd cc
 
-  target_resolves : (line : Line) (b : Bool) (n : NamedTree) → AreValid s g.is_main (in_named line roles.Target b n) → TargetResolves s g b n
+  target_resolves : (line : Line) (b : Bool) (n : NamedTree) → AreValid s g.is_main (in_named line roles.Target b n) → IsResolvedTarget s g b n
   target_resolves line b n h =
       let d = n.designator in
       let es = n.subscripts in
@@ -90,7 +90,7 @@ module _ (s : Scope) (g : Place) (k : IsLinked s g) where
   abbrev with_owner : ℕ → Option Expression → Option (ℕ × SetOwner)
   with_owner set of = Some (set, set_owner of)
 
-  set_by : (line : Line) (d : Designator) (es : ExpressionRow) → place_breaks s line roles.Set d (row_length es) false ≡ None → Numbers s g es → SetResolves s g (record { designator = d; subscripts = es })
+  set_by : (line : Line) (d : Designator) (es : ExpressionRow) → place_breaks s line roles.Set d (row_length es) false ≡ None → Numbers s g es → IsResolvedSet s g (record { designator = d; subscripts = es })
   set_by line (Name name) es h n =
       let global = value_for s.table.meanings name in
       let m = meant global is_set (place_kept s line roles.Set (Name name) (row_length es) false h).0 in
@@ -108,7 +108,7 @@ module _ (s : Scope) (g : Place) (k : IsLinked s g) where
   set_by line TimeV es h n = absurd (none-some (errors.Unknown line) (sym h))
   set_by line TimeA es h n = absurd (none-some (errors.Unknown line) (sym h))
 
-  pub set_resolves : (line : Line) (n : NamedTree) → AreValid s g.is_main (in_named line roles.Set false n) → SetResolves s g n
+  pub set_resolves : (line : Line) (n : NamedTree) → AreValid s g.is_main (in_named line roles.Set false n) → IsResolvedSet s g n
   set_resolves line n h = set_by line n.designator n.subscripts h.0 (numbers s g k line n.subscripts h.1)
 
   -- ---- subjects
@@ -120,7 +120,7 @@ module _ (s : Scope) (g : Place) (k : IsLinked s g) where
   subject_owned (meanings.OfSet MemberCount set) p of e f = subst (λ o. OwnerHas s g o of) (ap (owner_of_subject s.table) e) f
   subject_owned _ p of e f = absurd cc
 
-  restart_by : (line : Line) (d : Designator) (es : ExpressionRow) → place_breaks s line roles.Reset d (row_length es) false ≡ None → Numbers s g es → RestartResolves s g (record { designator = d; subscripts = es })
+  restart_by : (line : Line) (d : Designator) (es : ExpressionRow) → place_breaks s line roles.Reset d (row_length es) false ≡ None → Numbers s g es → IsResolvedRestart s g (record { designator = d; subscripts = es })
   restart_by line (Name name) es h n =
       let kept = place_kept s line roles.Reset (Name name) (row_length es) false h in
       let found = not_hidden (place_in s.locals name) (place_in s.table.histories name) kept.0 in

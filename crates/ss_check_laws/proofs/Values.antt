@@ -26,7 +26,7 @@ use Rattle.ss_check_rules.specs.declared.error.CheckError.TheVariants as errors
 use Rattle.ss_check_rules.specs.Kinds.{if_means, is_routine}
 use Rattle.ss_check_rules.specs.Modes.{mode_of_use}
 use Rattle.ss_program.specs.Program.{Statement, Change, Call, InputTarget}
-use Rattle.ss_program.specs.WellTyped.{TypedScope as Place, HasMode, TakesMode, Good}
+use Rattle.ss_program.specs.WellTyped.{TypedScope as Place, HasMode, CanTakeMode, IsTypedStatement}
 use Rattle.ss_names_meaning.specs.Answers.{◌>>=◌, upto}
 use Rattle.ss_names_meaning.specs.Expressions.{expression, target}
 use Rattle.ss_names_meaning.specs.Resolved.{local_modes}
@@ -72,50 +72,50 @@ parameter_there s g k known r i m e = ap (λ (o : Option Moded). local_mode_at o
 module _ (s : Scope) (g : Place) (linked : IsLinked s g) (line : Line) where
   -- ---- modes that are wanted
 
-  pub takes_number : (n : NamedTree) → AreValid s g.is_main (uses.in_named line roles.Target true n) → GoesWell (λ x. TakesMode g x Integer) (target s n)
+  pub takes_number : (n : NamedTree) → AreValid s g.is_main (uses.in_named line roles.Target true n) → GoesWell (λ x. CanTakeMode g x Integer) (target s n)
   takes_number n k =
       let x = targets_resolve s g linked line true n k in
-      (x.0, x.2, subst (TakesMode g x.0) (x.5 refl) x.3)
+      (x.0, x.2, subst (CanTakeMode g x.0) (x.5 refl) x.3)
 
   pub value_resolves : (wanted : ModeOf) (m : Mode) (e : ExpressionTree) → mode_of_use s wanted ≡ Some m → AreValid s g.is_main (uses.in_value line wanted e) → GoesWell (λ x. HasMode g x m) (expression s e)
   value_resolves wanted m e w k =
       let x = expressions_resolve s g linked line false e k.1 in
       (x.0, x.2, subst (HasMode g x.0) (agree (mode_of_use s (uses.expression_tree_mode e)) (mode_of_use s wanted) x.1 m (errors.Mode line) k.0 x.4 w) x.3)
 
-  takes_value : (wanted : ModeOf) (m : Mode) (n : NamedTree) → mode_of_use s wanted ≡ Some m → AreValid s g.is_main (uses.in_target line wanted n) → GoesWell (λ x. TakesMode g x m) (target s n)
+  takes_value : (wanted : ModeOf) (m : Mode) (n : NamedTree) → mode_of_use s wanted ≡ Some m → AreValid s g.is_main (uses.in_target line wanted n) → GoesWell (λ x. CanTakeMode g x m) (target s n)
   takes_value wanted m n w k =
       let x = targets_resolve s g linked line false n k.1 in
-      (x.0, x.2, subst (TakesMode g x.0) (agree (mode_of_use s (uses.designated n.designator)) (mode_of_use s wanted) x.1 m (errors.Mode line) k.0 x.4 w) x.3)
+      (x.0, x.2, subst (CanTakeMode g x.0) (agree (mode_of_use s (uses.designated n.designator)) (mode_of_use s wanted) x.1 m (errors.Mode line) k.0 x.4 w) x.3)
 
   -- ---- statements
 
-  pub let_resolves : (n : NamedTree) (e : ExpressionTree) → AreValid s g.is_main (uses.in_target line (uses.expression_tree_mode e) n ++ uses.in_expression line false e) → GoesWell (Good g) (simple_statement s (let_statement line n e))
+  pub let_resolves : (n : NamedTree) (e : ExpressionTree) → AreValid s g.is_main (uses.in_target line (uses.expression_tree_mode e) n ++ uses.in_expression line false e) → GoesWell (IsTypedStatement g) (simple_statement s (let_statement line n e))
   unfolding simple_statement
   let_resolves n e k =
       let p = two_parts s g.is_main (uses.in_target line (uses.expression_tree_mode e) n) (uses.in_expression line false e) k in
       let y = expressions_resolve s g linked line false e p.1 in
       let value : GoesWell (λ v. HasMode g v y.1) (expression s e) = (y.0, y.2, y.3) in
-      after_two (Good g) _ _ _ (takes_value (uses.expression_tree_mode e) y.1 n y.4 p.0) value (λ x v h f. (y.1, h, f))
+      after_two (IsTypedStatement g) _ _ _ (takes_value (uses.expression_tree_mode e) y.1 n y.4 p.0) value (λ x v h f. (y.1, h, f))
 
   -- ADD and SUBTRACT
   pub change_resolves : (sign : Sign) (e : ExpressionTree) (n : NamedTree) → AreValid s g.is_main (uses.in_expression line true e ++ uses.in_named line roles.Target true n) →
-      GoesWell (Good g) (expression s e >>= λ v. target s n >>= λ x. Some (Change line sign x v))
+      GoesWell (IsTypedStatement g) (expression s e >>= λ v. target s n >>= λ x. Some (Change line sign x v))
   change_resolves sign e n k =
       let p = two_parts s g.is_main (uses.in_expression line true e) (uses.in_named line roles.Target true n) k in
-      after_two (Good g) _ _ _ (number_kept s g linked line e p.0) (takes_number n p.1) (λ v x h f. (f, h))
+      after_two (IsTypedStatement g) _ _ _ (number_kept s g linked line e p.0) (takes_number n p.1) (λ v x h f. (f, h))
 
-  reader_resolves : (n : NamedTree) → AreValid s g.is_main (uses.in_named line roles.Target false n) → GoesWell (λ (x : InputTarget). TakesMode g x.place x.mode) (reader s n)
+  reader_resolves : (n : NamedTree) → AreValid s g.is_main (uses.in_named line roles.Target false n) → GoesWell (λ (x : InputTarget). CanTakeMode g x.place x.mode) (reader s n)
   reader_resolves n k =
       let x = targets_resolve s g linked line false n k in
       (record { place = x.0; mode = x.1 }, x.6, x.3)
 
-  pub read_resolves : (ns : List NamedTree) → AreValid s g.is_main (uses.in_all_named line roles.Target ns) → GoesWell (Good g) (simple_statement s (read_statement line ns))
+  pub read_resolves : (ns : List NamedTree) → AreValid s g.is_main (uses.in_all_named line roles.Target ns) → GoesWell (IsTypedStatement g) (simple_statement s (read_statement line ns))
   unfolding simple_statement
   read_resolves ns k =
-      after_one (Good g) _ _ (each_resolves s g.is_main (reader s) (uses.in_named line roles.Target false) (λ (x : InputTarget). TakesMode g x.place x.mode) reader_resolves ns k) (λ xs h. h)
+      after_one (IsTypedStatement g) _ _ (each_resolves s g.is_main (reader s) (uses.in_named line roles.Target false) (λ (x : InputTarget). CanTakeMode g x.place x.mode) reader_resolves ns k) (λ xs h. h)
 
   pub call_resolves : (name : NameBytes) (given : List ExpressionTree) (yielding : List NamedTree) → AreValid s g.is_main (uses.in_call line name given yielding) →
-      GoesWell (Good g) (simple_statement s (call_statement line name given yielding))
+      GoesWell (IsTypedStatement g) (simple_statement s (call_statement line name given yielding))
   unfolding simple_statement
   call_resolves name given yielding k =
       let meant = routine_meant (value_for s.table.meanings name) (holds_unless (if_means is_routine (value_for s.table.meanings name)) (errors.Unknown line) k.0) in
@@ -130,13 +130,13 @@ module _ (s : Scope) (g : Place) (linked : IsLinked s g) (line : Line) where
       let xs = in_order s g.is_main (expression s) (λ (i : ℕ). uses.in_value line (modes.Given name i)) (HasMode g) given r.modes
       (λ i e m f h. value_resolves (modes.Given name i) m e (ap (option_and_then (λ (r : RoutineSection). parameter_mode s r.section i)) entry.2 ∙ parameter_there s g meant.0 known r i m f) h)
       (omega (arith, some, r.enough)) p.0 in
-      let ys = in_order s g.is_main (target s) (λ (i : ℕ). uses.in_target line (modes.Yielded name i)) (TakesMode g) yielding (drop known.given r.modes)
+      let ys = in_order s g.is_main (target s) (λ (i : ℕ). uses.in_target line (modes.Yielded name i)) (CanTakeMode g) yielding (drop known.given r.modes)
       (λ i n m f h. takes_value (modes.Yielded name i) m n
       (ap (option_and_then (λ (r : RoutineSection). parameter_mode s r.section (r.given + i))) entry.2 ∙ parameter_there s g meant.0 known r (known.given + i) m (sym (after_first known.given i r.modes) ∙ f)) h)
       (omega (arith, more, r.enough, length-drop known.given r.modes)) p.1 in
       let made : Statement = Call line meant.0 xs.0 ys.0 in
-      after {A = ℕ × RoutineSection} (Good g) _ _ (meant.0, known) (routine_found (value_for s.table.meanings name) (values_of s.table.routines) meant.0 known meant.1 entry.1)
-      (after (Good g) _ _ xs.0 xs.1 (after (Good g) _ _ ys.0 ys.1 (
+      after {A = ℕ × RoutineSection} (IsTypedStatement g) _ _ (meant.0, known) (routine_found (value_for s.table.meanings name) (values_of s.table.routines) meant.0 known meant.1 entry.1)
+      (after (IsTypedStatement g) _ _ xs.0 xs.1 (after (IsTypedStatement g) _ _ ys.0 ys.1 (
         made,
         holds ((length xs.0 == known.given) && (length ys.0 == known.yielding)) made
             (both_same (length xs.0) (length ys.0) known.given known.yielding (xs.2.0 ∙ some) (ys.2.0 ∙ more)),
@@ -144,6 +144,6 @@ module _ (s : Scope) (g : Place) (linked : IsLinked s g) (line : Line) where
           r.routine,
           r.there,
           subst (AllZip (HasMode g) xs.0) (ap (λ (n : ℕ). take n r.modes) some ∙ sym r.given) xs.2.1,
-          subst (AllZip (TakesMode g) ys.0) (ap (λ (n : ℕ). take n (drop known.given r.modes)) more ∙ sym r.yielding) ys.2.1,
+          subst (AllZip (CanTakeMode g) ys.0) (ap (λ (n : ℕ). take n (drop known.given r.modes)) more ∙ sym r.yielding) ys.2.1,
         ),
       )))

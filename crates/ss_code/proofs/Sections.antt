@@ -4,17 +4,17 @@ use Rattle.std.specs.List.{AllByRecursion as Every}
 use Rattle.ss_base.specs.declared.value.Value.{Value}
 use Rattle.ss_program.specs.Program.{Program, Block, Routine, Event}
 use Rattle.ss_program.specs.View.{view_program}
-use Rattle.ss_program.specs.WellTyped.{TypedScope, GoodBlock, GoodRoutine, GoodEvent}
+use Rattle.ss_program.specs.WellTyped.{TypedScope, IsTypedBlock, IsTypedRoutine, IsTypedEvent}
 use Rattle.ss_code_instructions.specs.declared.entry.SectionEntry.{SectionEntry}
 use Rattle.ss_code_instructions.specs.Instructions.{Placed, EntryPoint, Lines, Leave}
 use Rattle.ss_code_instructions.specs.Carried.{RunningLines}
 use Rattle.ss_code_instructions.specs.Translation.{Site, place, first_site, block_code, block_prints, section_code, routine_code, event_code, routines_code, events_code, routines_prints, events_prints, routine_entry, event_entry, routine_entries, event_entries}
 use Rattle.ss_code_generator.specs.declared.generator.Generator.{Generator}
 use Rattle.ss_code_pieces.specs.Lined.{Lined, no_code}
-use Rattle.ss_code_generator.specs.Emitted.{Final, Around, IsLocated, HasPrints, Adds}
-use Rattle.ss_code_generator.specs.Printed.{Prints, statement_site, PrintsBy}
-use Rattle.ss_code.specs.Running.{HasFrameOf, AllBegin}
-use Rattle.ss_code.specs.Sections.{scope_of_section, PutsSection, PutsRoutines, PutsEvents}
+use Rattle.ss_code_generator.specs.Emitted.{Final, IsAround, IsLocated, HasPrints, HasAdded}
+use Rattle.ss_code_generator.specs.Printed.{HasPrinted, statement_site, HasPrintedBy}
+use Rattle.ss_code.specs.Running.{HasFrameOf, AreAllFramed}
+use Rattle.ss_code.specs.Sections.{scope_of_section, HasPutSection, HasPutRoutines, HasPutEvents}
 use Rattle.ss_code_generator.proofs.Emitting.{runs_long, adds_none, adds_then, adds_piece, adds_same}
 use Rattle.ss_code_generator.proofs.PrintLines.{prints_then, prints_long}
 use Rattle.ss_code_generator.proofs.Bodies.{has_prints_old}
@@ -22,7 +22,7 @@ use Rattle.ss_code_generator.proofs.Bodies.{has_prints_old}
 -- ## A section
 
 -- the code of a section, which was made apart, after what was made before
-pub section_adds : (g0 g1 g2 : Generator) (c0 c1 own : Lined) (p0 p1 : List RunningLines) (s : TypedScope) (b : Block) → PrintsBy g1 g2 no_code own (statement_site 0) p0 p1 (λ k. GoodBlock k b) (block_prints b) (λ first t. block_code t first b ++ place t Leave ∷ []) → g1.program.now ≡ g0.program.now → s.program ≡ view_program g0.program.now → s.locals ≡ g1.locals.items → c1 ≡ c0 ++ own → (f : Final) → Around f g2 → HasPrints f p1 → GoodBlock s b → Adds f c0 c1 (section_code s (length p0) b)
+pub section_adds : (g0 g1 g2 : Generator) (c0 c1 own : Lined) (p0 p1 : List RunningLines) (s : TypedScope) (b : Block) → HasPrintedBy g1 g2 no_code own (statement_site 0) p0 p1 (λ k. IsTypedBlock k b) (block_prints b) (λ first t. block_code t first b ++ place t Leave ∷ []) → g1.program.now ≡ g0.program.now → s.program ≡ view_program g0.program.now → s.locals ≡ g1.locals.items → c1 ≡ c0 ++ own → (f : Final) → IsAround f g2 → HasPrints f p1 → IsTypedBlock s b → HasAdded f c0 c1 (section_code s (length p0) b)
 section_adds g0 g1 g2 c0 c1 own p0 p1 s b made same program locals is f around prints good =
     let g = made.code.grows in
     let t : Site = first_site s in
@@ -89,7 +89,7 @@ event_entries_more p at first (x ∷ es) e =
     ap (λ (l : List EntryPoint). event_entry at x ∷ l) (event_entries_more p here next es e ∙ ap (λ k. event_entries p here next es ++ event_entry k e ∷ []) n)
 
 -- one entry more
-pub begin_more : (room : ℕ) (es : List EntryPoint) (olds : List SectionEntry) (e : EntryPoint) (x : SectionEntry) → AllBegin room es olds → HasFrameOf room e x → AllBegin room (es ++ e ∷ []) (olds ++ x ∷ [])
+pub begin_more : (room : ℕ) (es : List EntryPoint) (olds : List SectionEntry) (e : EntryPoint) (x : SectionEntry) → AreAllFramed room es olds → HasFrameOf room e x → AreAllFramed room (es ++ e ∷ []) (olds ++ x ∷ [])
 begin_more room [] [] e x h b = (b, tt)
 begin_more room [] (o ∷ os) e x h b = absurd h
 begin_more room (y ∷ es) [] e x h b = absurd h
@@ -97,7 +97,7 @@ begin_more room (y ∷ es) (o ∷ os) e x h b = (h.0, begin_more room es os e x 
 
 -- ## A section, put after others
 
-pub section_put : (g0 g1 g2 : Generator) (c0 c1 own : Lined) (p0 p1 : List RunningLines) (e : EntryPoint) (body : Block) (entry : SectionEntry) → g1.program.now ≡ g0.program.now → g1.constants.items ≡ g0.constants.items → g1.deepest ≡ g0.deepest → g1.locals.items ≡ e.given ++ e.others → PrintsBy g1 g2 no_code own (statement_site 0) p0 p1 (λ k. GoodBlock k body) (block_prints body) (λ first t. block_code t first body ++ place t Leave ∷ []) → c1 ≡ c0 ++ own → HasFrameOf 0 e entry → PutsSection g0 g2 c0 c1 p0 p1 e body entry
+pub section_put : (g0 g1 g2 : Generator) (c0 c1 own : Lined) (p0 p1 : List RunningLines) (e : EntryPoint) (body : Block) (entry : SectionEntry) → g1.program.now ≡ g0.program.now → g1.constants.items ≡ g0.constants.items → g1.deepest ≡ g0.deepest → g1.locals.items ≡ e.given ++ e.others → HasPrintedBy g1 g2 no_code own (statement_site 0) p0 p1 (λ k. IsTypedBlock k body) (block_prints body) (λ first t. block_code t first body ++ place t Leave ∷ []) → c1 ≡ c0 ++ own → HasFrameOf 0 e entry → HasPutSection g0 g2 c0 c1 p0 p1 e body entry
 section_put g0 g1 g2 c0 c1 own p0 p1 e body entry program constants deepest locals m is begins = record {
   puts = λ is_main. record {
     constants = (m.code.grows.constants.0, m.code.grows.constants.1 ∙ ap (λ (l : List Value). l ++ m.code.grows.constants.0) constants);
@@ -115,7 +115,7 @@ section_begins e entry place given yielding others room = record { place = place
 
 -- ## One after another
 
-pub around_less : (f : Final) (g0 g1 : Generator) (more : List Value) → g1.constants.items ≡ g0.constants.items ++ more → g0.deepest ≤ g1.deepest → g1.program.now ≡ g0.program.now → Around f g1 → Around f g0
+pub around_less : (f : Final) (g0 g1 : Generator) (more : List Value) → g1.constants.items ≡ g0.constants.items ++ more → g0.deepest ≤ g1.deepest → g1.program.now ≡ g0.program.now → IsAround f g1 → IsAround f g0
 around_less f g0 g1 more constants depth program a = record {
   program = sym (ap view_program program) ∙ a.program;
   typed = a.typed;
@@ -128,7 +128,7 @@ around_less f g0 g1 more constants depth program a = record {
   small = a.small;
 }
 
-adds_long : (f : Final) (a b : Lined) (c : List Placed) → Adds f a b c → length b ≡ length a + length c
+adds_long : (f : Final) (a b : Lined) (c : List Placed) → HasAdded f a b c → length b ≡ length a + length c
 adds_long f a b c h = ap length h.added ∙ length-append a h.more ∙ ap (λ n. length a + n) (runs_long f c h.more h.run)
 
 every_split : {A : Type 0} (P : A → Type 0) (xs : List A) (x : A) → Every P (xs ++ x ∷ []) → Every P xs × P x
@@ -136,25 +136,25 @@ every_split P [] x h = (tt, h.0)
 every_split P (y ∷ xs) x h = let k = every_split P xs x h.1 in ((h.0, k.0), k.1)
 
 -- one routine more
-module _ (g0 g1 g2 : Generator) (c0 c1 c2 : Lined) (p0 p1 p2 : List RunningLines) (rs : List Routine) (r : Routine) (entries : List SectionEntry) (entry : SectionEntry) (m : PutsRoutines g0 g1 c0 c1 p0 p1 rs entries) (n : PutsSection g1 g2 c1 c2 p1 p2 (routine_entry (length c1) r) r.body entry) where
+module _ (g0 g1 g2 : Generator) (c0 c1 c2 : Lined) (p0 p1 p2 : List RunningLines) (rs : List Routine) (r : Routine) (entries : List SectionEntry) (entry : SectionEntry) (m : HasPutRoutines g0 g1 c0 c1 p0 p1 rs entries) (n : HasPutSection g1 g2 c1 c2 p1 p2 (routine_entry (length c1) r) r.body entry) where
   abbrev routines_program : Program
   routines_program = view_program g0.program.now
 
   routines_same : view_program g1.program.now ≡ routines_program
   routines_same = ap view_program m.puts.program
 
-  routines_one : (f : Final) → Around f g2 → HasPrints f p2 → GoodRoutine routines_program r → Adds f c1 c2 (routine_code routines_program (length p1) r)
+  routines_one : (f : Final) → IsAround f g2 → HasPrints f p2 → IsTypedRoutine routines_program r → HasAdded f c1 c2 (routine_code routines_program (length p1) r)
   routines_one f around has good =
       let k = n.puts false in
-      let good' : GoodRoutine (view_program g1.program.now) r = subst (λ (p : Program). GoodRoutine p r) (sym routines_same) good in
+      let good' : IsTypedRoutine (view_program g1.program.now) r = subst (λ (p : Program). IsTypedRoutine p r) (sym routines_same) good in
       adds_same f c1 c2 (routine_code (view_program g1.program.now) (length p1) r) (routine_code routines_program (length p1) r) (ap (λ (p : Program). routine_code p (length p1) r) routines_same) (k.adds f around has good')
 
-  routines_before : (f : Final) → Around f g2 → HasPrints f p2 → Every (GoodRoutine routines_program) rs → Adds f c0 c1 (routines_code routines_program (length p0) rs)
+  routines_before : (f : Final) → IsAround f g2 → HasPrints f p2 → Every (IsTypedRoutine routines_program) rs → HasAdded f c0 c1 (routines_code routines_program (length p0) rs)
   routines_before f around has good =
       let k = n.puts false in
       m.puts.adds f (around_less f g1 g2 k.constants.0 k.constants.1 k.depth k.program around) (has_prints_old f p1 p2 (block_prints r.body) k.prints has) good
 
-  pub routines_put : PutsRoutines g0 g2 c0 c2 p0 p2 (rs ++ r ∷ []) (entries ++ entry ∷ [])
+  pub routines_put : HasPutRoutines g0 g2 c0 c2 p0 p2 (rs ++ r ∷ []) (entries ++ entry ∷ [])
   routines_put =
       let k = n.puts false in
       let long : length p1 ≡ length p0 + length (routines_prints rs) = prints_long p0 p1 (routines_prints rs) m.puts.prints in
@@ -167,25 +167,25 @@ module _ (g0 g1 g2 : Generator) (c0 c1 c2 : Lined) (p0 p1 p2 : List RunningLines
           depth = omega (arith, m.puts.depth, k.depth);
           program = k.program ∙ m.puts.program;
           adds = λ f around has good.
-              let both = every_split (GoodRoutine routines_program) rs r good in
-              let last : Adds f c1 c2 (routine_code routines_program (length p0 + length (routines_prints rs)) r) =
+              let both = every_split (IsTypedRoutine routines_program) rs r good in
+              let last : HasAdded f c1 c2 (routine_code routines_program (length p0 + length (routines_prints rs)) r) =
               adds_same f c1 c2 (routine_code routines_program (length p1) r) (routine_code routines_program (length p0 + length (routines_prints rs)) r) (ap (λ k. routine_code routines_program k r) long) (routines_one f around has both.1) in
               adds_same f c0 c2 (routines_code routines_program (length p0) rs ++ routine_code routines_program (length p0 + length (routines_prints rs)) r) (routines_code routines_program (length p0) (rs ++ r ∷ []))
               (sym (routines_code_more routines_program (length p0) rs r))
               (adds_then f c0 c1 c2 (routines_code routines_program (length p0) rs) (routine_code routines_program (length p0 + length (routines_prints rs)) r) (routines_before f around has both.0) last);
-          prints = subst (Prints p0 p2) (sym (routines_prints_more rs r)) (prints_then p0 p1 p2 (routines_prints rs) (block_prints r.body) m.puts.prints k.prints);
+          prints = subst (HasPrinted p0 p2) (sym (routines_prints_more rs r)) (prints_then p0 p1 p2 (routines_prints rs) (block_prints r.body) m.puts.prints k.prints);
         };
         begin = λ f around has good.
-            let both = every_split (GoodRoutine routines_program) rs r good in
-            let old : AllBegin 0 (routine_entries routines_program (length c0) (length p0) rs) entries =
+            let both = every_split (IsTypedRoutine routines_program) rs r good in
+            let old : AreAllFramed 0 (routine_entries routines_program (length c0) (length p0) rs) entries =
             m.begin f (around_less f g1 g2 k.constants.0 k.constants.1 k.depth k.program around) (has_prints_old f p1 p2 (block_prints r.body) k.prints has) both.0 in
             let place : length c1 ≡ length c0 + length (routines_code routines_program (length p0) rs) = adds_long f c0 c1 (routines_code routines_program (length p0) rs) (routines_before f around has both.0) in
             let new : HasFrameOf 0 (routine_entry (length c0 + length (routines_code routines_program (length p0) rs)) r) entry = subst (λ k. HasFrameOf 0 (routine_entry k r) entry) place n.begins in
-            subst (λ (es : List EntryPoint). AllBegin 0 es (entries ++ entry ∷ [])) (sym (routine_entries_more routines_program (length c0) (length p0) rs r))
+            subst (λ (es : List EntryPoint). AreAllFramed 0 es (entries ++ entry ∷ [])) (sym (routine_entries_more routines_program (length c0) (length p0) rs r))
             (begin_more 0 (routine_entries routines_program (length c0) (length p0) rs) entries (routine_entry (length c0 + length (routines_code routines_program (length p0) rs)) r) entry old new);
       }
 
-pub no_routines_put : (g : Generator) (c : Lined) (prints : List RunningLines) → PutsRoutines g g c c prints prints [] []
+pub no_routines_put : (g : Generator) (c : Lined) (prints : List RunningLines) → HasPutRoutines g g c c prints prints [] []
 no_routines_put g c prints = record {
   puts = record {
     constants = ([], sym (append-nil g.constants.items));
@@ -198,25 +198,25 @@ no_routines_put g c prints = record {
 }
 
 -- one event more
-module _ (g0 g1 g2 : Generator) (c0 c1 c2 : Lined) (p0 p1 p2 : List RunningLines) (rs : List Event) (r : Event) (entries : List SectionEntry) (entry : SectionEntry) (m : PutsEvents g0 g1 c0 c1 p0 p1 rs entries) (n : PutsSection g1 g2 c1 c2 p1 p2 (event_entry (length c1) r) r.body entry) where
+module _ (g0 g1 g2 : Generator) (c0 c1 c2 : Lined) (p0 p1 p2 : List RunningLines) (rs : List Event) (r : Event) (entries : List SectionEntry) (entry : SectionEntry) (m : HasPutEvents g0 g1 c0 c1 p0 p1 rs entries) (n : HasPutSection g1 g2 c1 c2 p1 p2 (event_entry (length c1) r) r.body entry) where
   abbrev events_program : Program
   events_program = view_program g0.program.now
 
   events_same : view_program g1.program.now ≡ events_program
   events_same = ap view_program m.puts.program
 
-  events_one : (f : Final) → Around f g2 → HasPrints f p2 → GoodEvent events_program r → Adds f c1 c2 (event_code events_program (length p1) r)
+  events_one : (f : Final) → IsAround f g2 → HasPrints f p2 → IsTypedEvent events_program r → HasAdded f c1 c2 (event_code events_program (length p1) r)
   events_one f around has good =
       let k = n.puts false in
-      let good' : GoodEvent (view_program g1.program.now) r = subst (λ (p : Program). GoodEvent p r) (sym events_same) good in
+      let good' : IsTypedEvent (view_program g1.program.now) r = subst (λ (p : Program). IsTypedEvent p r) (sym events_same) good in
       adds_same f c1 c2 (event_code (view_program g1.program.now) (length p1) r) (event_code events_program (length p1) r) (ap (λ (p : Program). event_code p (length p1) r) events_same) (k.adds f around has good'.body)
 
-  events_before : (f : Final) → Around f g2 → HasPrints f p2 → Every (GoodEvent events_program) rs → Adds f c0 c1 (events_code events_program (length p0) rs)
+  events_before : (f : Final) → IsAround f g2 → HasPrints f p2 → Every (IsTypedEvent events_program) rs → HasAdded f c0 c1 (events_code events_program (length p0) rs)
   events_before f around has good =
       let k = n.puts false in
       m.puts.adds f (around_less f g1 g2 k.constants.0 k.constants.1 k.depth k.program around) (has_prints_old f p1 p2 (block_prints r.body) k.prints has) good
 
-  pub events_put : PutsEvents g0 g2 c0 c2 p0 p2 (rs ++ r ∷ []) (entries ++ entry ∷ [])
+  pub events_put : HasPutEvents g0 g2 c0 c2 p0 p2 (rs ++ r ∷ []) (entries ++ entry ∷ [])
   events_put =
       let k = n.puts false in
       let long : length p1 ≡ length p0 + length (events_prints rs) = prints_long p0 p1 (events_prints rs) m.puts.prints in
@@ -229,25 +229,25 @@ module _ (g0 g1 g2 : Generator) (c0 c1 c2 : Lined) (p0 p1 p2 : List RunningLines
           depth = omega (arith, m.puts.depth, k.depth);
           program = k.program ∙ m.puts.program;
           adds = λ f around has good.
-              let both = every_split (GoodEvent events_program) rs r good in
-              let last : Adds f c1 c2 (event_code events_program (length p0 + length (events_prints rs)) r) =
+              let both = every_split (IsTypedEvent events_program) rs r good in
+              let last : HasAdded f c1 c2 (event_code events_program (length p0 + length (events_prints rs)) r) =
               adds_same f c1 c2 (event_code events_program (length p1) r) (event_code events_program (length p0 + length (events_prints rs)) r) (ap (λ k. event_code events_program k r) long) (events_one f around has both.1) in
               adds_same f c0 c2 (events_code events_program (length p0) rs ++ event_code events_program (length p0 + length (events_prints rs)) r) (events_code events_program (length p0) (rs ++ r ∷ []))
               (sym (events_code_more events_program (length p0) rs r))
               (adds_then f c0 c1 c2 (events_code events_program (length p0) rs) (event_code events_program (length p0 + length (events_prints rs)) r) (events_before f around has both.0) last);
-          prints = subst (Prints p0 p2) (sym (events_prints_more rs r)) (prints_then p0 p1 p2 (events_prints rs) (block_prints r.body) m.puts.prints k.prints);
+          prints = subst (HasPrinted p0 p2) (sym (events_prints_more rs r)) (prints_then p0 p1 p2 (events_prints rs) (block_prints r.body) m.puts.prints k.prints);
         };
         begin = λ f around has good.
-            let both = every_split (GoodEvent events_program) rs r good in
-            let old : AllBegin 0 (event_entries events_program (length c0) (length p0) rs) entries =
+            let both = every_split (IsTypedEvent events_program) rs r good in
+            let old : AreAllFramed 0 (event_entries events_program (length c0) (length p0) rs) entries =
             m.begin f (around_less f g1 g2 k.constants.0 k.constants.1 k.depth k.program around) (has_prints_old f p1 p2 (block_prints r.body) k.prints has) both.0 in
             let place : length c1 ≡ length c0 + length (events_code events_program (length p0) rs) = adds_long f c0 c1 (events_code events_program (length p0) rs) (events_before f around has both.0) in
             let new : HasFrameOf 0 (event_entry (length c0 + length (events_code events_program (length p0) rs)) r) entry = subst (λ k. HasFrameOf 0 (event_entry k r) entry) place n.begins in
-            subst (λ (es : List EntryPoint). AllBegin 0 es (entries ++ entry ∷ [])) (sym (event_entries_more events_program (length c0) (length p0) rs r))
+            subst (λ (es : List EntryPoint). AreAllFramed 0 es (entries ++ entry ∷ [])) (sym (event_entries_more events_program (length c0) (length p0) rs r))
             (begin_more 0 (event_entries events_program (length c0) (length p0) rs) entries (event_entry (length c0 + length (events_code events_program (length p0) rs)) r) entry old new);
       }
 
-pub no_events_put : (g : Generator) (c : Lined) (prints : List RunningLines) → PutsEvents g g c c prints prints [] []
+pub no_events_put : (g : Generator) (c : Lined) (prints : List RunningLines) → HasPutEvents g g c c prints prints [] []
 no_events_put g c prints = record {
   puts = record {
     constants = ([], sym (append-nil g.constants.items));

@@ -4,13 +4,13 @@ ghost use Rattle.std.specs.Prelude.{◌≡◌, ◌+◌, ◌<◌, ◌≤◌, ◌^
 ghost use Rattle.ss_program.specs.Checking.{checked_program};
 ghost use Rattle.ss_program.specs.Nodes.{nodes};
 ghost use Rattle.ss_program.specs.View.{view_routine, view_event, view_program, view_body};
-ghost use Rattle.ss_program.specs.WellTyped.{WellTyped};
-ghost use Rattle.ss_code_instructions.specs.Running.{Behaves, Lands};
+ghost use Rattle.ss_program.specs.WellTyped.{IsWellTyped};
+ghost use Rattle.ss_code_instructions.specs.Running.{IsFaithful, HasLandings};
 ghost use Rattle.ss_code_instructions.specs.Translation.{code_of, routine_entry, event_entry};
 ghost use Rattle.ss_code_pieces.specs.Lined.{instructions_in, lines_in};
 ghost use Rattle.ss_code.specs.Limits.{instruction_limit as most_instructions, small_program};
 ghost use Rattle.ss_code.specs.Running.{IsFor};
-ghost use Rattle.ss_code.specs.Sections.{Deepened, AllDeepened, PutsSection, PutsRoutines, PutsEvents};
+ghost use Rattle.ss_code.specs.Sections.{IsDeepened, AreAllDeepened, HasPutSection, HasPutRoutines, HasPutEvents};
 
 use crate::code::{Code, Sections, Text};
 use crate::error::CodeError;
@@ -54,7 +54,7 @@ fn put_section(
     locals: SectionLocals,
     body: &[Statement],
 ) -> Result<SectionEntry, AllocError>
-    ensures { IfOk result (λ entry. PutsSection generator.old generator.new code.old code.new prints.old.items prints.new.items (record { place = length code.old; given = locals.given.items; yielding = locals.yielding; others = locals.others.items }) (view_body body.now) entry) }
+    ensures { IfOk result (λ entry. HasPutSection generator.old generator.new code.old code.new prints.old.items prints.new.items (record { place = length code.old; given = locals.given.items; yielding = locals.yielding; others = locals.others.items }) (view_body body.now) entry) }
 {
     let SectionLocals {
         given,
@@ -81,7 +81,7 @@ fn put_main(
     code: &mut Piece,
     prints: &mut Vec<Lines>,
 ) -> Result<SectionEntry, AllocError>
-    ensures { IfOk result (λ entry. PutsSection generator.old generator.new code.old code.new prints.old.items prints.new.items (record { place = length code.old; given = []; yielding = 0; others = generator.old.program.now.locals.items }) (view_body generator.old.program.now.main.items) entry) }
+    ensures { IfOk result (λ entry. HasPutSection generator.old generator.new code.old code.new prints.old.items prints.new.items (record { place = length code.old; given = []; yielding = 0; others = generator.old.program.now.locals.items }) (view_body generator.old.program.now.main.items) entry) }
 {
     let program = generator.program;
     let others = Vec::from_slice(generator.alloc, &program.locals)?;
@@ -101,7 +101,7 @@ fn put_routine(
     prints: &mut Vec<Lines>,
     routine: &Routine,
 ) -> Result<SectionEntry, AllocError>
-    ensures { IfOk result (λ entry. PutsSection generator.old generator.new code.old code.new prints.old.items prints.new.items (routine_entry (length code.old) (view_routine routine.now)) (view_routine routine.now).body entry) }
+    ensures { IfOk result (λ entry. HasPutSection generator.old generator.new code.old code.new prints.old.items prints.new.items (routine_entry (length code.old) (view_routine routine.now)) (view_routine routine.now).body entry) }
 {
     let given = Vec::from_slice(generator.alloc, &routine.given)?;
     let others = joined(generator.alloc, &routine.yielding, &routine.others)?;
@@ -121,7 +121,7 @@ fn put_event(
     prints: &mut Vec<Lines>,
     event: &Event,
 ) -> Result<SectionEntry, AllocError>
-    ensures { IfOk result (λ entry. PutsSection generator.old generator.new code.old code.new prints.old.items prints.new.items (event_entry (length code.old) (view_event event.now)) (view_event event.now).body entry) }
+    ensures { IfOk result (λ entry. HasPutSection generator.old generator.new code.old code.new prints.old.items prints.new.items (event_entry (length code.old) (view_event event.now)) (view_event event.now).body entry) }
 {
     let given = Vec::from_slice(generator.alloc, &event.given)?;
     let others = Vec::from_slice(generator.alloc, &event.others)?;
@@ -147,7 +147,7 @@ fn put_routines(
     code: &mut Piece,
     prints: &mut Vec<Lines>,
 ) -> Result<Vec<SectionEntry>, AllocError>
-    ensures { IfOk result (λ entries. PutsRoutines generator.old generator.new code.old code.new prints.old.items prints.new.items (map view_routine generator.old.program.now.routines.items) entries.items) }
+    ensures { IfOk result (λ entries. HasPutRoutines generator.old generator.new code.old code.new prints.old.items prints.new.items (map view_routine generator.old.program.now.routines.items) entries.items) }
 {
     let program = generator.program;
     let mut entries = Vec::new(generator.alloc);
@@ -164,7 +164,7 @@ fn put_events(
     code: &mut Piece,
     prints: &mut Vec<Lines>,
 ) -> Result<Vec<SectionEntry>, AllocError>
-    ensures { IfOk result (λ entries. PutsEvents generator.old generator.new code.old code.new prints.old.items prints.new.items (map view_event generator.old.program.now.events.items) entries.items) }
+    ensures { IfOk result (λ entries. HasPutEvents generator.old generator.new code.old code.new prints.old.items prints.new.items (map view_event generator.old.program.now.events.items) entries.items) }
 {
     let program = generator.program;
     let mut entries = Vec::new(generator.alloc);
@@ -186,7 +186,7 @@ fn with_cells(variables: usize, depth: usize) -> Result<usize, AllocError>
 
 // The frame of a section gets room for as many cells as any frame has.
 fn deepen(entry: &mut SectionEntry, depth: usize) -> Result<(), AllocError>
-    ensures { OnOk result (Deepened depth entry.old entry.new) }
+    ensures { OnOk result (IsDeepened depth entry.old entry.new) }
 {
     entry.room = with_cells(entry.room, depth)?;
     Ok(())
@@ -194,7 +194,7 @@ fn deepen(entry: &mut SectionEntry, depth: usize) -> Result<(), AllocError>
 
 // And so the frames of all.
 fn deepen_all(entries: &mut Vec<SectionEntry>, depth: usize) -> Result<(), AllocError>
-    ensures { OnOk result (AllDeepened depth entries.old.items entries.new.items) }
+    ensures { OnOk result (AreAllDeepened depth entries.old.items entries.new.items) }
 {
     for i in 0..entries.len() {
         deepen(&mut entries[i], depth)?;
@@ -210,9 +210,9 @@ fn sections_of(
     mut events: Vec<SectionEntry>,
 ) -> Result<Sections, AllocError>
     ensures depth { IfOk result (λ made. made.depth ≡ depth) }
-    ensures main { IfOk result (λ made. Deepened depth main made.main) }
-    ensures routines { IfOk result (λ made. AllDeepened depth routines.items made.routines.items) }
-    ensures events { IfOk result (λ made. AllDeepened depth events.items made.events.items) }
+    ensures main { IfOk result (λ made. IsDeepened depth main made.main) }
+    ensures routines { IfOk result (λ made. AreAllDeepened depth routines.items made.routines.items) }
+    ensures events { IfOk result (λ made. AreAllDeepened depth events.items made.events.items) }
 {
     deepen(&mut main, depth)?;
     deepen_all(&mut routines, depth)?;
@@ -264,10 +264,10 @@ fn text_of(alloc: Global, code: Piece) -> Result<Text, AllocError>
 
 // The code of a program that is well typed.
 fn made(alloc: Global, program: &Program) -> Result<Code, CodeError>
-    requires typed { WellTyped (view_program program.now) }
+    requires typed { IsWellTyped (view_program program.now) }
     ensures code { IfOk result (λ code. IsFor (view_program program.now) code) }
-    ensures behaves { IfOk result (λ code. Behaves (view_program program.now) (code_of (view_program program.now))) }
-    ensures lands { IfOk result (λ code. Lands (code_of (view_program program.now))) }
+    ensures behaves { IfOk result (λ code. IsFaithful (view_program program.now) (code_of (view_program program.now))) }
+    ensures lands { IfOk result (λ code. HasLandings (code_of (view_program program.now))) }
     ensures limit { IfOk result (λ code. length code.run.instructions ≤ most_instructions) }
     ensures too_long { result ≡ Err CodeError.CodeTooLong → most_instructions < length (code_of (view_program program.now)).places }
     ensures small { nodes (view_program program.now) ≤ small_program → result ≡ Err CodeError.CodeTooLong → ⊥ }
@@ -300,8 +300,8 @@ fn made(alloc: Global, program: &Program) -> Result<Code, CodeError>
 /// with 2^32 variables, constants or cells is answered `Memory` too. No text has so many.
 pub fn generate(alloc: Global, checked: &Checked) -> Result<Code, CodeError>
     ensures code { IfOk result (λ code. IsFor (view_program (checked_program checked.now)) code) }
-    ensures behaves { IfOk result (λ code. Behaves (view_program (checked_program checked.now)) (code_of (view_program (checked_program checked.now)))) }
-    ensures lands { IfOk result (λ code. Lands (code_of (view_program (checked_program checked.now)))) }
+    ensures behaves { IfOk result (λ code. IsFaithful (view_program (checked_program checked.now)) (code_of (view_program (checked_program checked.now)))) }
+    ensures lands { IfOk result (λ code. HasLandings (code_of (view_program (checked_program checked.now)))) }
     ensures limit { IfOk result (λ code. length code.run.instructions ≤ most_instructions) }
     ensures too_long { result ≡ Err CodeError.CodeTooLong → most_instructions < length (code_of (view_program (checked_program checked.now))).places }
     ensures small { nodes (view_program (checked_program checked.now)) ≤ small_program → result ≡ Err CodeError.CodeTooLong → ⊥ }

@@ -16,7 +16,7 @@ use Rattle.ss_code_instructions.specs.Carried.{mode_here}
 use Rattle.ss_code_generator.specs.declared.targets.VariableSpot.{VariableSpot}
 use Rattle.ss_code_generator.specs.declared.targets.AttributeSpot.{AttributeSpot}
 use Rattle.ss_code_instructions.specs.Forms.{moving, storing}
-use Rattle.ss_code_generator.specs.Emitted.{Final, Shown, Runs, AtOperand}
+use Rattle.ss_code_generator.specs.Emitted.{Final, HasPrintModes, IsRunBy, IsSiteOperand}
 use Rattle.ss_code_generator.specs.Spots.{IsWatchedAs, IsVariable, IsAttribute, landing, landed_code}
 use Rattle.ss_code_generator.proofs.Forms as forms
 use Rattle.ss_code_generator.proofs.Modes.{has_field}
@@ -46,14 +46,14 @@ pub kept_at : (t u : Site) (x : Variable) (b : Bool) → t.scope ≡ u.scope →
 kept_at t u x b same e = sym (ap (λ (s : TypedScope). is_kept (record { scope = s; line = u.line; cells = u.cells }) x) same) ∙ e
 
 -- a Move
-pub move_runs : (f : Final) (t u : Site) (x : Variable) (y : Operand) (s : VariableSpot) (from : Address) → IsVariable t x s → s.watched ≡ None → t.scope ≡ u.scope → AtOperand f u y from → mode_here (code_of f.program) f.constants (place u (assignment u x y)) y ≡ Some s.mode → height u ≤ f.depth → Runs f (place u (assignment u x y)) (moving s.mode from s.address)
+pub move_runs : (f : Final) (t u : Site) (x : Variable) (y : Operand) (s : VariableSpot) (from : Address) → IsVariable t x s → s.watched ≡ None → t.scope ≡ u.scope → IsSiteOperand f u y from → mode_here (code_of f.program) f.constants (place u (assignment u x y)) y ≡ Some s.mode → height u ≤ f.depth → IsRunBy f (place u (assignment u x y)) (moving s.mode from s.address)
 move_runs f t u x y s from v watched same at mode deep =
     let w : is_kept t x ≡ false = subst (IsWatchedAs (is_kept t x) x) watched v.watched in
     let e : assignment u x y ≡ i.Move y (Into x) = assignment_plain u x y (kept_at t u x false same w) in
     record {
       carries = forms.moves (code_of f.program) f.constants (place u (assignment u x y)) s.mode from s.address (y, at, (mode, (Into x, v.at, e)));
       deep = deep;
-      shown = subst (Shown f.prints u.cells) (sym e) tt;
+      shown = subst (HasPrintModes f.prints u.cells) (sym e) tt;
     }
 
 -- ## Attributes
@@ -64,7 +64,7 @@ module _ (f : Final) (t u : Site) (class field : ℕ) (e : Expression) (s : Attr
   noted_says = is.noted ∙ ap (λ (p : Program). watch p.statistics (OfAttribute class field)) program
 
   -- what is stored is stored in an attribute of its mode
-  pub store_runs : (z y : Operand) (from : Address) (m : Mode) → field_mode f.program class field ≡ Some m → (m ≡ Alpha → watch f.program.statistics (OfAttribute class field) ≡ false) → AtOperand f u z s.entity → AtOperand f u y from → height u ≤ f.depth → Runs f (place u (i.SetAttribute class field z y)) (storing m class field s.entity from s.is_watched)
+  pub store_runs : (z y : Operand) (from : Address) (m : Mode) → field_mode f.program class field ≡ Some m → (m ≡ Alpha → watch f.program.statistics (OfAttribute class field) ≡ false) → IsSiteOperand f u z s.entity → IsSiteOperand f u y from → height u ≤ f.depth → IsRunBy f (place u (i.SetAttribute class field z y)) (storing m class field s.entity from s.is_watched)
   store_runs z y from m there plain entity at deep =
       let x : Placed = place u (i.SetAttribute class field z y) in
       record {

@@ -7,20 +7,20 @@ use Rattle.ss_base.specs.declared.layout.Mode.{Mode}
 use Rattle.ss_base.specs.declared.layout.Mode.TheVariants.{Integer}
 use Rattle.ss_program.specs.Program as p
 use Rattle.ss_program.specs.Program.{Expression, Place}
-use Rattle.ss_program.specs.WellTyped.{TypedScope, HasMode, HaveModes, TakesMode, Good}
+use Rattle.ss_program.specs.WellTyped.{TypedScope, HasMode, HaveModes, CanTakeMode, IsTypedStatement}
 use Rattle.ss_code_instructions.specs.declared.instruction.Instruction.{Instruction as Running}
 use Rattle.ss_code_instructions.specs.declared.instruction.Instruction.TheVariants as r
 use Rattle.ss_code_instructions.specs.Instructions.{Operand, Placed}
 use Rattle.ss_code_instructions.specs.Instructions as i
 use Rattle.ss_code_instructions.specs.Translation.{Site, height, place, operand, operand_code, after, with_operand, values_code, after_values, with_results, give_code, gives_code, code_of}
-use Rattle.ss_code_instructions.specs.Carried.{OperandAt, Carries}
+use Rattle.ss_code_instructions.specs.Carried.{IsOperandAt, IsCarriedOut}
 use Rattle.ss_code_instructions.proofs.Stacked.{values_high}
 use Rattle.ss_code_generator.specs.declared.expressions.Operand.{Operand as Read}
 use Rattle.ss_code_generator.specs.declared.generator.Generator.{Generator}
 use Rattle.ss_code_generator.specs.declared.generator.Site.{Site as Here}
 use Rattle.ss_code_pieces.specs.Lined.{Lined, on_line}
-use Rattle.ss_code_generator.specs.Emitted.{Final, Around, Shown, Emits, Typed, ReadsOperand}
-use Rattle.ss_code_generator.specs.Spots.{GoodPlace}
+use Rattle.ss_code_generator.specs.Emitted.{Final, IsAround, HasPrintModes, HasEmitted, IsTyped, HasReadOperand}
+use Rattle.ss_code_generator.specs.Spots.{IsTypedPlace}
 use Rattle.ss_code_generator.proofs.Emitting.{around_old, grows_then, stands_old, stands_above, adds_then, adds_one, adds_same}
 
 -- ## What is yielded
@@ -60,10 +60,10 @@ every_at P (y ∷ xs) zero x e h = let same : y ≡ x = cc in subst P same h.0
 every_at P (y ∷ xs) (suc k) x e h = every_at P xs k x e h.1
 
 abbrev pub GoodPlaces : List Place → TypedScope → Type 0
-GoodPlaces ps s = Every (λ (p : Place). GoodPlace p s) ps
+GoodPlaces ps s = Every (λ (p : Place). IsTypedPlace p s) ps
 
 -- one place more, where the frame has room for all
-pub gives_more : (g0 g1 g2 : Generator) (x y z : Lined) (here lower : Here) (ps : List Place) (k count : ℕ) (p : Place) → slice_get ps k ≡ Some p → count ≡ length ps → k < count → lower.line ≡ here.line → (here.height + (count - 1 - k) < 2 ^ 64 → lower.height ≡ here.height + (count - 1 - k)) → ((f : Final) → Around f g1 → here.height + count ≤ f.depth) → Emits g0 g1 x y here (GoodPlaces ps) (λ t. gives_front t k ps) → Emits g1 g2 y z lower (GoodPlace p) (λ t. give_code t p) → Emits g0 g2 x z here (GoodPlaces ps) (λ t. gives_front t (k + 1) ps)
+pub gives_more : (g0 g1 g2 : Generator) (x y z : Lined) (here lower : Here) (ps : List Place) (k count : ℕ) (p : Place) → slice_get ps k ≡ Some p → count ≡ length ps → k < count → lower.line ≡ here.line → (here.height + (count - 1 - k) < 2 ^ 64 → lower.height ≡ here.height + (count - 1 - k)) → ((f : Final) → IsAround f g1 → here.height + count ≤ f.depth) → HasEmitted g0 g1 x y here (GoodPlaces ps) (λ t. gives_front t k ps) → HasEmitted g1 g2 y z lower (IsTypedPlace p) (λ t. give_code t p) → HasEmitted g0 g2 x z here (GoodPlaces ps) (λ t. gives_front t (k + 1) ps)
 gives_more g0 g1 g2 x y z here lower ps k count p is all below line up room m n = record {
   grows = grows_then g0 g1 g2 m.grows n.grows;
   adds = λ f t u around located good.
@@ -75,11 +75,11 @@ gives_more g0 g1 g2 x y z here lower ps k count p is all below line up room m n 
       let next : suc k ≡ k + 1 = omega arith in
       let last : List Placed = give_code v p in
       adds_same f x z (gives_front t k ps ++ last) (gives_front t (k + 1) ps) (sym (front_more t ps k p is) ∙ ap (λ n. gives_front t n ps) next)
-      (adds_then f x y z (gives_front t k ps) last (m.adds f t tt mine (stands_old f g1 g2 here t n.grows located) good) (n.adds f v tt around there (every_at (λ (p : Place). GoodPlace p t.scope) ps k p is good)));
+      (adds_then f x y z (gives_front t k ps) last (m.adds f t tt mine (stands_old f g1 g2 here t n.grows located) good) (n.adds f v tt around there (every_at (λ (p : Place). IsTypedPlace p t.scope) ps k p is good)));
   more = λ f t u around located good. tt;
 }
 
-pub gives_all : (g0 g1 : Generator) (x y : Lined) (here : Here) (ps : List Place) (n : ℕ) → n ≡ length ps → Emits g0 g1 x y here (GoodPlaces ps) (λ t. gives_front t n ps) → Emits g0 g1 x y here (GoodPlaces ps) (λ t. gives_code t ps)
+pub gives_all : (g0 g1 : Generator) (x y : Lined) (here : Here) (ps : List Place) (n : ℕ) → n ≡ length ps → HasEmitted g0 g1 x y here (GoodPlaces ps) (λ t. gives_front t n ps) → HasEmitted g0 g1 x y here (GoodPlaces ps) (λ t. gives_code t ps)
 gives_all g0 g1 x y here ps n e m = record {
   grows = m.grows;
   adds = λ f t u around located good. adds_same f x y (gives_front t n ps) (gives_code t ps) (ap (λ k. gives_front t k ps) e ∙ front_all t ps) (m.adds f t tt around located good);
@@ -88,25 +88,25 @@ gives_all g0 g1 x y here ps n e m = record {
 
 -- ## CALL
 
-all_typed : (s : TypedScope) (es : List Expression) (ms : List Mode) → HaveModes s es ms → Every (λ (e : Expression). Typed e s) es
+all_typed : (s : TypedScope) (es : List Expression) (ms : List Mode) → HaveModes s es ms → Every (λ (e : Expression). IsTyped e s) es
 all_typed s [] [] h = tt
 all_typed s [] (m ∷ ms) h = absurd h
 all_typed s (e ∷ es) [] h = absurd h
 all_typed s (e ∷ es) (m ∷ ms) h = ((m, h.0), all_typed s es ms h.1)
 
-all_taken : (s : TypedScope) (ps : List Place) (ms : List Mode) → AllZip (TakesMode s) ps ms → GoodPlaces ps s
+all_taken : (s : TypedScope) (ps : List Place) (ms : List Mode) → AllZip (CanTakeMode s) ps ms → GoodPlaces ps s
 all_taken s [] [] h = tt
 all_taken s [] (m ∷ ms) h = absurd h
 all_taken s (p ∷ ps) [] h = absurd h
 all_taken s (p ∷ ps) (m ∷ ms) h = ((m, h.0), all_taken s ps ms h.1)
 
-pub called : (g0 g1 g2 : Generator) (x y z w : Lined) (here : Here) (l : Line) (routine cell : ℕ) (es : List Expression) (ps : List Place) → Emits g0 g1 x y here (λ s. Every (λ (e : Expression). Typed e s) es) (λ t. values_code t es) → here.height + length es ≤ g1.deepest → cell ≡ length g1.locals.items + here.height → z ≡ y ++ on_line here.line (r.Call routine cell) ∷ [] → Emits g1 g2 z w here (GoodPlaces ps) (λ t. gives_code t ps) → Emits g0 g2 x w here (λ s. Good s (p.Call l routine es ps)) (λ t. values_code t es ++ place (after_values t es) (i.Call routine (height t)) ∷ gives_code t ps)
+pub called : (g0 g1 g2 : Generator) (x y z w : Lined) (here : Here) (l : Line) (routine cell : ℕ) (es : List Expression) (ps : List Place) → HasEmitted g0 g1 x y here (λ s. Every (λ (e : Expression). IsTyped e s) es) (λ t. values_code t es) → here.height + length es ≤ g1.deepest → cell ≡ length g1.locals.items + here.height → z ≡ y ++ on_line here.line (r.Call routine cell) ∷ [] → HasEmitted g1 g2 z w here (GoodPlaces ps) (λ t. gives_code t ps) → HasEmitted g0 g2 x w here (λ s. IsTypedStatement s (p.Call l routine es ps)) (λ t. values_code t es ++ place (after_values t es) (i.Call routine (height t)) ∷ gives_code t ps)
 called g0 g1 g2 x y z w here l routine cell es ps m room at is n = record {
   grows = grows_then g0 g1 g2 m.grows n.grows;
   adds = λ f t u around located good.
       let mine = around_old f g1 g2 n.grows around in
       let there = stands_old f g1 g2 here t n.grows located in
-      let good' : Good t.scope (p.Call l routine es ps) = good in
+      let good' : IsTypedStatement t.scope (p.Call l routine es ps) = good in
       let v : Site = after_values t es in
       let long : height v ≡ length es + height t = values_high t.scope es t.cells in
       let deep : height v ≤ f.depth = omega (arith, long, located.high, room, mine.depth) in
@@ -123,11 +123,11 @@ called g0 g1 g2 x y z w here l routine cell es ps m room at is n = record {
 -- ## One operand
 
 -- an operand, and an instruction of its address alone
-pub of_one : (g0 g1 : Generator) (x y z : Lined) (here : Here) (e : Expression) (o : Read) (Fits : TypedScope → Type 0) (make : Operand → i.Instruction) (run : Running) → ReadsOperand g0 g1 x y here e o → z ≡ y ++ on_line here.line run ∷ [] → ((s : TypedScope) → Fits s → HasMode s e Integer) → ((f : Final) (t : Site) → OperandAt (code_of f.program) f.constants (place (after t e) (make (operand t e))) (operand t e) o.address → Carries (code_of f.program) f.constants (place (after t e) (make (operand t e))) run) → ((f : Final) (t : Site) → Shown f.prints (after t e).cells (make (operand t e))) → Emits g0 g1 x z here Fits (λ t. with_operand t e make)
+pub of_one : (g0 g1 : Generator) (x y z : Lined) (here : Here) (e : Expression) (o : Read) (Fits : TypedScope → Type 0) (make : Operand → i.Instruction) (run : Running) → HasReadOperand g0 g1 x y here e o → z ≡ y ++ on_line here.line run ∷ [] → ((s : TypedScope) → Fits s → HasMode s e Integer) → ((f : Final) (t : Site) → IsOperandAt (code_of f.program) f.constants (place (after t e) (make (operand t e))) (operand t e) o.address → IsCarriedOut (code_of f.program) f.constants (place (after t e) (make (operand t e))) run) → ((f : Final) (t : Site) → HasPrintModes f.prints (after t e).cells (make (operand t e))) → HasEmitted g0 g1 x z here Fits (λ t. with_operand t e make)
 of_one g0 g1 x y z here e o Fits make run m is fits carries shown = record {
   grows = m.grows;
   adds = λ f t u around located good.
-      let typed : Typed e t.scope = (Integer, fits t.scope good) in
+      let typed : IsTyped e t.scope = (Integer, fits t.scope good) in
       let read = m.more f t tt around located typed in
       let ins : Placed = place (after t e) (make (operand t e)) in
       adds_then f x y z (operand_code t e) (ins ∷ []) (m.adds f t tt around located typed)

@@ -10,11 +10,11 @@ use Rattle.ss_code_instructions.specs.Translation.{Site, height}
 use Rattle.ss_code_generator.specs.declared.generator.Generator.{Generator}
 use Rattle.ss_code_generator.specs.declared.generator.Site.{Site as Here}
 use Rattle.ss_code_pieces.specs.Lined.{Lined, no_code, on_line}
-use Rattle.ss_code_generator.specs.Emitted.{Final, Around, Grows, IsLocated, Runs, AllRun, Adds, Generates}
+use Rattle.ss_code_generator.specs.Emitted.{Final, IsAround, HasGrown, IsLocated, IsRunBy, AreAllRun, HasAdded, HasGenerated}
 
 -- ## What is around more is around less
 
-pub around_old : (f : Final) (old new : Generator) → Grows old new → Around f new → Around f old
+pub around_old : (f : Final) (old new : Generator) → HasGrown old new → IsAround f new → IsAround f old
 around_old f old new g a = record {
   program = sym (ap view_program g.program) ∙ a.program;
   typed = a.typed;
@@ -27,10 +27,10 @@ around_old f old new g a = record {
   small = a.small;
 }
 
-pub grows_same : (g : Generator) → Grows g g
+pub grows_same : (g : Generator) → HasGrown g g
 grows_same g = record { program = refl; locals = refl; constants = ([], sym (append-nil g.constants.items)); depth = omega arith }
 
-pub grows_then : (old mid new : Generator) → Grows old mid → Grows mid new → Grows old new
+pub grows_then : (old mid new : Generator) → HasGrown old mid → HasGrown mid new → HasGrown old new
 grows_then old mid new g h = record {
   program = h.program ∙ g.program;
   locals = h.locals ∙ g.locals;
@@ -41,10 +41,10 @@ grows_then old mid new g h = record {
   depth = omega (arith, g.depth, h.depth);
 }
 
-pub stands_old : (f : Final) (old new : Generator) (here : Here) (t : Site) → Grows old new → IsLocated f new here t → IsLocated f old here t
+pub stands_old : (f : Final) (old new : Generator) (here : Here) (t : Site) → HasGrown old new → IsLocated f new here t → IsLocated f old here t
 stands_old f old new here t g s = record { program = s.program; locals = s.locals ∙ g.locals; line = s.line; high = s.high; deep = s.deep }
 
-pub stands_new : (f : Final) (old new : Generator) (here : Here) (t : Site) → Grows old new → IsLocated f old here t → IsLocated f new here t
+pub stands_new : (f : Final) (old new : Generator) (here : Here) (t : Site) → HasGrown old new → IsLocated f old here t → IsLocated f new here t
 stands_new f old new here t g s = record { program = s.program; locals = s.locals ∙ sym g.locals; line = s.line; high = s.high; deep = s.deep }
 
 -- a site in the same section with so many cells more
@@ -61,22 +61,22 @@ stands_above f g here higher t u k small s line above scope same high deep =
 
 -- ## Pieces
 
-pub runs_both : (f : Final) (c d : List Placed) (is js : Lined) → AllRun f c is → AllRun f d js → AllRun f (c ++ d) (is ++ js)
+pub runs_both : (f : Final) (c d : List Placed) (is js : Lined) → AreAllRun f c is → AreAllRun f d js → AreAllRun f (c ++ d) (is ++ js)
 runs_both f [] d [] js h k = k
 runs_both f [] d (i ∷ is) js h k = absurd h
 runs_both f (x ∷ c) d [] js h k = absurd h
 runs_both f (x ∷ c) d (i ∷ is) js h k = (h.0, h.1, runs_both f c d is js h.2 k)
 
-pub runs_long : (f : Final) (c : List Placed) (is : Lined) → AllRun f c is → length is ≡ length c
+pub runs_long : (f : Final) (c : List Placed) (is : Lined) → AreAllRun f c is → length is ≡ length c
 runs_long f [] [] h = refl
 runs_long f [] (i ∷ is) h = absurd h
 runs_long f (x ∷ c) [] h = absurd h
 runs_long f (x ∷ c) (i ∷ is) h = ap suc (runs_long f c is h.2)
 
-pub adds_none : (f : Final) (p : Lined) → Adds f p p []
+pub adds_none : (f : Final) (p : Lined) → HasAdded f p p []
 adds_none f p = record { more = []; added = sym (append-nil p); run = tt }
 
-pub adds_then : (f : Final) (a b c : Lined) (xs ys : List Placed) → Adds f a b xs → Adds f b c ys → Adds f a c (xs ++ ys)
+pub adds_then : (f : Final) (a b c : Lined) (xs ys : List Placed) → HasAdded f a b xs → HasAdded f b c ys → HasAdded f a c (xs ++ ys)
 adds_then f a b c xs ys h k = record {
   more = h.more ++ k.more;
   added = k.added ∙ ap (λ (l : Lined). l ++ k.more) h.added ∙ append_assoc a h.more k.more;
@@ -84,35 +84,35 @@ adds_then f a b c xs ys h k = record {
 }
 
 -- one instruction more
-pub adds_one : (f : Final) (a b : Lined) (l : Line) (x : Placed) (y : Running) → b ≡ a ++ on_line l y ∷ [] → x.line ≡ l → Runs f x y → Adds f a b (x ∷ [])
+pub adds_one : (f : Final) (a b : Lined) (l : Line) (x : Placed) (y : Running) → b ≡ a ++ on_line l y ∷ [] → x.line ≡ l → IsRunBy f x y → HasAdded f a b (x ∷ [])
 adds_one f a b l x y is same r = record { more = on_line l y ∷ []; added = is; run = (sym same, r, tt) }
 
 -- a piece that was made apart goes after another one, or before
-pub adds_piece : (f : Final) (a b p : Lined) (c : List Placed) → b ≡ a ++ p → Adds f no_code p c → Adds f a b c
+pub adds_piece : (f : Final) (a b p : Lined) (c : List Placed) → b ≡ a ++ p → HasAdded f no_code p c → HasAdded f a b c
 adds_piece f a b p c is h = record { more = h.more; added = is ∙ ap (λ (l : Lined). a ++ l) h.added; run = h.run }
 
 -- two pieces that were made apart
-pub adds_apart : (f : Final) (p q r : Lined) (c d : List Placed) → r ≡ p ++ q → Adds f no_code p c → Adds f no_code q d → Adds f no_code r (c ++ d)
+pub adds_apart : (f : Final) (p q r : Lined) (c d : List Placed) → r ≡ p ++ q → HasAdded f no_code p c → HasAdded f no_code q d → HasAdded f no_code r (c ++ d)
 adds_apart f p q r c d is h k = adds_then f no_code p r c d h (adds_piece f p r q d is k)
 
-pub piece_long : (f : Final) (p : Lined) (c : List Placed) → Adds f no_code p c → length p ≡ length c
+pub piece_long : (f : Final) (p : Lined) (c : List Placed) → HasAdded f no_code p c → length p ≡ length c
 piece_long f p c h = ap length h.added ∙ runs_long f c h.more h.run
 
 -- a piece without instructions is that of no place
-pub none_there : (f : Final) (p : Lined) (c : List Placed) → Adds f no_code p c → length p ≡ 0 → c ≡ []
+pub none_there : (f : Final) (p : Lined) (c : List Placed) → HasAdded f no_code p c → length p ≡ 0 → c ≡ []
 none_there f p [] h e = refl
 none_there f p (x ∷ c) h e = absurd (omega (arith, e, piece_long f p (x ∷ c) h))
 
 -- what was added, for another code that is the same
-pub adds_same : (f : Final) (a b : Lined) (c d : List Placed) → c ≡ d → Adds f a b c → Adds f a b d
-adds_same f a b c d e h = subst (Adds f a b) e h
+pub adds_same : (f : Final) (a b : Lined) (c d : List Placed) → c ≡ d → HasAdded f a b c → HasAdded f a b d
+adds_same f a b c d e h = subst (HasAdded f a b) e h
 
 -- ## What was made, from an earlier generator on and up to a later one
 
-pub makes_earlier : {I : Type 0} (older old new : Generator) (p q : Lined) (here : Here) (Fit : Final → Site → I → Type 0) (c : Site → I → List Placed) (More : Final → Site → I → Type 0) → Grows older old → Generates old new p q here Fit c More → Generates older new p q here Fit c More
+pub makes_earlier : {I : Type 0} (older old new : Generator) (p q : Lined) (here : Here) (Fit : Final → Site → I → Type 0) (c : Site → I → List Placed) (More : Final → Site → I → Type 0) → HasGrown older old → HasGenerated old new p q here Fit c More → HasGenerated older new p q here Fit c More
 makes_earlier older old new p q here Fit c More g m = record { grows = grows_then older old new g m.grows; adds = m.adds; more = m.more }
 
-pub makes_later : {I : Type 0} (old new newer : Generator) (p q : Lined) (here : Here) (Fit : Final → Site → I → Type 0) (c : Site → I → List Placed) (More : Final → Site → I → Type 0) → Grows new newer → Generates old new p q here Fit c More → Generates old newer p q here Fit c More
+pub makes_later : {I : Type 0} (old new newer : Generator) (p q : Lined) (here : Here) (Fit : Final → Site → I → Type 0) (c : Site → I → List Placed) (More : Final → Site → I → Type 0) → HasGrown new newer → HasGenerated old new p q here Fit c More → HasGenerated old newer p q here Fit c More
 makes_later old new newer p q here Fit c More g m = record {
   grows = grows_then old new newer m.grows g;
   adds = λ f t i around located fits. m.adds f t i (around_old f new newer g around) (stands_old f new newer here t g located) fits;

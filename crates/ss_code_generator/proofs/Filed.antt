@@ -5,14 +5,14 @@ use Rattle.ss_base.specs.declared.layout.Mode.TheVariants.{Integer}
 use Rattle.ss_program.specs.declared.sections.Subject.TheVariants.{OfCount}
 use Rattle.ss_program.specs.Program.{Program, Expression, SetOwner, ByDiscipline, AsFirst, AsLast, BeforeMember, AfterMember, File, Member}
 use Rattle.ss_program.specs.View.{view_program}
-use Rattle.ss_program.specs.WellTyped.{OwnerFits, GoodTest, Good}
+use Rattle.ss_program.specs.WellTyped.{IsTypedOwner, IsTypedTest, IsTypedStatement}
 use Rattle.ss_code_instructions.specs.declared.instruction.Instruction.{Instruction as Running}
 use Rattle.ss_code_instructions.specs.declared.instruction.Instruction.TheVariants as r
 use Rattle.ss_code_instructions.specs.Facts.{watch, expression_of, may_fault}
 use Rattle.ss_code_instructions.specs.Instructions.{Operand, Bearer, FilingPlace, Instruction}
 use Rattle.ss_code_instructions.specs.Instructions as i
 use Rattle.ss_code_instructions.specs.Translation.{Site, place, operand, after, stay, bearer, bearer_code, after_bearer, with_owner, member_code, file_code, remove_code, test_code, filing_by, code_of}
-use Rattle.ss_code_instructions.specs.Carried.{Carries}
+use Rattle.ss_code_instructions.specs.Carried.{IsCarriedOut}
 use Rattle.ss_code_pieces.specs.declared.facts.Ordering.{Ordering}
 use Rattle.ss_code_pieces.specs.declared.facts.Ordering.TheVariants as orderings
 use Rattle.ss_code_generator.specs.declared.expressions.Operand.{Operand as Read}
@@ -21,25 +21,25 @@ use Rattle.ss_code_generator.specs.declared.generator.Site.{Site as Here}
 use Rattle.ss_code_pieces.specs.Lined.{Lined, on_line}
 use Rattle.ss_code_pieces.specs.Preamble.{filing_of}
 use Rattle.ss_code_generator.specs.Filings.{filing_instruction}
-use Rattle.ss_code_generator.specs.Emitted.{Final, Around, Shown, Emits, AtOperand, AtBearer, IsInteger, ReadsOperand, ReadsBy, Bears}
+use Rattle.ss_code_generator.specs.Emitted.{Final, IsAround, HasPrintModes, HasEmitted, IsSiteOperand, IsSiteBearer, IsInteger, HasReadOperand, HasReadBy, HasBorne}
 use Rattle.ss_code_generator.proofs.Emitting.{around_old, grows_then, stands_old, adds_then, adds_one, adds_same}
 use Rattle.ss_code_generator.proofs.Forms as forms
 use Rattle.ss_code_generator.proofs.Operands.{read_stands, stays_at, looked_reads}
 use Rattle.ss_code_generator.proofs.Testing.{owner_number, emits_where}
 
 -- whether a statistic watches a set, as the generator knows it
-pub counts_noted : (f : Final) (g : Generator) (set : ℕ) (noted : Bool) → Around f g → noted ≡ watch g.program.now.statistics.items (OfCount set) → noted ≡ false → watch (code_of f.program).setting.statistics (OfCount set) ≡ false
+pub counts_noted : (f : Final) (g : Generator) (set : ℕ) (noted : Bool) → IsAround f g → noted ≡ watch g.program.now.statistics.items (OfCount set) → noted ≡ false → watch (code_of f.program).setting.statistics (OfCount set) ≡ false
 counts_noted f g set noted around e h = ap (λ (p : Program). watch (code_of p).setting.statistics (OfCount set)) (sym around.program) ∙ sym e ∙ h
 
 -- a member that is looked at
-pub member_looked : (old new : Generator) (p q v : Lined) (here : Here) (set : ℕ) (e : Expression) (o : Read) → ReadsOperand old new p q here e o → v ≡ q ++ on_line here.line (r.LookMember set o.address) ∷ [] → ReadsBy old new p v here (IsInteger e) e o (λ t. member_code t true set e)
+pub member_looked : (old new : Generator) (p q v : Lined) (here : Here) (set : ℕ) (e : Expression) (o : Read) → HasReadOperand old new p q here e o → v ≡ q ++ on_line here.line (r.LookMember set o.address) ∷ [] → HasReadBy old new p v here (IsInteger e) e o (λ t. member_code t true set e)
 member_looked old new p q v here set e o m is =
     looked_reads old new p q v here e o (IsInteger e) (λ x. i.LookMember set (stay x)) (r.LookMember set o.address) m is (λ f t around located good read.
     ((Integer, good), record { carries = (stay (operand t e), stays_at f t (operand t e) o.address read.at, refl); deep = read.deep; shown = tt }))
     (λ s h. (Integer, h))
 
 -- a member, the owner of its set, and an instruction that works on both
-pub member_works : (old mid new : Generator) (p q v s : Lined) (here higher : Here) (set : ℕ) (e : Expression) (o : SetOwner) (member owner : Read) (make : Operand → Bearer → Instruction) (y : Running) → ReadsBy old mid p q here (IsInteger e) e member (λ t. member_code t (may_fault (expression_of o)) set e) → higher.line ≡ here.line → (here.height + member.cells < 2 ^ 64 → higher.height ≡ here.height + member.cells) → Bears mid new q v higher (expression_of o) owner → s ≡ v ++ on_line here.line y ∷ [] → ((f : Final) (t : Site) → Around f new → AtOperand f (after_bearer (after t e) (expression_of o)) (operand t e) member.address → AtBearer f (after_bearer (after t e) (expression_of o)) (bearer (after t e) (expression_of o)) owner.address → Carries (code_of f.program) f.constants (place (after_bearer (after t e) (expression_of o)) (make (operand t e) (bearer (after t e) (expression_of o)))) y × Shown f.prints (after_bearer (after t e) (expression_of o)).cells (make (operand t e) (bearer (after t e) (expression_of o)))) → Emits old new p s here (λ k. IsInteger e k × OwnerFits k set o) (λ t. member_code t (may_fault (expression_of o)) set e ++ with_owner (after t e) o (make (operand t e)))
+pub member_works : (old mid new : Generator) (p q v s : Lined) (here higher : Here) (set : ℕ) (e : Expression) (o : SetOwner) (member owner : Read) (make : Operand → Bearer → Instruction) (y : Running) → HasReadBy old mid p q here (IsInteger e) e member (λ t. member_code t (may_fault (expression_of o)) set e) → higher.line ≡ here.line → (here.height + member.cells < 2 ^ 64 → higher.height ≡ here.height + member.cells) → HasBorne mid new q v higher (expression_of o) owner → s ≡ v ++ on_line here.line y ∷ [] → ((f : Final) (t : Site) → IsAround f new → IsSiteOperand f (after_bearer (after t e) (expression_of o)) (operand t e) member.address → IsSiteBearer f (after_bearer (after t e) (expression_of o)) (bearer (after t e) (expression_of o)) owner.address → IsCarriedOut (code_of f.program) f.constants (place (after_bearer (after t e) (expression_of o)) (make (operand t e) (bearer (after t e) (expression_of o)))) y × HasPrintModes f.prints (after_bearer (after t e) (expression_of o)).cells (make (operand t e) (bearer (after t e) (expression_of o)))) → HasEmitted old new p s here (λ k. IsInteger e k × IsTypedOwner k set o) (λ t. member_code t (may_fault (expression_of o)) set e ++ with_owner (after t e) o (make (operand t e)))
 member_works old mid new p q v s here higher set e o member owner make y m line above n is suits = record {
   grows = grows_then old mid new m.grows n.grows;
   adds = λ f t u around located good.
@@ -59,7 +59,7 @@ member_works old mid new p q v s here higher set e o member owner make y m line 
   more = λ f t u around located good. tt;
 }
 
-pub member_filed : (old mid new : Generator) (p q v s : Lined) (here higher : Here) (set : ℕ) (e : Expression) (o : SetOwner) (member owner : Read) (ordering : Ordering) (noted : Bool) → ReadsBy old mid p q here (IsInteger e) e member (λ t. member_code t (may_fault (expression_of o)) set e) → higher.line ≡ here.line → (here.height + member.cells < 2 ^ 64 → higher.height ≡ here.height + member.cells) → Bears mid new q v higher (expression_of o) owner → noted ≡ watch new.program.now.statistics.items (OfCount set) → s ≡ v ++ on_line here.line (filing_instruction ordering set member.address owner.address noted) ∷ [] → Emits old new p s here (λ k. IsInteger e k × OwnerFits k set o) (λ t. member_code t (may_fault (expression_of o)) set e ++ with_owner (after t e) o (i.File (filing_of ordering) set (operand t e)))
+pub member_filed : (old mid new : Generator) (p q v s : Lined) (here higher : Here) (set : ℕ) (e : Expression) (o : SetOwner) (member owner : Read) (ordering : Ordering) (noted : Bool) → HasReadBy old mid p q here (IsInteger e) e member (λ t. member_code t (may_fault (expression_of o)) set e) → higher.line ≡ here.line → (here.height + member.cells < 2 ^ 64 → higher.height ≡ here.height + member.cells) → HasBorne mid new q v higher (expression_of o) owner → noted ≡ watch new.program.now.statistics.items (OfCount set) → s ≡ v ++ on_line here.line (filing_instruction ordering set member.address owner.address noted) ∷ [] → HasEmitted old new p s here (λ k. IsInteger e k × IsTypedOwner k set o) (λ t. member_code t (may_fault (expression_of o)) set e ++ with_owner (after t e) o (i.File (filing_of ordering) set (operand t e)))
 member_filed old mid new p q v s here higher set e o member owner ordering noted m line above n watched is =
     member_works old mid new p q v s here higher set e o member owner (λ x b. i.File (filing_of ordering) set x b) (filing_instruction ordering set member.address owner.address noted) m line above n is (λ f t around at of. (
       forms.files (code_of f.program) f.constants (place (after_bearer (after t e) (expression_of o)) (i.File (filing_of ordering) set (operand t e) (bearer (after t e) (expression_of o)))) ordering set member.address owner.address noted (counts_noted f new set noted around watched)
@@ -67,32 +67,32 @@ member_filed old mid new p q v s here higher set e o member owner ordering noted
       tt,
     ))
 
-pub member_removed : (old mid new : Generator) (p q v s : Lined) (here higher : Here) (set : ℕ) (e : Expression) (o : SetOwner) (member owner : Read) (noted : Bool) → ReadsBy old mid p q here (IsInteger e) e member (λ t. member_code t (may_fault (expression_of o)) set e) → higher.line ≡ here.line → (here.height + member.cells < 2 ^ 64 → higher.height ≡ here.height + member.cells) → Bears mid new q v higher (expression_of o) owner → noted ≡ watch new.program.now.statistics.items (OfCount set) → s ≡ v ++ on_line here.line (r.Remove set member.address owner.address noted) ∷ [] → Emits old new p s here (λ k. IsInteger e k × OwnerFits k set o) (λ t. remove_code t set e o)
+pub member_removed : (old mid new : Generator) (p q v s : Lined) (here higher : Here) (set : ℕ) (e : Expression) (o : SetOwner) (member owner : Read) (noted : Bool) → HasReadBy old mid p q here (IsInteger e) e member (λ t. member_code t (may_fault (expression_of o)) set e) → higher.line ≡ here.line → (here.height + member.cells < 2 ^ 64 → higher.height ≡ here.height + member.cells) → HasBorne mid new q v higher (expression_of o) owner → noted ≡ watch new.program.now.statistics.items (OfCount set) → s ≡ v ++ on_line here.line (r.Remove set member.address owner.address noted) ∷ [] → HasEmitted old new p s here (λ k. IsInteger e k × IsTypedOwner k set o) (λ t. remove_code t set e o)
 member_removed old mid new p q v s here higher set e o member owner noted m line above n watched is =
     member_works old mid new p q v s here higher set e o member owner (λ x b. i.Remove set x b) (r.Remove set member.address owner.address noted) m line above n is (λ f t around at of.
     ((counts_noted f new set noted around watched, (operand t e, at, (bearer (after t e) (expression_of o), of, refl))), tt))
 
 -- whether an entity is in a set
-pub membership_tested : (old mid new : Generator) (p q v s : Lined) (here higher : Here) (skip : ℕ) (negated : Bool) (set : ℕ) (e : Expression) (o : SetOwner) (member owner : Read) → ReadsBy old mid p q here (IsInteger e) e member (λ t. member_code t (may_fault (expression_of o)) set e) → higher.line ≡ here.line → (here.height + member.cells < 2 ^ 64 → higher.height ≡ here.height + member.cells) → Bears mid new q v higher (expression_of o) owner → s ≡ v ++ on_line here.line (r.UnlessMember set member.address owner.address skip negated) ∷ [] → Emits old new p s here (λ k. GoodTest k (Member negated set e o)) (λ t. test_code t skip (Member negated set e o))
+pub membership_tested : (old mid new : Generator) (p q v s : Lined) (here higher : Here) (skip : ℕ) (negated : Bool) (set : ℕ) (e : Expression) (o : SetOwner) (member owner : Read) → HasReadBy old mid p q here (IsInteger e) e member (λ t. member_code t (may_fault (expression_of o)) set e) → higher.line ≡ here.line → (here.height + member.cells < 2 ^ 64 → higher.height ≡ here.height + member.cells) → HasBorne mid new q v higher (expression_of o) owner → s ≡ v ++ on_line here.line (r.UnlessMember set member.address owner.address skip negated) ∷ [] → HasEmitted old new p s here (λ k. IsTypedTest k (Member negated set e o)) (λ t. test_code t skip (Member negated set e o))
 membership_tested old mid new p q v s here higher skip negated set e o member owner m line above n is =
     member_works old mid new p q v s here higher set e o member owner (λ x b. i.UnlessMember negated set x b skip) (r.UnlessMember set member.address owner.address skip negated) m line above n is (λ f t around at of.
     ((operand t e, at, (bearer (after t e) (expression_of o), of, refl)), tt))
 
 -- where a member is filed, by what the statement says
-pub filed_by_discipline : (old new : Generator) (p q : Lined) (here : Here) (set : ℕ) (e : Expression) (o : SetOwner) (ordering : Ordering) → filing_of ordering ≡ filing_by (slice_get old.program.now.disciplines.items set) → Emits old new p q here (λ k. IsInteger e k × OwnerFits k set o) (λ t. member_code t (may_fault (expression_of o)) set e ++ with_owner (after t e) o (i.File (filing_of ordering) set (operand t e))) → Emits old new p q here (λ k. Good k (File here.line set e ByDiscipline o)) (λ t. file_code t set e ByDiscipline o)
+pub filed_by_discipline : (old new : Generator) (p q : Lined) (here : Here) (set : ℕ) (e : Expression) (o : SetOwner) (ordering : Ordering) → filing_of ordering ≡ filing_by (slice_get old.program.now.disciplines.items set) → HasEmitted old new p q here (λ k. IsInteger e k × IsTypedOwner k set o) (λ t. member_code t (may_fault (expression_of o)) set e ++ with_owner (after t e) o (i.File (filing_of ordering) set (operand t e))) → HasEmitted old new p q here (λ k. IsTypedStatement k (File here.line set e ByDiscipline o)) (λ t. file_code t set e ByDiscipline o)
 filed_by_discipline old new p q here set e o ordering by m =
-    emits_where old new p q here (λ k. IsInteger e k × OwnerFits k set o) (λ k. Good k (File here.line set e ByDiscipline o)) (λ t. member_code t (may_fault (expression_of o)) set e ++ with_owner (after t e) o (i.File (filing_of ordering) set (operand t e))) (λ t. file_code t set e ByDiscipline o) (λ k h. (h.0, h.2)) (λ f t around located.
+    emits_where old new p q here (λ k. IsInteger e k × IsTypedOwner k set o) (λ k. IsTypedStatement k (File here.line set e ByDiscipline o)) (λ t. member_code t (may_fault (expression_of o)) set e ++ with_owner (after t e) o (i.File (filing_of ordering) set (operand t e))) (λ t. file_code t set e ByDiscipline o) (λ k h. (h.0, h.2)) (λ f t around located.
     let same : filing_of ordering ≡ filing_by (slice_get t.scope.program.disciplines set) =
     by ∙ ap (λ (p : Program). filing_by (slice_get p.disciplines set)) (sym (located.program ∙ sym around.program ∙ ap view_program m.grows.program)) in
     ap (λ (k : FilingPlace). member_code t (may_fault (expression_of o)) set e ++ with_owner (after t e) o (i.File k set (operand t e))) same) m
 
-pub filed_first : (old new : Generator) (p q : Lined) (here : Here) (set : ℕ) (e : Expression) (o : SetOwner) → Emits old new p q here (λ k. IsInteger e k × OwnerFits k set o) (λ t. member_code t (may_fault (expression_of o)) set e ++ with_owner (after t e) o (i.File (filing_of orderings.First) set (operand t e))) → Emits old new p q here (λ k. Good k (File here.line set e AsFirst o)) (λ t. file_code t set e AsFirst o)
+pub filed_first : (old new : Generator) (p q : Lined) (here : Here) (set : ℕ) (e : Expression) (o : SetOwner) → HasEmitted old new p q here (λ k. IsInteger e k × IsTypedOwner k set o) (λ t. member_code t (may_fault (expression_of o)) set e ++ with_owner (after t e) o (i.File (filing_of orderings.First) set (operand t e))) → HasEmitted old new p q here (λ k. IsTypedStatement k (File here.line set e AsFirst o)) (λ t. file_code t set e AsFirst o)
 filed_first old new p q here set e o m =
-    emits_where old new p q here (λ k. IsInteger e k × OwnerFits k set o) (λ k. Good k (File here.line set e AsFirst o)) (λ t. member_code t (may_fault (expression_of o)) set e ++ with_owner (after t e) o (i.File (filing_of orderings.First) set (operand t e))) (λ t. file_code t set e AsFirst o) (λ k h. (h.0, h.2)) (λ f t around located. refl) m
+    emits_where old new p q here (λ k. IsInteger e k × IsTypedOwner k set o) (λ k. IsTypedStatement k (File here.line set e AsFirst o)) (λ t. member_code t (may_fault (expression_of o)) set e ++ with_owner (after t e) o (i.File (filing_of orderings.First) set (operand t e))) (λ t. file_code t set e AsFirst o) (λ k h. (h.0, h.2)) (λ f t around located. refl) m
 
-pub filed_last : (old new : Generator) (p q : Lined) (here : Here) (set : ℕ) (e : Expression) (o : SetOwner) → Emits old new p q here (λ k. IsInteger e k × OwnerFits k set o) (λ t. member_code t (may_fault (expression_of o)) set e ++ with_owner (after t e) o (i.File (filing_of orderings.Last) set (operand t e))) → Emits old new p q here (λ k. Good k (File here.line set e AsLast o)) (λ t. file_code t set e AsLast o)
+pub filed_last : (old new : Generator) (p q : Lined) (here : Here) (set : ℕ) (e : Expression) (o : SetOwner) → HasEmitted old new p q here (λ k. IsInteger e k × IsTypedOwner k set o) (λ t. member_code t (may_fault (expression_of o)) set e ++ with_owner (after t e) o (i.File (filing_of orderings.Last) set (operand t e))) → HasEmitted old new p q here (λ k. IsTypedStatement k (File here.line set e AsLast o)) (λ t. file_code t set e AsLast o)
 filed_last old new p q here set e o m =
-    emits_where old new p q here (λ k. IsInteger e k × OwnerFits k set o) (λ k. Good k (File here.line set e AsLast o)) (λ t. member_code t (may_fault (expression_of o)) set e ++ with_owner (after t e) o (i.File (filing_of orderings.Last) set (operand t e))) (λ t. file_code t set e AsLast o) (λ k h. (h.0, h.2)) (λ f t around located. refl) m
+    emits_where old new p q here (λ k. IsInteger e k × IsTypedOwner k set o) (λ k. IsTypedStatement k (File here.line set e AsLast o)) (λ t. member_code t (may_fault (expression_of o)) set e ++ with_owner (after t e) o (i.File (filing_of orderings.Last) set (operand t e))) (λ t. file_code t set e AsLast o) (λ k h. (h.0, h.2)) (λ f t around located. refl) m
 
 -- directly before another member, or directly after it
 abbrev next_to : (after : Bool) → Operand → FilingPlace
@@ -102,7 +102,7 @@ beside_is : (t : Site) (set : ℕ) (e beside : Expression) (o : SetOwner) (b : B
 beside_is t set e beside o true = refl
 beside_is t set e beside o false = refl
 
-pub member_beside : (old one two new : Generator) (p q v w s : Lined) (here higher highest : Here) (set : ℕ) (e beside : Expression) (o : SetOwner) (member neighbour owner : Read) (b noted : Bool) → ReadsBy old one p q here (IsInteger e) e member (λ t. member_code t true set e) → higher.line ≡ here.line → (here.height + member.cells < 2 ^ 64 → higher.height ≡ here.height + member.cells) → ReadsBy one two q v higher (IsInteger beside) beside neighbour (λ t. member_code t true set beside) → highest.line ≡ higher.line → (higher.height + neighbour.cells < 2 ^ 64 → highest.height ≡ higher.height + neighbour.cells) → Bears two new v w highest (expression_of o) owner → noted ≡ watch new.program.now.statistics.items (OfCount set) → s ≡ w ++ on_line here.line (r.FileBeside noted b set member.address neighbour.address owner.address) ∷ [] → Emits old new p s here (λ k. IsInteger e k × IsInteger beside k × OwnerFits k set o) (λ t. file_code t set e (if b then AfterMember beside else BeforeMember beside) o)
+pub member_beside : (old one two new : Generator) (p q v w s : Lined) (here higher highest : Here) (set : ℕ) (e beside : Expression) (o : SetOwner) (member neighbour owner : Read) (b noted : Bool) → HasReadBy old one p q here (IsInteger e) e member (λ t. member_code t true set e) → higher.line ≡ here.line → (here.height + member.cells < 2 ^ 64 → higher.height ≡ here.height + member.cells) → HasReadBy one two q v higher (IsInteger beside) beside neighbour (λ t. member_code t true set beside) → highest.line ≡ higher.line → (higher.height + neighbour.cells < 2 ^ 64 → highest.height ≡ higher.height + neighbour.cells) → HasBorne two new v w highest (expression_of o) owner → noted ≡ watch new.program.now.statistics.items (OfCount set) → s ≡ w ++ on_line here.line (r.FileBeside noted b set member.address neighbour.address owner.address) ∷ [] → HasEmitted old new p s here (λ k. IsInteger e k × IsInteger beside k × IsTypedOwner k set o) (λ t. file_code t set e (if b then AfterMember beside else BeforeMember beside) o)
 member_beside old one two new p q v w s here higher highest set e beside o member neighbour owner b noted m line above n line2 above2 n2 watched is =
     let late = grows_then one two new n.grows n2.grows in
     record {
@@ -123,7 +123,7 @@ member_beside old one two new p q v w s here higher highest set e beside o membe
           let borne = n2.more f t2 tt around on_top2 number in
           let ins : Instruction = i.File (next_to b (operand t1 beside)) set (operand t e) (bearer t2 c) in
           let y : Running = r.FileBeside noted b set member.address neighbour.address owner.address in
-          let carries : Carries (code_of f.program) f.constants (place t3 ins) y =
+          let carries : IsCarriedOut (code_of f.program) f.constants (place t3 ins) y =
           (counts_noted f new set noted around watched, (operand t1 beside, read2.at, (operand t e, read.at, (bearer t2 c, borne.at, refl)))) in
           adds_same f p s (member_code t true set e ++ (member_code t1 true set beside ++ (bearer_code t2 c ++ place t3 ins ∷ []))) (file_code t set e (if b then AfterMember beside else BeforeMember beside) o) (beside_is t set e beside o b)
           (adds_then f p q s (member_code t true set e) (member_code t1 true set beside ++ (bearer_code t2 c ++ place t3 ins ∷ [])) (m.adds f t tt around1 (stands_old f one new here t late located) good.0)

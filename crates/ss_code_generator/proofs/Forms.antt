@@ -18,7 +18,7 @@ use Rattle.ss_code_instructions.specs.declared.address.Address.{Address}
 use Rattle.ss_code_instructions.specs.Instructions.{Placed}
 use Rattle.ss_code_instructions.specs.Instructions as i
 use Rattle.ss_code_instructions.specs.Machine.{Code}
-use Rattle.ss_code_instructions.specs.Carried.{Carries, From, Of, To, Is, Calculates, MovesValue, Compares, ReadsAttribute, SetsAttribute, NotesIfWatched, Unwatched, FilesMember}
+use Rattle.ss_code_instructions.specs.Carried.{IsCarriedOut, HasOperand, HasBearer, HasTarget, Is, IsCalculating, IsMovingValue, IsComparing, IsReadingAttribute, IsSettingAttribute, IsNotedIfWatched, IsUnwatched, IsFilingMember}
 use Rattle.ss_code_pieces.specs.declared.facts.Ordering.{Ordering}
 use Rattle.ss_code_pieces.specs.declared.facts.Ordering.TheVariants as orderings
 use Rattle.ss_code_pieces.specs.Preamble.{filing_of}
@@ -26,7 +26,7 @@ use Rattle.ss_code_instructions.specs.Forms.{calculating, asking_set, asking_mem
 use Rattle.ss_code_generator.specs.Filings.{filing_instruction}
 
 module _ (code : Code) (constants : List Value) (x : Placed) where
-  pub calculates : (op : Operator) (left right to : Address) → Calculates code constants x op left right to → Carries code constants x (calculating op left right to)
+  pub calculates : (op : Operator) (left right to : Address) → IsCalculating code constants x op left right to → IsCarriedOut code constants x (calculating op left right to)
   calculates operators.Add left right to h = h
   calculates operators.Subtract left right to h = h
   calculates operators.Multiply left right to h = h
@@ -35,33 +35,33 @@ module _ (code : Code) (constants : List Value) (x : Placed) where
   calculates operators.Least left right to h = h
   calculates operators.Greatest left right to h = h
 
-  pub asks_set : (q : SetQuery) (set : ℕ) (owner to : Address) → Of code constants x owner (λ o. To code constants x to (λ t. Is code constants x (i.OfSet q set o t))) → Carries code constants x (asking_set q set owner to)
+  pub asks_set : (q : SetQuery) (set : ℕ) (owner to : Address) → HasBearer code constants x owner (λ o. HasTarget code constants x to (λ t. Is code constants x (i.OfSet q set o t))) → IsCarriedOut code constants x (asking_set q set owner to)
   asks_set set_queries.FirstMember set owner to h = h
   asks_set set_queries.LastMember set owner to h = h
   asks_set set_queries.MemberCount set owner to h = h
 
-  pub asks_member : (q : MemberQuery) (set : ℕ) (member to : Address) → From code constants x member (λ y. To code constants x to (λ t. Is code constants x (i.OfMember q set y t))) → Carries code constants x (asking_member q set member to)
+  pub asks_member : (q : MemberQuery) (set : ℕ) (member to : Address) → HasOperand code constants x member (λ y. HasTarget code constants x to (λ t. Is code constants x (i.OfMember q set y t))) → IsCarriedOut code constants x (asking_member q set member to)
   asks_member member_queries.Predecessor set member to h = h
   asks_member member_queries.Successor set member to h = h
   asks_member member_queries.Membership set member to h = h
 
-  pub moves : (m : Mode) (from to : Address) → MovesValue code constants x m from to → Carries code constants x (moving m from to)
+  pub moves : (m : Mode) (from to : Address) → IsMovingValue code constants x m from to → IsCarriedOut code constants x (moving m from to)
   moves modes.Integer from to h = h
   moves modes.Alpha from to h = h
 
-  pub fetches : (m : Mode) (class field : ℕ) (entity to : Address) → ReadsAttribute code constants x m class field entity to → Carries code constants x (fetching m class field entity to)
+  pub fetches : (m : Mode) (class field : ℕ) (entity to : Address) → IsReadingAttribute code constants x m class field entity to → IsCarriedOut code constants x (fetching m class field entity to)
   fetches modes.Integer class field entity to h = h
   fetches modes.Alpha class field entity to h = h
 
-  pub stores : (m : Mode) (class field : ℕ) (entity from : Address) (noted : Bool) → NotesIfWatched code constants x noted (OfAttribute class field) → (m ≡ modes.Alpha → Unwatched code constants x (OfAttribute class field)) → SetsAttribute code constants x m class field entity from → Carries code constants x (storing m class field entity from noted)
+  pub stores : (m : Mode) (class field : ℕ) (entity from : Address) (noted : Bool) → IsNotedIfWatched code constants x noted (OfAttribute class field) → (m ≡ modes.Alpha → IsUnwatched code constants x (OfAttribute class field)) → IsSettingAttribute code constants x m class field entity from → IsCarriedOut code constants x (storing m class field entity from noted)
   stores modes.Integer class field entity from noted n u h = (n, h)
   stores modes.Alpha class field entity from noted n u h = (u refl, h)
 
-  pub reads_word : (m : Mode) (to : Address) → To code constants x to (λ t. Is code constants x (i.Read m t)) → Carries code constants x (reading m to)
+  pub reads_word : (m : Mode) (to : Address) → HasTarget code constants x to (λ t. Is code constants x (i.Read m t)) → IsCarriedOut code constants x (reading m to)
   reads_word modes.Integer to h = h
   reads_word modes.Alpha to h = h
 
-  pub compares : (m : Mode) (relation : Relation) (left right : Address) (skip : ℕ) → Compares code constants x m relation left right skip → Carries code constants x (comparing m relation left right skip)
+  pub compares : (m : Mode) (relation : Relation) (left right : Address) (skip : ℕ) → IsComparing code constants x m relation left right skip → IsCarriedOut code constants x (comparing m relation left right skip)
   compares modes.Alpha relation left right skip h = h
   compares modes.Integer relations.Equal left right skip h = h
   compares modes.Integer relations.NotEqual left right skip h = h
@@ -70,11 +70,11 @@ module _ (code : Code) (constants : List Value) (x : Placed) where
   compares modes.Integer relations.LessOrEqual left right skip h = h
   compares modes.Integer relations.GreaterOrEqual left right skip h = h
 
-  pub files : (o : Ordering) (set : ℕ) (member owner : Address) (noted : Bool) → NotesIfWatched code constants x noted (OfCount set) → FilesMember code constants x (filing_of o) set member owner → Carries code constants x (filing_instruction o set member owner noted)
+  pub files : (o : Ordering) (set : ℕ) (member owner : Address) (noted : Bool) → IsNotedIfWatched code constants x noted (OfCount set) → IsFilingMember code constants x (filing_of o) set member owner → IsCarriedOut code constants x (filing_instruction o set member owner noted)
   files orderings.First set member owner noted n h = (n, h)
   files orderings.Last set member owner noted n h = (n, h)
   files orderings.Ranked set member owner noted n h = (n, h)
 
-  pub removes : (e : End) (set : ℕ) (owner to : Address) (noted : Bool) → NotesIfWatched code constants x noted (OfCount set) → Of code constants x owner (λ o. To code constants x to (λ t. Is code constants x (i.RemoveEnd e set o t))) → Carries code constants x (removing e set owner to noted)
+  pub removes : (e : End) (set : ℕ) (owner to : Address) (noted : Bool) → IsNotedIfWatched code constants x noted (OfCount set) → HasBearer code constants x owner (λ o. HasTarget code constants x to (λ t. Is code constants x (i.RemoveEnd e set o t))) → IsCarriedOut code constants x (removing e set owner to noted)
   removes ends.First set owner to noted n h = (n, h)
   removes ends.Last set owner to noted n h = (n, h)

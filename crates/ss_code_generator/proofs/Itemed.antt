@@ -12,14 +12,14 @@ use Rattle.ss_code_instructions.specs.declared.item.ItemKind.{ItemKind}
 use Rattle.ss_code_instructions.specs.Instructions.{Stays, Instruction, Placed}
 use Rattle.ss_code_instructions.specs.Instructions as i
 use Rattle.ss_code_instructions.specs.Translation.{Site, height, place, above, next, expression_mode, expression_code, item_code, item_cells, items_code, items_cells, after_items, item_kind, lines_of_items as lines_said, with_cells}
-use Rattle.ss_code_instructions.specs.Carried.{RunningLines, InFrame, lines_of_running, kind_of_item, item_modes, onto}
+use Rattle.ss_code_instructions.specs.Carried.{RunningLines, IsInFrame, lines_of_running, kind_of_item, item_modes, onto}
 use Rattle.ss_code_generator.specs.declared.generator.Generator.{Generator}
 use Rattle.ss_code_generator.specs.declared.generator.Site.{Site as Here}
 use Rattle.ss_code_pieces.specs.Lined.{Lined, on_line}
 use Rattle.ss_code_pieces.specs.Preamble.{scope_for_modes}
-use Rattle.ss_code_generator.specs.Emitted.{Final, Grows, IsLocated, Generates, Emits, Typed}
-use Rattle.ss_code_generator.specs.Items.{value_kind, running_kind, item_width, GoodItem}
-use Rattle.ss_code_generator.specs.Printed.{PrintsLines}
+use Rattle.ss_code_generator.specs.Emitted.{Final, HasGrown, IsLocated, HasGenerated, HasEmitted, IsTyped}
+use Rattle.ss_code_generator.specs.Items.{value_kind, running_kind, item_width, IsTypedItem}
+use Rattle.ss_code_generator.specs.Printed.{HasPrintedLines}
 use Rattle.ss_code_generator.proofs.Emitting.{around_old, grows_same, grows_then, stands_old, stands_above, adds_none, adds_then, adds_one, adds_same}
 use Rattle.ss_code_generator.proofs.Modes.{mode_by}
 use Rattle.ss_code_generator.proofs.Operands.{cell_at_site}
@@ -28,13 +28,13 @@ use Rattle.ss_code_generator.proofs.Spotted.{program_at}
 
 -- ## Items
 
-pub mean_of_looked : (old mid new : Generator) (p q v : Lined) (here : Here) (k : ℕ) (e : Expression) (cell : Address) → Emits old mid p q here (Typed e) (λ t. expression_code t (next t) e) → Grows mid new → InFrame (length new.locals.items + here.height) cell → here.height < new.deepest → v ≡ q ++ on_line here.line (r.LookMean k cell) ∷ [] → Emits old new p v here (GoodItem (AMeanOf k e)) (λ t. item_code t (AMeanOf k e))
+pub mean_of_looked : (old mid new : Generator) (p q v : Lined) (here : Here) (k : ℕ) (e : Expression) (cell : Address) → HasEmitted old mid p q here (IsTyped e) (λ t. expression_code t (next t) e) → HasGrown mid new → IsInFrame (length new.locals.items + here.height) cell → here.height < new.deepest → v ≡ q ++ on_line here.line (r.LookMean k cell) ∷ [] → HasEmitted old new p v here (IsTypedItem (AMeanOf k e)) (λ t. item_code t (AMeanOf k e))
 mean_of_looked old mid new p q v here k e cell m g at room is = record {
   grows = grows_then old mid new m.grows g;
   adds = λ f t u around located good.
       let mine = around_old f mid new g around in
       let there = stands_old f mid new here t g located in
-      let typed : Typed e t.scope = (modes.Integer, good) in
+      let typed : IsTyped e t.scope = (modes.Integer, good) in
       let w : Site = above t modes.Integer in
       let high : height w ≡ height t + 1 = omega arith in
       let deep : height w ≤ f.depth = omega (arith, high, located.high, room, around.depth) in
@@ -49,12 +49,12 @@ mean_of_looked old mid new p q v here k e cell m g at room is = record {
 -- code of items, and where it goes on
 abbrev pub MakesItems : (old new : Generator) → (before after : Lined) → (here next : Here) → List PrintItem → Type 0
 MakesItems old new before after here next xs =
-    Generates old new before after here (λ f t (u : Unit {0}). Every (λ x. GoodItem x t.scope) xs) (λ t u. items_code t xs) (λ f t u. IsLocated f new next (after_items t xs))
+    HasGenerated old new before after here (λ f t (u : Unit {0}). Every (λ x. IsTypedItem x t.scope) xs) (λ t u. items_code t xs) (λ f t u. IsLocated f new next (after_items t xs))
 
 -- code of items, without where it goes on
 abbrev pub MakesAll : (old new : Generator) → (before after : Lined) → Here → List PrintItem → Type 0
 MakesAll old new before after here xs =
-    Generates old new before after here (λ f t (u : Unit {0}). Every (λ x. GoodItem x t.scope) xs) (λ t u. items_code t xs) (λ f t u. height (after_items t xs) ≤ f.depth)
+    HasGenerated old new before after here (λ f t (u : Unit {0}). Every (λ x. IsTypedItem x t.scope) xs) (λ t u. items_code t xs) (λ f t u. height (after_items t xs) ≤ f.depth)
 
 pub no_items : (g : Generator) (p : Lined) (here : Here) → MakesItems g g p p here here []
 no_items g p here = record {
@@ -78,13 +78,13 @@ item_high s (AValue e) ms = let n : suc (length ms) ≡ length ms + 1 = omega ar
 item_high s (AMean k) ms = let n : length ms ≡ length ms + 0 = omega arith in n
 item_high s (AMeanOf k e) ms = let n : suc (length ms) ≡ length ms + 1 = omega arith in n
 
-pub items_more : (old mid new : Generator) (p q v : Lined) (here one two : Here) (xs : List PrintItem) (x : PrintItem) (n : ℕ) → MakesItems old mid p q here one xs → Emits mid new q v one (GoodItem x) (λ t. item_code t x) → n ≡ item_width x → one.height + n ≤ new.deepest → two.line ≡ one.line → (one.height + n < 2 ^ 64 → two.height ≡ one.height + n) → MakesItems old new p v here two (xs ++ x ∷ [])
+pub items_more : (old mid new : Generator) (p q v : Lined) (here one two : Here) (xs : List PrintItem) (x : PrintItem) (n : ℕ) → MakesItems old mid p q here one xs → HasEmitted mid new q v one (IsTypedItem x) (λ t. item_code t x) → n ≡ item_width x → one.height + n ≤ new.deepest → two.line ≡ one.line → (one.height + n < 2 ^ 64 → two.height ≡ one.height + n) → MakesItems old new p v here two (xs ++ x ∷ [])
 items_more old mid new p q v here one two xs x n m k wide room line up = record {
   grows = grows_then old mid new m.grows k.grows;
   adds = λ f t u around located good.
       let mine = around_old f mid new k.grows around in
       let there = stands_old f mid new here t k.grows located in
-      let both = every_split (λ (y : PrintItem). GoodItem y t.scope) xs x good in
+      let both = every_split (λ (y : PrintItem). IsTypedItem y t.scope) xs x good in
       let on = m.more f t tt mine there both.0 in
       adds_same f p v (items_code t xs ++ item_code (after_items t xs) x) (items_code t (xs ++ x ∷ [])) (sym (items_code_more t xs x))
       (adds_then f p q v (items_code t xs) (item_code (after_items t xs) x) (m.adds f t tt mine there both.0)
@@ -92,7 +92,7 @@ items_more old mid new p q v here one two xs x n m k wide room line up = record 
   more = λ f t u around located good.
       let mine = around_old f mid new k.grows around in
       let there = stands_old f mid new here t k.grows located in
-      let both = every_split (λ (y : PrintItem). GoodItem y t.scope) xs x good in
+      let both = every_split (λ (y : PrintItem). IsTypedItem y t.scope) xs x good in
       let on = m.more f t tt mine there both.0 in
       let w : Site = after_items t xs in
       let z : Site = after_items t (xs ++ x ∷ []) in
@@ -147,7 +147,7 @@ at_front [] v rest = refl
 at_front (x ∷ before) v rest = at_front before v rest
 
 -- the PRINT after its items
-pub printed : (old mid new : Generator) (p q v : Lined) (here : Here) (old_prints new_prints : List RunningLines) (xs : List PrintItem) (pictures : List (List ℕ)) (made : RunningLines) (n cell : ℕ) → Grows old mid → MakesAll mid new p q here xs → made ≡ record { pictures = pictures; items = map (running_kind (scope_for_modes old.program.now old.locals.items)) xs } → new_prints ≡ old_prints ++ made ∷ [] → n ≡ length old_prints → cell ≡ length new.locals.items + here.height → v ≡ q ++ on_line here.line (r.Print n cell) ∷ [] → PrintsLines old new p v here old_prints new_prints xs pictures
+pub printed : (old mid new : Generator) (p q v : Lined) (here : Here) (old_prints new_prints : List RunningLines) (xs : List PrintItem) (pictures : List (List ℕ)) (made : RunningLines) (n cell : ℕ) → HasGrown old mid → MakesAll mid new p q here xs → made ≡ record { pictures = pictures; items = map (running_kind (scope_for_modes old.program.now old.locals.items)) xs } → new_prints ≡ old_prints ++ made ∷ [] → n ≡ length old_prints → cell ≡ length new.locals.items + here.height → v ≡ q ++ on_line here.line (r.Print n cell) ∷ [] → HasPrintedLines old new p v here old_prints new_prints xs pictures
 printed old mid new p q v here old_prints new_prints xs pictures made n cell g m is_made prints is_n is_cell is =
     let s : TypedScope = scope_for_modes old.program.now old.locals.items in
     let said : lines_of_running made ≡ lines_said xs pictures =
@@ -176,7 +176,7 @@ printed old mid new p q v here old_prints new_prints xs pictures made n cell g m
     }
 
 -- all items
-pub items_done : (old mid new : Generator) (p q : Lined) (here next : Here) (xs : List PrintItem) → Grows old mid → MakesItems mid new p q here next xs → MakesAll old new p q here xs
+pub items_done : (old mid new : Generator) (p q : Lined) (here next : Here) (xs : List PrintItem) → HasGrown old mid → MakesItems mid new p q here next xs → MakesAll old new p q here xs
 items_done old mid new p q here next xs g m = record {
   grows = grows_then old mid new g m.grows;
   adds = m.adds;

@@ -8,7 +8,7 @@ use Rattle.ss_program.specs.declared.expression.Variable.TheVariants.{Global}
 use Rattle.ss_program.specs.declared.sections.Subject.TheVariants.{OfAttribute}
 use Rattle.ss_program.specs.declared.statement.CountedClass.{CountedClass}
 use Rattle.ss_program.specs.Program.{Program, Expression, Place, ToVariable, ToAttribute, ToCount, Let, Change}
-use Rattle.ss_program.specs.WellTyped.{HasMode, TakesMode, Good, mode_at}
+use Rattle.ss_program.specs.WellTyped.{HasMode, CanTakeMode, IsTypedStatement, mode_at}
 use Rattle.ss_meaning.specs.Values.{operator_of}
 use Rattle.ss_code_instructions.specs.declared.address.Address.{Address}
 use Rattle.ss_code_instructions.specs.declared.instruction.Instruction.{Instruction as Running}
@@ -17,7 +17,7 @@ use Rattle.ss_code_instructions.specs.Facts.{watch, must_look}
 use Rattle.ss_code_instructions.specs.Instructions.{Held, Taken, Target, Instruction, Leave, Placed}
 use Rattle.ss_code_instructions.specs.Instructions as i
 use Rattle.ss_code_instructions.specs.Translation.{Site, height, place, above, next, operand, operand_code, after, with_operand, expression_code, is_kept, entity_code, place_code, place_mode, after_place, count_code, let_code, change_code, to_place_code, give_code, or_integer, code_of}
-use Rattle.ss_code_instructions.specs.Carried.{RunningLines, InFrame, Carries, mode_here}
+use Rattle.ss_code_instructions.specs.Carried.{RunningLines, IsInFrame, IsCarriedOut, mode_here}
 use Rattle.ss_code_generator.specs.declared.expressions.Operand.{Operand as Read}
 use Rattle.ss_code_generator.specs.declared.generator.Generator.{Generator}
 use Rattle.ss_code_generator.specs.declared.generator.Site.{Site as Here}
@@ -27,8 +27,8 @@ use Rattle.ss_code_generator.specs.declared.targets.Spot.{Spot}
 use Rattle.ss_code_generator.specs.declared.targets.Spot.TheVariants as spots
 use Rattle.ss_code_pieces.specs.Lined.{Lined, on_line}
 use Rattle.ss_code_instructions.specs.Forms.{calculating, storing}
-use Rattle.ss_code_generator.specs.Emitted.{Final, Around, Grows, IsLocated, Shown, Generates, NoMore, Emits, AtOperand, AtTarget, Typed, IsInteger, ReadsOperand}
-use Rattle.ss_code_generator.specs.Spots.{IsWatchedAs, IsVariable, IsSpot, GoodPlace, HasTargetRoom, HoldsMode, Assignment, Assigns, Taking, AssignsLanded, Changed, place_variable, IsHeldBy, spot_cells, spot_code, landing, assigned_code, landed_code}
+use Rattle.ss_code_generator.specs.Emitted.{Final, IsAround, HasGrown, IsLocated, HasPrintModes, HasGenerated, HasNoMore, HasEmitted, IsSiteOperand, IsSiteTarget, IsTyped, IsInteger, HasReadOperand}
+use Rattle.ss_code_generator.specs.Spots.{IsWatchedAs, IsVariable, IsSpot, IsTypedPlace, HasTargetRoom, HasHeldMode, Assignment, HasAssigned, Taking, HasAssignedLanded, Changed, place_variable, IsHeldBy, spot_cells, spot_code, landing, assigned_code, landed_code}
 use Rattle.ss_code_generator.proofs.Emitting.{around_old, grows_then, stands_old, stands_above, adds_then, adds_one, adds_same}
 use Rattle.ss_code_generator.proofs.Forms as forms
 use Rattle.ss_code_generator.proofs.Modes.{same_some, on_top, operand_mode, mode_after}
@@ -41,15 +41,15 @@ use Rattle.ss_code_generator.proofs.Spotted.{MakesAttribute, stored}
 
 abbrev pub LetsVariable : (old new : Generator) → (before after : Lined) → Here → Expression → VariableSpot → Type 0
 LetsVariable old new before after here e s =
-    Generates old new before after here (λ f t (x : Variable). IsVariable t x s × Good t.scope (Let here.line (ToVariable x) e)) (λ t x. let_code t (ToVariable x) e) NoMore
+    HasGenerated old new before after here (λ f t (x : Variable). IsVariable t x s × IsTypedStatement t.scope (Let here.line (ToVariable x) e)) (λ t x. let_code t (ToVariable x) e) HasNoMore
 
 -- and one that is watched
-pub let_kept : (old new : Generator) (p q v : Lined) (here : Here) (e : Expression) (o : Read) (s : VariableSpot) (k : ℕ) → s.watched ≡ Some k → ReadsOperand old new p q here e o → v ≡ q ++ on_line here.line (r.Keep o.address k) ∷ [] → LetsVariable old new p v here e s
+pub let_kept : (old new : Generator) (p q v : Lined) (here : Here) (e : Expression) (o : Read) (s : VariableSpot) (k : ℕ) → s.watched ≡ Some k → HasReadOperand old new p q here e o → v ≡ q ++ on_line here.line (r.Keep o.address k) ∷ [] → LetsVariable old new p v here e s
 let_kept old new p q v here e o s k watched m is = record {
   grows = m.grows;
   adds = λ f t x around located fits.
       let w : (is_kept t x ≡ true) × (x ≡ Global k) = subst (IsWatchedAs (is_kept t x) x) watched fits.0.watched in
-      let typed : Typed e t.scope = (fits.1.0, fits.1.2) in
+      let typed : IsTyped e t.scope = (fits.1.0, fits.1.2) in
       let read = m.more f t tt around located typed in
       let ins : Instruction = i.Keep (operand t e) x in
       let code : with_operand t e (λ y. i.Keep y x) ≡ let_code t (ToVariable x) e =
@@ -61,7 +61,7 @@ let_kept old new p q v here e o s k watched m is = record {
   more = λ f t x around located fits. tt;
 }
 
-pub let_of_variable : (old new : Generator) (p q : Lined) (here : Here) (x : Variable) (e : Expression) (s : VariableSpot) → ((f : Final) (here : Here) (t : Site) → Around f old → IsLocated f old here t → IsVariable t x s) → LetsVariable old new p q here e s → Emits old new p q here (λ k. Good k (Let here.line (ToVariable x) e)) (λ t. let_code t (ToVariable x) e)
+pub let_of_variable : (old new : Generator) (p q : Lined) (here : Here) (x : Variable) (e : Expression) (s : VariableSpot) → ((f : Final) (here : Here) (t : Site) → IsAround f old → IsLocated f old here t → IsVariable t x s) → LetsVariable old new p q here e s → HasEmitted old new p q here (λ k. IsTypedStatement k (Let here.line (ToVariable x) e)) (λ t. let_code t (ToVariable x) e)
 let_of_variable old new p q here x e s h m = record {
   grows = m.grows;
   adds = λ f t u around located good.
@@ -69,11 +69,11 @@ let_of_variable old new p q here x e s h m = record {
   more = λ f t u around located good. tt;
 }
 
-pub let_of_count : (old new : Generator) (p q v : Lined) (here higher : Here) (c : CountedClass) (e : Expression) (o : Read) (s : Spot) → ((f : Final) (here : Here) (t : Site) → Around f old → IsLocated f old here t → IsSpot f t (ToCount c) s) → ReadsOperand old new p q here e o → higher.line ≡ here.line → (here.height + o.cells < 2 ^ 64 → higher.height ≡ here.height + o.cells) → Assigns new q v higher o.address (λ f t x. IsSpot f t x s) → Emits old new p v here (λ k. Good k (Let here.line (ToCount c) e)) (λ t. let_code t (ToCount c) e)
+pub let_of_count : (old new : Generator) (p q v : Lined) (here higher : Here) (c : CountedClass) (e : Expression) (o : Read) (s : Spot) → ((f : Final) (here : Here) (t : Site) → IsAround f old → IsLocated f old here t → IsSpot f t (ToCount c) s) → HasReadOperand old new p q here e o → higher.line ≡ here.line → (here.height + o.cells < 2 ^ 64 → higher.height ≡ here.height + o.cells) → HasAssigned new q v higher o.address (λ f t x. IsSpot f t x s) → HasEmitted old new p v here (λ k. IsTypedStatement k (Let here.line (ToCount c) e)) (λ t. let_code t (ToCount c) e)
 let_of_count old new p q v here higher c e o s h m line up n = record {
   grows = m.grows;
   adds = λ f t u around located good.
-      let typed : Typed e t.scope = (good.0, good.2) in
+      let typed : IsTyped e t.scope = (good.0, good.2) in
       let number : HasMode t.scope e Integer = subst (HasMode t.scope e) good.1.0 good.2 in
       let read = m.more f t tt around located typed in
       let there = read_stands f new here higher t e o around located read line up in
@@ -85,7 +85,7 @@ let_of_count old new p q v here higher c e o s h m line up n = record {
   more = λ f t u around located good. tt;
 }
 
-pub let_of_attribute : (old mid new : Generator) (p v w z : Lined) (here higher : Here) (class field : ℕ) (of e : Expression) (s : AttributeSpot) (right : Read) → MakesAttribute old mid p v here (λ t. entity_code t (must_look class of e) class of) class field of s → higher.line ≡ here.line → (here.height + s.cells < 2 ^ 64 → higher.height ≡ here.height + s.cells) → ReadsOperand mid new v w higher e right → z ≡ w ++ on_line here.line (storing s.mode s.class s.field s.entity right.address s.is_watched) ∷ [] → Emits old new p z here (λ k. Good k (Let here.line (ToAttribute class field of) e)) (λ t. let_code t (ToAttribute class field of) e)
+pub let_of_attribute : (old mid new : Generator) (p v w z : Lined) (here higher : Here) (class field : ℕ) (of e : Expression) (s : AttributeSpot) (right : Read) → MakesAttribute old mid p v here (λ t. entity_code t (must_look class of e) class of) class field of s → higher.line ≡ here.line → (here.height + s.cells < 2 ^ 64 → higher.height ≡ here.height + s.cells) → HasReadOperand mid new v w higher e right → z ≡ w ++ on_line here.line (storing s.mode s.class s.field s.entity right.address s.is_watched) ∷ [] → HasEmitted old new p z here (λ k. IsTypedStatement k (Let here.line (ToAttribute class field of) e)) (λ t. let_code t (ToAttribute class field of) e)
 let_of_attribute old mid new p v w z here higher class field of e s right a line up n is = record {
   grows = grows_then old mid new a.grows n.grows;
   adds = λ f t u around located good.
@@ -95,7 +95,7 @@ let_of_attribute old mid new p v w z here higher class field of e s right a line
       let t1 : Site = after t of in
       let t2 : Site = after t1 e in
       let higher_up = read_stands f new here higher t of (record { address = s.entity; cells = s.cells }) around located spot.entity line up in
-      let typed : Typed e t1.scope = (good.0, good.2) in
+      let typed : IsTyped e t1.scope = (good.0, good.2) in
       let read = n.more f t1 tt around higher_up typed in
       adds_then f p v z (entity_code t (must_look class of e) class of) (operand_code t1 e ++ place t2 (i.SetAttribute class field (operand t of) (operand t1 e)) ∷ []) (a.adds f t tt mine there good.1.1)
       (adds_then f v w z (operand_code t1 e) (place t2 (i.SetAttribute class field (operand t of) (operand t1 e)) ∷ []) (n.adds f t1 tt around higher_up typed)
@@ -115,19 +115,19 @@ change_parts t sign (ToCount c) x e h =
 
 abbrev pub ChangesVariable : (old new : Generator) → (before after : Lined) → Here → Sign → Expression → Spot → VariableSpot → Type 0
 ChangesVariable old new before after here sign e s variable =
-    Generates old new before after here (λ f t (c : Changed). IsSpot f t c.place s × IsVariable t c.variable variable × IsHeldBy c × IsInteger e t.scope × HoldsMode t.scope c.place Integer) (λ t c. change_code t sign c.place e) NoMore
+    HasGenerated old new before after here (λ f t (c : Changed). IsSpot f t c.place s × IsVariable t c.variable variable × IsHeldBy c × IsInteger e t.scope × HasHeldMode t.scope c.place Integer) (λ t c. change_code t sign c.place e) HasNoMore
 
 -- where a value lands
 abbrev pub Lands : Generator → Here → Spot → Address → Type 0
-Lands g here s to = (f : Final) (t u : Site) (x : Place) → Around f g → IsLocated f g here u → t.scope ≡ u.scope → IsSpot f t x s → AtTarget f u (landing u x) to × HasTargetRoom f (landing u x)
+Lands g here s to = (f : Final) (t u : Site) (x : Place) → IsAround f g → IsLocated f g here u → t.scope ≡ u.scope → IsSpot f t x s → IsSiteTarget f u (landing u x) to × HasTargetRoom f (landing u x)
 
-pub variable_changed : (old mid new : Generator) (p q v w : Lined) (here : Here) (sign : Sign) (e : Expression) (by : Read) (to : Address) (s : Spot) (variable : VariableSpot) → ReadsOperand old mid p q here e by → Grows mid new → Lands new here s to → v ≡ q ++ on_line here.line (calculating (operator_of sign) variable.address by.address to) ∷ [] → AssignsLanded new v w here to (λ f t x. IsSpot f t x s) → ChangesVariable old new p w here sign e s variable
+pub variable_changed : (old mid new : Generator) (p q v w : Lined) (here : Here) (sign : Sign) (e : Expression) (by : Read) (to : Address) (s : Spot) (variable : VariableSpot) → HasReadOperand old mid p q here e by → HasGrown mid new → Lands new here s to → v ≡ q ++ on_line here.line (calculating (operator_of sign) variable.address by.address to) ∷ [] → HasAssignedLanded new v w here to (λ f t x. IsSpot f t x s) → ChangesVariable old new p w here sign e s variable
 variable_changed old mid new p q v w here sign e by to s variable m g land is n = record {
   grows = grows_then old mid new m.grows g;
   adds = λ f t c around located fits.
       let mine = around_old f mid new g around in
       let there = stands_old f mid new here t g located in
-      let typed : Typed e t.scope = (Integer, fits.3) in
+      let typed : IsTyped e t.scope = (Integer, fits.3) in
       let read = m.more f t tt mine there typed in
       let at = land f t t c.place around located refl fits.0 in
       let lands : Target = landing t c.place in
@@ -142,7 +142,7 @@ variable_changed old mid new p q v w here sign e by to s variable m g land is n 
   more = λ f t c around located fits. tt;
 }
 
-pub change_of_variable : (old new : Generator) (p q : Lined) (here : Here) (sign : Sign) (x : Variable) (e : Expression) (s : VariableSpot) → ((f : Final) (here : Here) (t : Site) → Around f old → IsLocated f old here t → IsVariable t x s) → ChangesVariable old new p q here sign e (spots.Variable s) s → Emits old new p q here (λ k. Good k (Change here.line sign (ToVariable x) e)) (λ t. change_code t sign (ToVariable x) e)
+pub change_of_variable : (old new : Generator) (p q : Lined) (here : Here) (sign : Sign) (x : Variable) (e : Expression) (s : VariableSpot) → ((f : Final) (here : Here) (t : Site) → IsAround f old → IsLocated f old here t → IsVariable t x s) → ChangesVariable old new p q here sign e (spots.Variable s) s → HasEmitted old new p q here (λ k. IsTypedStatement k (Change here.line sign (ToVariable x) e)) (λ t. change_code t sign (ToVariable x) e)
 change_of_variable old new p q here sign x e s h m = record {
   grows = m.grows;
   adds = λ f t u around located good.
@@ -152,7 +152,7 @@ change_of_variable old new p q here sign x e s h m = record {
   more = λ f t u around located good. tt;
 }
 
-pub change_of_count : (old new : Generator) (p q : Lined) (here : Here) (sign : Sign) (c : CountedClass) (e : Expression) (class : ℕ) (s : VariableSpot) → class ≡ c.class → ((f : Final) (here : Here) (t : Site) → Around f old → IsLocated f old here t → IsVariable t (Global c.variable) s) → ChangesVariable old new p q here sign e (spots.Count class s) s → Emits old new p q here (λ k. Good k (Change here.line sign (ToCount c) e)) (λ t. change_code t sign (ToCount c) e)
+pub change_of_count : (old new : Generator) (p q : Lined) (here : Here) (sign : Sign) (c : CountedClass) (e : Expression) (class : ℕ) (s : VariableSpot) → class ≡ c.class → ((f : Final) (here : Here) (t : Site) → IsAround f old → IsLocated f old here t → IsVariable t (Global c.variable) s) → ChangesVariable old new p q here sign e (spots.Count class s) s → HasEmitted old new p q here (λ k. IsTypedStatement k (Change here.line sign (ToCount c) e)) (λ t. change_code t sign (ToCount c) e)
 change_of_count old new p q here sign c e class s is_class h m = record {
   grows = m.grows;
   adds = λ f t u around located good.
@@ -162,13 +162,13 @@ change_of_count old new p q here sign c e class s is_class h m = record {
   more = λ f t u around located good. tt;
 }
 
-pub attribute_changed : (old mid new : Generator) (p q v w : Lined) (here higher : Here) (sign : Sign) (class field : ℕ) (of e : Expression) (by : Read) (s : AttributeSpot) → ReadsOperand old mid p q here e by → higher.line ≡ here.line → (here.height + by.cells < 2 ^ 64 → higher.height ≡ here.height + by.cells) → MakesAttribute mid new q v higher (λ t. operand_code t of) class field of s → w ≡ v ++ on_line here.line (r.ChangeAttribute s.class s.field s.entity by.address sign s.is_watched) ∷ [] → Emits old new p w here (λ k. Good k (Change here.line sign (ToAttribute class field of) e)) (λ t. change_code t sign (ToAttribute class field of) e)
+pub attribute_changed : (old mid new : Generator) (p q v w : Lined) (here higher : Here) (sign : Sign) (class field : ℕ) (of e : Expression) (by : Read) (s : AttributeSpot) → HasReadOperand old mid p q here e by → higher.line ≡ here.line → (here.height + by.cells < 2 ^ 64 → higher.height ≡ here.height + by.cells) → MakesAttribute mid new q v higher (λ t. operand_code t of) class field of s → w ≡ v ++ on_line here.line (r.ChangeAttribute s.class s.field s.entity by.address sign s.is_watched) ∷ [] → HasEmitted old new p w here (λ k. IsTypedStatement k (Change here.line sign (ToAttribute class field of) e)) (λ t. change_code t sign (ToAttribute class field of) e)
 attribute_changed old mid new p q v w here higher sign class field of e by s m line up a is = record {
   grows = grows_then old mid new m.grows a.grows;
   adds = λ f t u around located good.
       let mine = around_old f mid new a.grows around in
       let there = stands_old f mid new here t a.grows located in
-      let typed : Typed e t.scope = (Integer, good.1) in
+      let typed : IsTyped e t.scope = (Integer, good.1) in
       let read = m.more f t tt mine there typed in
       let t1 : Site = after t e in
       let t2 : Site = after t1 of in
@@ -201,28 +201,28 @@ spot_high f t (ToCount c) (spots.Variable s) h deep = absurd h
 spot_high f t (ToCount c) (spots.Attribute s) h deep = absurd h
 spot_high f t (ToCount c) (spots.Count class s) h deep = (omega arith, deep)
 
-pub spot_stands : (f : Final) (g : Generator) (here higher : Here) (t : Site) (x : Place) (s : Spot) → Around f g → IsLocated f g here t → IsSpot f t x s → higher.line ≡ here.line → (here.height + spot_cells s < 2 ^ 64 → higher.height ≡ here.height + spot_cells s) → IsLocated f g higher (after_place t x)
+pub spot_stands : (f : Final) (g : Generator) (here higher : Here) (t : Site) (x : Place) (s : Spot) → IsAround f g → IsLocated f g here t → IsSpot f t x s → higher.line ≡ here.line → (here.height + spot_cells s < 2 ^ 64 → higher.height ≡ here.height + spot_cells s) → IsLocated f g higher (after_place t x)
 spot_stands f g here higher t x s around located is line up =
     let h = spot_high f t x s is located.deep in
     stands_above f g here higher t (after_place t x) (spot_cells s) around.small located line up refl refl h.0 h.1
 
 -- what a place holds that takes a mode
-pub holds_mode : (f : Final) (g : Generator) (here : Here) (t : Site) (x : Place) (m : Mode) → Around f g → IsLocated f g here t → TakesMode t.scope x m → HoldsMode t.scope x m
+pub holds_mode : (f : Final) (g : Generator) (here : Here) (t : Site) (x : Place) (m : Mode) → IsAround f g → IsLocated f g here t → CanTakeMode t.scope x m → HasHeldMode t.scope x m
 holds_mode f g here t (ToVariable x) m around located takes = takes.0
 holds_mode f g here t (ToAttribute class field e) m around located takes = takes.0
 holds_mode f g here t (ToCount c) m around located takes = count_integer f.program around.typed t.scope located.program c takes.1 ∙ ap Some (sym takes.0)
 
 abbrev pub MakesSpot : (old new : Generator) → (before after : Lined) → Here → (Site → List Placed) → Place → Spot → Type 0
 MakesSpot old new before after here c x s =
-    Generates old new before after here (λ f t (u : Unit {0}). GoodPlace x t.scope) (λ t u. c t) (λ f t u. IsSpot f t x s)
+    HasGenerated old new before after here (λ f t (u : Unit {0}). IsTypedPlace x t.scope) (λ t u. c t) (λ f t u. IsSpot f t x s)
 
-pub to_place_made : (old mid new : Generator) (p q v w : Lined) (here higher : Here) (x : Place) (m : Mode) (s : Spot) (to : Address) (y : Running) (make : Target → Instruction) → MakesSpot old mid p q here (λ t. place_code t x) x s → higher.line ≡ here.line → (here.height + spot_cells s < 2 ^ 64 → higher.height ≡ here.height + spot_cells s) → Grows mid new → Lands new higher s to → ((f : Final) (u : Site) (z : Target) → AtTarget f u z to → Carries (code_of f.program) f.constants (place u (make z)) y) → ((prints : List RunningLines) (cells : List Mode) (z : Target) → Shown prints cells (make z)) → v ≡ q ++ on_line here.line y ∷ [] → AssignsLanded new v w higher to (λ f t z. IsSpot f t z s) → Emits old new p w here (λ k. TakesMode k x m) (λ t. to_place_code t x m (λ u z. place u (make z) ∷ []))
+pub to_place_made : (old mid new : Generator) (p q v w : Lined) (here higher : Here) (x : Place) (m : Mode) (s : Spot) (to : Address) (y : Running) (make : Target → Instruction) → MakesSpot old mid p q here (λ t. place_code t x) x s → higher.line ≡ here.line → (here.height + spot_cells s < 2 ^ 64 → higher.height ≡ here.height + spot_cells s) → HasGrown mid new → Lands new higher s to → ((f : Final) (u : Site) (z : Target) → IsSiteTarget f u z to → IsCarriedOut (code_of f.program) f.constants (place u (make z)) y) → ((prints : List RunningLines) (cells : List Mode) (z : Target) → HasPrintModes prints cells (make z)) → v ≡ q ++ on_line here.line y ∷ [] → HasAssignedLanded new v w higher to (λ f t z. IsSpot f t z s) → HasEmitted old new p w here (λ k. CanTakeMode k x m) (λ t. to_place_code t x m (λ u z. place u (make z) ∷ []))
 to_place_made old mid new p q v w here higher x m s to y make l line up g land carries shown is n = record {
   grows = grows_then old mid new l.grows g;
   adds = λ f t u around located good.
       let mine = around_old f mid new g around in
       let there = stands_old f mid new here t g located in
-      let fits : GoodPlace x t.scope = (m, good) in
+      let fits : IsTypedPlace x t.scope = (m, good) in
       let spot = l.more f t tt mine there fits in
       let t1 : Site = after_place t x in
       let on = spot_stands f new here higher t x s around located spot line up in
@@ -247,7 +247,7 @@ give_parts t (ToVariable x) = refl
 give_parts t (ToAttribute class field e) = refl
 give_parts t (ToCount c) = refl
 
-place_mode_is : (t : Site) (x : Place) (m : Mode) → TakesMode t.scope x m → place_mode t.scope x ≡ m
+place_mode_is : (t : Site) (x : Place) (m : Mode) → CanTakeMode t.scope x m → place_mode t.scope x ≡ m
 place_mode_is t (ToVariable x) m h = ap or_integer h.0
 place_mode_is t (ToAttribute class field e) m h = ap or_integer h.0
 place_mode_is t (ToCount c) m h = sym h.0
@@ -259,7 +259,7 @@ given_mode f t (ToAttribute class field e) =
     mode_after f (above t m) e (Taken (height t)) m Leave Leave (on_top (height t) m t.cells refl)
 given_mode f t (ToCount c) = on_top (height t) Integer t.cells refl
 
-pub given_made : (old mid new : Generator) (p q v : Lined) (here one higher : Here) (x : Place) (s : Spot) (from : Address) → Grows old mid → InFrame (length mid.locals.items + here.height) from → here.height < mid.deepest → one.line ≡ here.line → (here.height + 1 < 2 ^ 64 → one.height ≡ here.height + 1) → MakesSpot mid new p q one (λ t. spot_code t x) x s → higher.line ≡ one.line → (one.height + spot_cells s < 2 ^ 64 → higher.height ≡ one.height + spot_cells s) → Assigns new q v higher from (λ f t z. IsSpot f t z s) → Emits old new p v here (GoodPlace x) (λ t. give_code t x)
+pub given_made : (old mid new : Generator) (p q v : Lined) (here one higher : Here) (x : Place) (s : Spot) (from : Address) → HasGrown old mid → IsInFrame (length mid.locals.items + here.height) from → here.height < mid.deepest → one.line ≡ here.line → (here.height + 1 < 2 ^ 64 → one.height ≡ here.height + 1) → MakesSpot mid new p q one (λ t. spot_code t x) x s → higher.line ≡ one.line → (one.height + spot_cells s < 2 ^ 64 → higher.height ≡ one.height + spot_cells s) → HasAssigned new q v higher from (λ f t z. IsSpot f t z s) → HasEmitted old new p v here (IsTypedPlace x) (λ t. give_code t x)
 given_made old mid new p q v here one higher x s from g cell room line up l line_2 up_2 n = record {
   grows = grows_then old mid new g l.grows;
   adds = λ f t u around located good.
@@ -273,8 +273,8 @@ given_made old mid new p q v here one higher x s from g cell room line up l line
       let spot = l.more f w tt around on good in
       let on_2 = spot_stands f new one higher w x s around on spot line_2 up_2 in
       let is : m ≡ good.0 = place_mode_is t x good.0 good.1 in
-      let takes : TakesMode t.scope x m = subst (TakesMode t.scope x) (sym is) good.1 in
-      let at : AtOperand f (after_place w x) (Taken (height t)) from = cell_at_site f mid here t from there cell in
+      let takes : CanTakeMode t.scope x m = subst (CanTakeMode t.scope x) (sym is) good.1 in
+      let at : IsSiteOperand f (after_place w x) (Taken (height t)) from = cell_at_site f mid here t from there cell in
       let it : Assignment = record { resolved = w; place = x; from = Taken (height t); mode = m } in
       adds_same f p v (spot_code w x ++ assigned_code w (after_place w x) x (Taken (height t))) (give_code t x) (give_parts t x)
       (adds_then f p q v (spot_code w x) (assigned_code w (after_place w x) x (Taken (height t))) (l.adds f w tt around on good)

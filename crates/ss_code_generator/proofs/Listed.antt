@@ -11,7 +11,7 @@ use Rattle.ss_code_instructions.specs.Translation.{Site, place, bearer, bearer_c
 use Rattle.ss_code_generator.specs.declared.generator.Generator.{Generator}
 use Rattle.ss_code_generator.specs.declared.generator.Site.{Site as Here}
 use Rattle.ss_code_pieces.specs.Lined.{Lined, on_line}
-use Rattle.ss_code_generator.specs.Emitted.{Emits}
+use Rattle.ss_code_generator.specs.Emitted.{HasEmitted}
 use Rattle.ss_code_generator.proofs.Emitting.{around_old, grows_then, stands_old, adds_then, adds_one, adds_same}
 
 -- what is so of all things, with one of them more
@@ -21,7 +21,7 @@ every_split P (y ∷ xs) x h = let k = every_split P xs x h.1 in ((h.0, k.0), k.
 
 -- code of things that all find the same cells: each thing's own, one after the other
 module _ {A : Type 0} (P : A → TypedScope → Type 0) (own : Site → A → List Placed) (all : Site → List A → List Placed) (joined : (t : Site) (xs : List A) (x : A) → all t (xs ++ x ∷ []) ≡ all t xs ++ own t x) where
-  pub listed_more : (old mid new : Generator) (p q r : Lined) (here : Here) (xs : List A) (x : A) → Emits old mid p q here (λ s. Every (λ y. P y s) xs) (λ t. all t xs) → Emits mid new q r here (P x) (λ t. own t x) → Emits old new p r here (λ s. Every (λ y. P y s) (xs ++ x ∷ [])) (λ t. all t (xs ++ x ∷ []))
+  pub listed_more : (old mid new : Generator) (p q r : Lined) (here : Here) (xs : List A) (x : A) → HasEmitted old mid p q here (λ s. Every (λ y. P y s) xs) (λ t. all t xs) → HasEmitted mid new q r here (P x) (λ t. own t x) → HasEmitted old new p r here (λ s. Every (λ y. P y s) (xs ++ x ∷ [])) (λ t. all t (xs ++ x ∷ []))
   listed_more old mid new p q r here xs x m n = record {
     grows = grows_then old mid new m.grows n.grows;
     adds = λ f t u around located good.
@@ -50,7 +50,7 @@ restarts_more t xs x =
     ap (λ (c : List Placed). c ++ restarts_code t xs) (sym (append-nil (bearer_code t x.of ++ place (after_bearer t x.of) (Reset x.statistic (bearer t x.of)) ∷ [])))) xs x
 
 -- an instruction for each class
-pub creates_step : (g : Generator) (p q v : Lined) (here : Here) (xs : List CountedClass) (x : CountedClass) → Emits g g p q here (λ s. Unit {0}) (λ t. creates_code t xs) → v ≡ q ++ on_line here.line (CreatesAll x.class x.variable) ∷ [] → Emits g g p v here (λ s. Unit {0}) (λ t. creates_code t (xs ++ x ∷ []))
+pub creates_step : (g : Generator) (p q v : Lined) (here : Here) (xs : List CountedClass) (x : CountedClass) → HasEmitted g g p q here (λ s. Unit {0}) (λ t. creates_code t xs) → v ≡ q ++ on_line here.line (CreatesAll x.class x.variable) ∷ [] → HasEmitted g g p v here (λ s. Unit {0}) (λ t. creates_code t (xs ++ x ∷ []))
 creates_step g p q v here xs x m is = record {
   grows = m.grows;
   adds = λ f t u around located good.

@@ -8,7 +8,7 @@ use Rattle.ss_base.specs.declared.layout.Mode.TheVariants.{Integer}
 use Rattle.ss_program.specs.declared.sections.Statistic.{Statistic}
 use Rattle.ss_program.specs.declared.sections.Subject.TheVariants.{OfAttribute}
 use Rattle.ss_program.specs.Program.{Program, Expression, Place, ToVariable, ToAttribute, ToCount, When, At, In, Restart, ScheduleNew, Schedule}
-use Rattle.ss_program.specs.WellTyped.{TypedScope, HasMode, GoodWhen, GoodRestart, GoodGiven, Good, TakesMode}
+use Rattle.ss_program.specs.WellTyped.{TypedScope, HasMode, IsTypedWhen, IsTypedRestart, AreTypedGiven, IsTypedStatement, CanTakeMode}
 use Rattle.ss_code_instructions.specs.declared.address.Address.{Address}
 use Rattle.ss_code_instructions.specs.declared.instruction.Instruction.{Instruction as Running}
 use Rattle.ss_code_instructions.specs.declared.instruction.Instruction.TheVariants as r
@@ -16,7 +16,7 @@ use Rattle.ss_code_instructions.specs.Facts.{watch}
 use Rattle.ss_code_instructions.specs.Instructions.{Operand, Held, Taken, Stays, Target, Instruction, Placed}
 use Rattle.ss_code_instructions.specs.Instructions as i
 use Rattle.ss_code_instructions.specs.Translation.{Site, height, place, above, next, forget, operand, operand_code, after, with_operand, stay, is_kept, bearer, bearer_code, after_bearer, entity_code, values_code, after_values, when_code, place_code, after_place, count_code, notice_code, schedule_new_code, schedule_code, restarts_code}
-use Rattle.ss_code_instructions.specs.Carried.{InFrame}
+use Rattle.ss_code_instructions.specs.Carried.{IsInFrame}
 use Rattle.ss_code_instructions.proofs.Stacked.{values_high}
 use Rattle.ss_code_generator.specs.declared.expressions.Operand.{Operand as Read}
 use Rattle.ss_code_generator.specs.declared.generator.Generator.{Generator}
@@ -27,9 +27,9 @@ use Rattle.ss_code_generator.specs.declared.targets.Spot.{Spot}
 use Rattle.ss_code_generator.specs.declared.targets.Spot.TheVariants as spots
 use Rattle.ss_code_pieces.specs.Lined.{Lined, on_line}
 use Rattle.ss_code_instructions.specs.Forms.{storing}
-use Rattle.ss_code_generator.specs.Emitted.{Final, Around, Grows, IsLocated, Runs, Adds, Emits, AtTarget, AtOperand, Typed, AreNumbers, IsRead, ReadsOperand, Bears}
-use Rattle.ss_code_generator.specs.Spots.{IsSpot, HasTargetRoom, HoldsMode, Assignment, Assigns, Taking, AssignsLanded, spot_cells, landing}
-use Rattle.ss_code_generator.specs.Notices.{any_watched, named_at, named_code, Names}
+use Rattle.ss_code_generator.specs.Emitted.{Final, IsAround, HasGrown, IsLocated, IsRunBy, HasAdded, HasEmitted, IsSiteTarget, IsSiteOperand, IsTyped, AreNumbers, IsRead, HasReadOperand, HasBorne}
+use Rattle.ss_code_generator.specs.Spots.{IsSpot, HasTargetRoom, HasHeldMode, Assignment, HasAssigned, Taking, HasAssignedLanded, spot_cells, landing}
+use Rattle.ss_code_generator.specs.Notices.{any_watched, named_at, named_code, HasNamed}
 use Rattle.ss_code_generator.proofs.Emitting.{around_old, grows_same, grows_then, stands_old, stands_above, adds_then, adds_one, adds_same}
 use Rattle.ss_code_generator.proofs.Modes.{on_top}
 use Rattle.ss_code_generator.proofs.Operands.{read_stands, cell_at_site, operand_at, stays_at}
@@ -38,12 +38,12 @@ use Rattle.ss_code_generator.proofs.Letting.{MakesSpot, Lands, spot_stands, hold
 
 -- ## One operand, and an instruction that leaves something in the next cell
 
-pub cell_works : (old mid new : Generator) (p q v : Lined) (here : Here) (e : Expression) (o : Read) (to : Address) (Good : TypedScope → Type 0) (make : Site → Operand → Instruction) (y : Running) → Grows old mid → InFrame (length mid.locals.items + here.height) to → ReadsOperand mid new p q here e o → v ≡ q ++ on_line here.line y ∷ [] → ((k : TypedScope) → Good k → Typed e k) → ((f : Final) (t : Site) → AtTarget f t (next t) to → IsRead f t e o → Runs f (place (after t e) (make t (operand t e))) y) → Emits old new p v here Good (λ t. with_operand t e (make t))
-cell_works old mid new p q v here e o to Good make y g cell m is typed runs = record {
+pub cell_works : (old mid new : Generator) (p q v : Lined) (here : Here) (e : Expression) (o : Read) (to : Address) (IsTypedStatement : TypedScope → Type 0) (make : Site → Operand → Instruction) (y : Running) → HasGrown old mid → IsInFrame (length mid.locals.items + here.height) to → HasReadOperand mid new p q here e o → v ≡ q ++ on_line here.line y ∷ [] → ((k : TypedScope) → IsTypedStatement k → IsTyped e k) → ((f : Final) (t : Site) → IsSiteTarget f t (next t) to → IsRead f t e o → IsRunBy f (place (after t e) (make t (operand t e))) y) → HasEmitted old new p v here IsTypedStatement (λ t. with_operand t e (make t))
+cell_works old mid new p q v here e o to IsTypedStatement make y g cell m is typed runs = record {
   grows = grows_then old mid new g m.grows;
   adds = λ f t u around located good.
       let there = stands_old f mid new here t m.grows located in
-      let at : AtTarget f t (next t) to = cell_at_site f mid here t to there cell in
+      let at : IsSiteTarget f t (next t) to = cell_at_site f mid here t to there cell in
       let read = m.more f t tt around located (typed t.scope good) in
       adds_then f p q v (operand_code t e) (place (after t e) (make t (operand t e)) ∷ []) (m.adds f t tt around located (typed t.scope good))
       (adds_one f q v here.line (place (after t e) (make t (operand t e))) y is located.line (runs f t at read));
@@ -51,20 +51,20 @@ cell_works old mid new p q v here e o to Good make y g cell m is typed runs = re
 }
 
 -- a time, so
-pub at_timed : (old mid new : Generator) (p q v : Lined) (here : Here) (e : Expression) (o : Read) (to : Address) → Grows old mid → InFrame (length mid.locals.items + here.height) to → ReadsOperand mid new p q here e o → v ≡ q ++ on_line here.line (r.At o.address to) ∷ [] → Emits old new p v here (λ s. GoodWhen s (At e)) (λ t. when_code t (At e))
+pub at_timed : (old mid new : Generator) (p q v : Lined) (here : Here) (e : Expression) (o : Read) (to : Address) → HasGrown old mid → IsInFrame (length mid.locals.items + here.height) to → HasReadOperand mid new p q here e o → v ≡ q ++ on_line here.line (r.At o.address to) ∷ [] → HasEmitted old new p v here (λ s. IsTypedWhen s (At e)) (λ t. when_code t (At e))
 at_timed old mid new p q v here e o to g cell m is =
-    cell_works old mid new p q v here e o to (λ s. GoodWhen s (At e)) (λ t x. i.At x (next t)) (r.At o.address to) g cell m is (λ k h. (Integer, h))
+    cell_works old mid new p q v here e o to (λ s. IsTypedWhen s (At e)) (λ t x. i.At x (next t)) (r.At o.address to) g cell m is (λ k h. (Integer, h))
     (λ f t at read. record { carries = (operand t e, read.at, (next t, at, refl)); deep = read.deep; shown = tt })
 
-pub in_timed : (old mid new : Generator) (p q v : Lined) (here : Here) (e : Expression) (o : Read) (to : Address) → Grows old mid → InFrame (length mid.locals.items + here.height) to → ReadsOperand mid new p q here e o → v ≡ q ++ on_line here.line (r.In o.address to) ∷ [] → Emits old new p v here (λ s. GoodWhen s (In e)) (λ t. when_code t (In e))
+pub in_timed : (old mid new : Generator) (p q v : Lined) (here : Here) (e : Expression) (o : Read) (to : Address) → HasGrown old mid → IsInFrame (length mid.locals.items + here.height) to → HasReadOperand mid new p q here e o → v ≡ q ++ on_line here.line (r.In o.address to) ∷ [] → HasEmitted old new p v here (λ s. IsTypedWhen s (In e)) (λ t. when_code t (In e))
 in_timed old mid new p q v here e o to g cell m is =
-    cell_works old mid new p q v here e o to (λ s. GoodWhen s (In e)) (λ t x. i.In x (next t)) (r.In o.address to) g cell m is (λ k h. (Integer, h))
+    cell_works old mid new p q v here e o to (λ s. IsTypedWhen s (In e)) (λ t x. i.In x (next t)) (r.In o.address to) g cell m is (λ k h. (Integer, h))
     (λ f t at read. record { carries = (operand t e, read.at, (next t, at, refl)); deep = read.deep; shown = tt })
 
 -- ## What a notice is given, and its time
 
 -- where the values lie
-pub values_stand : (f : Final) (mid new : Generator) (here higher : Here) (t : Site) (es : List Expression) → Grows mid new → here.height + length es ≤ mid.deepest → higher.line ≡ here.line → (here.height + length es < 2 ^ 64 → higher.height ≡ here.height + length es) → Around f new → IsLocated f new here t → IsLocated f new higher (after_values t es)
+pub values_stand : (f : Final) (mid new : Generator) (here higher : Here) (t : Site) (es : List Expression) → HasGrown mid new → here.height + length es ≤ mid.deepest → higher.line ≡ here.line → (here.height + length es < 2 ^ 64 → higher.height ≡ here.height + length es) → IsAround f new → IsLocated f new here t → IsLocated f new higher (after_values t es)
 values_stand f mid new here higher t es g room line up around located =
     let mine = around_old f mid new g around in
     let long : height (after_values t es) ≡ length es + height t = values_high t.scope es t.cells in
@@ -72,7 +72,7 @@ values_stand f mid new here higher t es g room line up around located =
     let deep : height (after_values t es) ≤ f.depth = omega (arith, high, located.high, room, mine.depth) in
     stands_above f new here higher t (after_values t es) (length es) around.small located line up refl refl high deep
 
-pub values_timed : (old mid new : Generator) (p q v : Lined) (here higher : Here) (es : List Expression) (w : When) → Emits old mid p q here (λ s. Every (λ e. Typed e s) es) (λ t. values_code t es) → here.height + length es ≤ mid.deepest → higher.line ≡ here.line → (here.height + length es < 2 ^ 64 → higher.height ≡ here.height + length es) → Emits mid new q v higher (λ s. GoodWhen s w) (λ t. when_code t w) → Emits old new p v here (λ s. Every (λ e. Typed e s) es × GoodWhen s w) (λ t. values_code t es ++ when_code (after_values t es) w)
+pub values_timed : (old mid new : Generator) (p q v : Lined) (here higher : Here) (es : List Expression) (w : When) → HasEmitted old mid p q here (λ s. Every (λ e. IsTyped e s) es) (λ t. values_code t es) → here.height + length es ≤ mid.deepest → higher.line ≡ here.line → (here.height + length es < 2 ^ 64 → higher.height ≡ here.height + length es) → HasEmitted mid new q v higher (λ s. IsTypedWhen s w) (λ t. when_code t w) → HasEmitted old new p v here (λ s. Every (λ e. IsTyped e s) es × IsTypedWhen s w) (λ t. values_code t es ++ when_code (after_values t es) w)
 values_timed old mid new p q v here higher es w m room line up n = record {
   grows = grows_then old mid new m.grows n.grows;
   adds = λ f t u around located good.
@@ -91,13 +91,13 @@ room_above h n higher d e room up grows low fits =
     omega (arith, is, low)
 
 -- values of the modes of attributes are typed
-haves_typed : (s : TypedScope) (es : List Expression) (ms : List Mode) → AllZip (HasMode s) es ms → Every (λ e. Typed e s) es
+haves_typed : (s : TypedScope) (es : List Expression) (ms : List Mode) → AllZip (HasMode s) es ms → Every (λ e. IsTyped e s) es
 haves_typed s [] [] h = tt
 haves_typed s [] (m ∷ ms) h = absurd h
 haves_typed s (e ∷ es) [] h = absurd h
 haves_typed s (e ∷ es) (m ∷ ms) h = ((m, h.0), haves_typed s es ms h.1)
 
-pub given_typed : (s : TypedScope) (class : ℕ) (es : List Expression) → GoodGiven s class es → Every (λ e. Typed e s) es
+pub given_typed : (s : TypedScope) (class : ℕ) (es : List Expression) → AreTypedGiven s class es → Every (λ e. IsTyped e s) es
 given_typed s class es h = haves_typed s es (take (length es) h.1.0) h.1.2
 
 -- none of the first attributes is watched
@@ -113,44 +113,44 @@ unwatched_below ss class (suc k) h field low = by (any_watched ss class k) refl 
     by true e h rest = absurd (true≢false h)
     by false e h rest = at (field == k) refl h (rest e field)
 
-pub notes_given : (f : Final) (g : Generator) (here : Here) (t : Site) (noted : Bool) (class given : ℕ) → Around f g → IsLocated f g here t → noted ≡ any_watched g.program.now.statistics.items class given → noted ≡ false → (field : ℕ) → field < given → watch f.program.statistics (OfAttribute class field) ≡ false
+pub notes_given : (f : Final) (g : Generator) (here : Here) (t : Site) (noted : Bool) (class given : ℕ) → IsAround f g → IsLocated f g here t → noted ≡ any_watched g.program.now.statistics.items class given → noted ≡ false → (field : ℕ) → field < given → watch f.program.statistics (OfAttribute class field) ≡ false
 notes_given f g here t noted class given around located is off field low =
     sym (ap (λ (p : Program). watch p.statistics (OfAttribute class field)) around.program) ∙ unwatched_below g.program.now.statistics.items class given (sym is ∙ off) field low
 
 -- ## A new notice goes to its place
 
-named_in_variable : (g : Generator) (p q : Lined) (here : Here) (from : Address) (s : VariableSpot) → AssignsLanded g p q here from (λ f t x. IsSpot f t x (spots.Variable s)) → (f : Final) (t u : Site) (x : Place) → IsSpot f t x (spots.Variable s) → t.scope ≡ u.scope → AtTarget f u (landing u x) from → HasTargetRoom f (landing u x) → HoldsMode u.scope x Integer → Around f g → IsLocated f g here u → Adds f p q (named_code t u x)
+named_in_variable : (g : Generator) (p q : Lined) (here : Here) (from : Address) (s : VariableSpot) → HasAssignedLanded g p q here from (λ f t x. IsSpot f t x (spots.Variable s)) → (f : Final) (t u : Site) (x : Place) → IsSpot f t x (spots.Variable s) → t.scope ≡ u.scope → IsSiteTarget f u (landing u x) from → HasTargetRoom f (landing u x) → HasHeldMode u.scope x Integer → IsAround f g → IsLocated f g here u → HasAdded f p q (named_code t u x)
 named_in_variable g p q here from s m f t u (ToVariable x) v same at room holds around located =
     let it : Taking = record { resolved = t; place = ToVariable x; mode = Integer } in
     m.adds f u it around located (v, same, at, room, holds)
 named_in_variable g p q here from s m f t u (ToAttribute class field e) v same at room holds around located = absurd v
 named_in_variable g p q here from s m f t u (ToCount c) v same at room holds around located = absurd v
 
-pub variable_named : (g : Generator) (p q : Lined) (here : Here) (from : Address) (s : VariableSpot) → AssignsLanded g p q here from (λ f t x. IsSpot f t x (spots.Variable s)) → Names g p q here from (λ f t x. IsSpot f t x (spots.Variable s))
+pub variable_named : (g : Generator) (p q : Lined) (here : Here) (from : Address) (s : VariableSpot) → HasAssignedLanded g p q here from (λ f t x. IsSpot f t x (spots.Variable s)) → HasNamed g p q here from (λ f t x. IsSpot f t x (spots.Variable s))
 variable_named g p q here from s m = record {
   grows = grows_same g;
   adds = λ f u x around located fits. named_in_variable g p q here from s m f x.resolved u x.place fits.0 fits.1 fits.2 fits.3 fits.4 around located;
   more = λ f u x around located fits. tt;
 }
 
-named_in_attribute : (g : Generator) (p q : Lined) (here : Here) (from : Address) (s : AttributeSpot) → q ≡ p ++ on_line here.line (storing s.mode s.class s.field s.entity from s.is_watched) ∷ [] → (f : Final) (t u : Site) (x : Place) → IsSpot f t x (spots.Attribute s) → t.scope ≡ u.scope → AtTarget f u (landing u x) from → HasTargetRoom f (landing u x) → HoldsMode u.scope x Integer → Around f g → IsLocated f g here u → Adds f p q (named_code t u x)
+named_in_attribute : (g : Generator) (p q : Lined) (here : Here) (from : Address) (s : AttributeSpot) → q ≡ p ++ on_line here.line (storing s.mode s.class s.field s.entity from s.is_watched) ∷ [] → (f : Final) (t u : Site) (x : Place) → IsSpot f t x (spots.Attribute s) → t.scope ≡ u.scope → IsSiteTarget f u (landing u x) from → HasTargetRoom f (landing u x) → HasHeldMode u.scope x Integer → IsAround f g → IsLocated f g here u → HasAdded f p q (named_code t u x)
 named_in_attribute g p q here from s is f t u (ToVariable x) v same at room holds around located = absurd v
 named_in_attribute g p q here from s is f t u (ToAttribute class field e) v same at room holds around located =
     let w : Site = above u Integer in
-    let entity : AtOperand f w (stay (operand t e)) s.entity = stays_at f w (operand t e) s.entity (operand_at f t w (operand t e) s.entity (sym same) v.entity.at) in
+    let entity : IsSiteOperand f w (stay (operand t e)) s.entity = stays_at f w (operand t e) s.entity (operand_at f t w (operand t e) s.entity (sym same) v.entity.at) in
     let low : height u < f.depth = room in
     let deep : height w ≤ f.depth = omega (arith, low) in
     stored f p q here.line from s is g around t w class field e (stay (operand t e)) (Stays (height u)) Integer v same entity at holds located.line located.program deep
 named_in_attribute g p q here from s is f t u (ToCount c) v same at room holds around located = absurd v
 
-pub attribute_named : (g : Generator) (p q : Lined) (here : Here) (from : Address) (s : AttributeSpot) → q ≡ p ++ on_line here.line (storing s.mode s.class s.field s.entity from s.is_watched) ∷ [] → Names g p q here from (λ f t x. IsSpot f t x (spots.Attribute s))
+pub attribute_named : (g : Generator) (p q : Lined) (here : Here) (from : Address) (s : AttributeSpot) → q ≡ p ++ on_line here.line (storing s.mode s.class s.field s.entity from s.is_watched) ∷ [] → HasNamed g p q here from (λ f t x. IsSpot f t x (spots.Attribute s))
 attribute_named g p q here from s is = record {
   grows = grows_same g;
   adds = λ f u x around located fits. named_in_attribute g p q here from s is f x.resolved u x.place fits.0 fits.1 fits.2 fits.3 fits.4 around located;
   more = λ f u x around located fits. tt;
 }
 
-named_in_count : (g : Generator) (p q : Lined) (here higher : Here) (from : Address) (class : ℕ) (s : VariableSpot) → higher.line ≡ here.line → (here.height + 1 < 2 ^ 64 → higher.height ≡ here.height + 1) → Assigns g p q higher from (λ f t x. IsSpot f t x (spots.Count class s)) → (f : Final) (t u : Site) (x : Place) → IsSpot f t x (spots.Count class s) → t.scope ≡ u.scope → AtTarget f u (landing u x) from → HasTargetRoom f (landing u x) → HoldsMode u.scope x Integer → Around f g → IsLocated f g here u → Adds f p q (named_code t u x)
+named_in_count : (g : Generator) (p q : Lined) (here higher : Here) (from : Address) (class : ℕ) (s : VariableSpot) → higher.line ≡ here.line → (here.height + 1 < 2 ^ 64 → higher.height ≡ here.height + 1) → HasAssigned g p q higher from (λ f t x. IsSpot f t x (spots.Count class s)) → (f : Final) (t u : Site) (x : Place) → IsSpot f t x (spots.Count class s) → t.scope ≡ u.scope → IsSiteTarget f u (landing u x) from → HasTargetRoom f (landing u x) → HasHeldMode u.scope x Integer → IsAround f g → IsLocated f g here u → HasAdded f p q (named_code t u x)
 named_in_count g p q here higher from class s line up m f t u (ToVariable x) v same at room holds around located = absurd v
 named_in_count g p q here higher from class s line up m f t u (ToAttribute k field e) v same at room holds around located = absurd v
 named_in_count g p q here higher from class s line up m f t u (ToCount c) v same at room holds around located =
@@ -161,7 +161,7 @@ named_in_count g p q here higher from class s line up m f t u (ToCount c) v same
     let it : Assignment = record { resolved = t; place = ToCount c; from = Stays (height u); mode = Integer } in
     m.adds f w it around on (v, same, at, holds, on_top (height u) Integer u.cells refl)
 
-pub count_named : (g : Generator) (p q : Lined) (here higher : Here) (from : Address) (class : ℕ) (s : VariableSpot) → higher.line ≡ here.line → (here.height + 1 < 2 ^ 64 → higher.height ≡ here.height + 1) → Assigns g p q higher from (λ f t x. IsSpot f t x (spots.Count class s)) → Names g p q here from (λ f t x. IsSpot f t x (spots.Count class s))
+pub count_named : (g : Generator) (p q : Lined) (here higher : Here) (from : Address) (class : ℕ) (s : VariableSpot) → higher.line ≡ here.line → (here.height + 1 < 2 ^ 64 → higher.height ≡ here.height + 1) → HasAssigned g p q higher from (λ f t x. IsSpot f t x (spots.Count class s)) → HasNamed g p q here from (λ f t x. IsSpot f t x (spots.Count class s))
 count_named g p q here higher from class s line up m = record {
   grows = grows_same g;
   adds = λ f u x around located fits. named_in_count g p q here higher from class s line up m f x.resolved u x.place fits.0 fits.1 fits.2 fits.3 fits.4 around located;
@@ -210,7 +210,7 @@ notice_parts f t t1 u class (ToCount c) (spots.Count k s) make is_t1 is_u h =
     subst (λ (t1 : Site). make (next u) ∷ (count_code v c (Stays (height u)) ++ (place v (i.FileNotice class (Taken (height u)) (Taken (height t1))) ∷ [])) ≡ notice_code t u class (ToCount c) make) (sym is_t1) refl
 
 -- a notice is filed
-notice_files : (f : Final) (t u : Site) (x : Place) (s : Spot) (to time : Address) (class h : ℕ) → IsSpot f t x s → AtTarget f u (landing u x) to → HasTargetRoom f (landing u x) → InFrame (length u.scope.locals + h) time → height u ≤ f.depth → Runs f (place (notice_site u x) (i.FileNotice class (notice_from u x) (Taken h))) (r.FileNotice class (named_at s to) time)
+notice_files : (f : Final) (t u : Site) (x : Place) (s : Spot) (to time : Address) (class h : ℕ) → IsSpot f t x s → IsSiteTarget f u (landing u x) to → HasTargetRoom f (landing u x) → IsInFrame (length u.scope.locals + h) time → height u ≤ f.depth → IsRunBy f (place (notice_site u x) (i.FileNotice class (notice_from u x) (Taken h))) (r.FileNotice class (named_at s to) time)
 notice_files f t u (ToVariable x) (spots.Variable s) to time class h v at room there deep = record { carries = (Held x, v.at, (Taken h, there, refl)); deep = deep; shown = tt }
 notice_files f t u (ToVariable x) (spots.Attribute s) to time class h v at room there deep = absurd v
 notice_files f t u (ToVariable x) (spots.Count k s) to time class h v at room there deep = absurd v
@@ -225,7 +225,7 @@ notice_files f t u (ToCount c) (spots.Count k s) to time class h v at room there
     let low : height u < f.depth = room in
     record { carries = (Taken (height u), at, (Taken h, there, refl)); deep = omega (arith, low); shown = tt }
 
-pub schedule_new_made : (old g1 g2 g3 new : Generator) (p q v w z y end : Lined) (here one higher : Here) (class : ℕ) (x : Place) (given : List Expression) (when : When) (s : Spot) (time to : Address) (cell : ℕ) (noted : Bool) → MakesSpot old g1 p q here (λ t. place_code t x) x s → one.line ≡ here.line → (here.height + spot_cells s < 2 ^ 64 → one.height ≡ here.height + spot_cells s) → Emits g1 g2 q v one (λ k. Every (λ e. Typed e k) given × GoodWhen k when) (λ t. values_code t given ++ when_code (after_values t given) when) → (g2.deepest < 2 ^ 64 → one.height + length given < g2.deepest) → Grows g2 g3 → InFrame (length g3.locals.items + one.height) time → higher.line ≡ one.line → (one.height + 1 < 2 ^ 64 → higher.height ≡ one.height + 1) → Grows g3 new → Lands new higher s to → w ≡ v ++ on_line here.line (r.MakeNotice class cell (length given) to noted) ∷ [] → cell ≡ length new.locals.items + one.height → noted ≡ any_watched new.program.now.statistics.items class (length given) → Names new w z higher to (λ f t k. IsSpot f t k s) → y ≡ z ++ on_line here.line (r.FileNotice class (named_at s to) time) ∷ [] → Emits new new y end one (λ k. Unit {0}) (λ u. forget u (spot_cells s)) → Emits old new p end here (λ k. Good k (ScheduleNew here.line class x given when)) (λ t. schedule_new_code t class x given when)
+pub schedule_new_made : (old g1 g2 g3 new : Generator) (p q v w z y end : Lined) (here one higher : Here) (class : ℕ) (x : Place) (given : List Expression) (when : When) (s : Spot) (time to : Address) (cell : ℕ) (noted : Bool) → MakesSpot old g1 p q here (λ t. place_code t x) x s → one.line ≡ here.line → (here.height + spot_cells s < 2 ^ 64 → one.height ≡ here.height + spot_cells s) → HasEmitted g1 g2 q v one (λ k. Every (λ e. IsTyped e k) given × IsTypedWhen k when) (λ t. values_code t given ++ when_code (after_values t given) when) → (g2.deepest < 2 ^ 64 → one.height + length given < g2.deepest) → HasGrown g2 g3 → IsInFrame (length g3.locals.items + one.height) time → higher.line ≡ one.line → (one.height + 1 < 2 ^ 64 → higher.height ≡ one.height + 1) → HasGrown g3 new → Lands new higher s to → w ≡ v ++ on_line here.line (r.MakeNotice class cell (length given) to noted) ∷ [] → cell ≡ length new.locals.items + one.height → noted ≡ any_watched new.program.now.statistics.items class (length given) → HasNamed new w z higher to (λ f t k. IsSpot f t k s) → y ≡ z ++ on_line here.line (r.FileNotice class (named_at s to) time) ∷ [] → HasEmitted new new y end one (λ k. Unit {0}) (λ u. forget u (spot_cells s)) → HasEmitted old new p end here (λ k. IsTypedStatement k (ScheduleNew here.line class x given when)) (λ t. schedule_new_code t class x given when)
 schedule_new_made old g1 g2 g3 new p q v w z y end here one higher class x given when s time to cell noted l line up n room gc timed line_2 up_2 gr land made is_cell is_noted names filed k = record {
   grows = grows_then old g1 new l.grows (grows_then g1 g2 new n.grows (grows_then g2 g3 new gc gr));
   adds = λ f t u around located good.
@@ -233,7 +233,7 @@ schedule_new_made old g1 g2 g3 new p q v w z y end here one higher class x given
       let around_2 = around_old f g2 new later around in
       let around_1 = around_old f g1 g2 n.grows around_2 in
       let stands_1 = stands_old f g1 g2 here t n.grows (stands_old f g2 new here t later located) in
-      let fits : (m : Mode) × TakesMode t.scope x m = (Integer, good.1) in
+      let fits : (m : Mode) × CanTakeMode t.scope x m = (Integer, good.1) in
       let spot = l.more f t tt around_1 stands_1 fits in
       let t1 : Site = after_place t x in
       let t2 : Site = after_values t1 given in
@@ -253,7 +253,7 @@ schedule_new_made old g1 g2 g3 new p q v w z y end here one higher class x given
       let notes = notes_given f new one t1 noted class (length given) around on is_noted in
       let make : Target → Placed = λ (j : Target). place t3 (i.MakeNotice class (height t1) (length given) j) in
       let named = names.adds f top (record { resolved = t; place = x; mode = Integer }) around on_top_of (spot, refl, at.0, at.1, holds_mode f new here t x Integer around located good.1) in
-      let time_there : InFrame (length top.scope.locals + height t1) time = cell_at_site f g3 one t1 time (stands_old f g3 new one t1 gr on) timed in
+      let time_there : IsInFrame (length top.scope.locals + height t1) time = cell_at_site f g3 one t1 time (stands_old f g3 new one t1 gr on) timed in
       let files = notice_files f t top x s to time class (height t1) spot at.0 at.1 time_there on_top_of.deep in
       let last : Placed = place (notice_site top x) (i.FileNotice class (notice_from top x) (Taken (height t1))) in
       let rest : List Placed = (make (landing top x) ∷ []) ++ (named_code t top x ++ (last ∷ forget t1 (spot_cells s))) in
@@ -273,13 +273,13 @@ schedule_new_made old g1 g2 g3 new p q v w z y end here one higher class x given
 
 -- ## SCHEDULE THE
 
-pub schedule_made : (old g1 new : Generator) (p q v w z : Lined) (here one : Here) (class : ℕ) (e : Expression) (o : Read) (given : List Expression) (when : When) (cell : ℕ) (noted : Bool) → ReadsOperand old g1 p q here e o → v ≡ q ++ on_line here.line (r.LookEntity class o.address) ∷ [] → one.line ≡ here.line → (here.height + o.cells < 2 ^ 64 → one.height ≡ here.height + o.cells) → Emits g1 new v w one (λ k. Every (λ e. Typed e k) given × GoodWhen k when) (λ t. values_code t given ++ when_code (after_values t given) when) → (new.deepest < 2 ^ 64 → one.height + length given < new.deepest) → cell ≡ length new.locals.items + one.height → noted ≡ any_watched new.program.now.statistics.items class (length given) → z ≡ w ++ on_line here.line (r.Reschedule class o.address cell (length given) noted) ∷ [] → Emits old new p z here (λ k. Good k (Schedule here.line class e given when)) (λ t. schedule_code t class e given when)
+pub schedule_made : (old g1 new : Generator) (p q v w z : Lined) (here one : Here) (class : ℕ) (e : Expression) (o : Read) (given : List Expression) (when : When) (cell : ℕ) (noted : Bool) → HasReadOperand old g1 p q here e o → v ≡ q ++ on_line here.line (r.LookEntity class o.address) ∷ [] → one.line ≡ here.line → (here.height + o.cells < 2 ^ 64 → one.height ≡ here.height + o.cells) → HasEmitted g1 new v w one (λ k. Every (λ e. IsTyped e k) given × IsTypedWhen k when) (λ t. values_code t given ++ when_code (after_values t given) when) → (new.deepest < 2 ^ 64 → one.height + length given < new.deepest) → cell ≡ length new.locals.items + one.height → noted ≡ any_watched new.program.now.statistics.items class (length given) → z ≡ w ++ on_line here.line (r.Reschedule class o.address cell (length given) noted) ∷ [] → HasEmitted old new p z here (λ k. IsTypedStatement k (Schedule here.line class e given when)) (λ t. schedule_code t class e given when)
 schedule_made old g1 new p q v w z here one class e o given when cell noted m look line up n room is_cell is_noted made = record {
   grows = grows_then old g1 new m.grows n.grows;
   adds = λ f t u around located good.
       let mine = around_old f g1 new n.grows around in
       let there = stands_old f g1 new here t n.grows located in
-      let typed : Typed e t.scope = (Integer, good.1) in
+      let typed : IsTyped e t.scope = (Integer, good.1) in
       let read = m.more f t tt mine there typed in
       let t1 : Site = after t e in
       let t2 : Site = after_values t1 given in
@@ -306,11 +306,11 @@ schedule_made old g1 new p q v w z here one class e o given when cell noted m lo
 
 -- ## RESET
 
-restart_numbers : (s : TypedScope) (k : ℕ) (e : Option Expression) → GoodRestart s k e → AreNumbers e s
+restart_numbers : (s : TypedScope) (k : ℕ) (e : Option Expression) → IsTypedRestart s k e → AreNumbers e s
 restart_numbers s k None h = tt
 restart_numbers s k (Some e) h = h.1
 
-pub restarted : (old new : Generator) (p q v : Lined) (here : Here) (x : Restart) (o : Read) → Bears old new p q here x.of o → v ≡ q ++ on_line here.line (r.Reset x.statistic o.address) ∷ [] → Emits old new p v here (λ s. GoodRestart s x.statistic x.of) (λ t. restarts_code t (x ∷ []))
+pub restarted : (old new : Generator) (p q v : Lined) (here : Here) (x : Restart) (o : Read) → HasBorne old new p q here x.of o → v ≡ q ++ on_line here.line (r.Reset x.statistic o.address) ∷ [] → HasEmitted old new p v here (λ s. IsTypedRestart s x.statistic x.of) (λ t. restarts_code t (x ∷ []))
 restarted old new p q v here x o m is = record {
   grows = m.grows;
   adds = λ f t u around located good.

@@ -8,32 +8,32 @@ use Rattle.ss_code_instructions.specs.declared.address.Address.{Address}
 use Rattle.ss_code_instructions.specs.declared.instruction.Instruction.{Instruction as Running}
 use Rattle.ss_code_instructions.specs.Instructions.{Operand, Constant, Held, Taken, Stays, Instruction}
 use Rattle.ss_code_instructions.specs.Translation.{Site, height, place, leaf, or_cell, or_in_cell, unless_leaf, expression_mode, operand, operand_code, after, stay, next, with_operand, expression_code}
-use Rattle.ss_code_instructions.specs.Carried.{InFrame}
+use Rattle.ss_code_instructions.specs.Carried.{IsInFrame}
 use Rattle.ss_code_generator.specs.declared.expressions.Operand.{Operand as Read}
 use Rattle.ss_code_generator.specs.declared.generator.Generator.{Generator}
 use Rattle.ss_code_generator.specs.declared.generator.Site.{Site as Here}
 use Rattle.ss_code_pieces.specs.Lined.{Lined, on_line}
-use Rattle.ss_code_generator.specs.Emitted.{Final, Around, Grows, IsLocated, Runs, EmitsTo, AtOperand, AtTarget, Typed, IsRead, ReadsOperand, ReadsBy, Bears}
+use Rattle.ss_code_generator.specs.Emitted.{Final, IsAround, HasGrown, IsLocated, IsRunBy, HasEmittedTo, IsSiteOperand, IsSiteTarget, IsTyped, IsRead, HasReadOperand, HasReadBy, HasBorne}
 use Rattle.ss_code_generator.proofs.Emitting.{around_old, stands_old, stands_above, adds_then, adds_one, adds_same}
 
 -- ## Addresses
 
 -- the next cell, as a target and as an operand
-pub cell_at_site : (f : Final) (g : Generator) (here : Here) (t : Site) (a : Address) → IsLocated f g here t → InFrame (length g.locals.items + here.height) a → InFrame (length t.scope.locals + height t) a
+pub cell_at_site : (f : Final) (g : Generator) (here : Here) (t : Site) (a : Address) → IsLocated f g here t → IsInFrame (length g.locals.items + here.height) a → IsInFrame (length t.scope.locals + height t) a
 cell_at_site f g here t a s h =
     let e : length g.locals.items + here.height ≡ length t.scope.locals + height t =
     sym (ap (λ (l : List Mode). length l + height t) s.locals ∙ ap (λ n. length g.locals.items + n) s.high) in
     (h.0, h.1 ∙ e)
 
 -- an operand has the same address at all sites of a section
-pub operand_at : (f : Final) (t u : Site) (y : Operand) (a : Address) → u.scope ≡ t.scope → AtOperand f t y a → AtOperand f u y a
+pub operand_at : (f : Final) (t u : Site) (y : Operand) (a : Address) → u.scope ≡ t.scope → IsSiteOperand f t y a → IsSiteOperand f u y a
 operand_at f t u (Constant v) a e h = h
 operand_at f t u (Held x) a e h = h
 operand_at f t u (Taken k) a e h = (h.0, h.1 ∙ sym (ap (λ s. length s.locals + k) e))
 operand_at f t u (Stays k) a e h = (h.0, h.1 ∙ sym (ap (λ s. length s.locals + k) e))
 
 -- an operand that stays lies where it was
-pub stays_at : (f : Final) (t : Site) (y : Operand) (a : Address) → AtOperand f t y a → AtOperand f t (stay y) a
+pub stays_at : (f : Final) (t : Site) (y : Operand) (a : Address) → IsSiteOperand f t y a → IsSiteOperand f t (stay y) a
 stays_at f t (Constant v) a h = h
 stays_at f t (Held x) a h = h
 stays_at f t (Taken k) a h = h
@@ -48,18 +48,18 @@ cell_high t e h =
     ap (λ (o : Option Operand). length (or_in_cell o (expression_mode t.scope e) t.cells)) h ∙ n
 
 -- anything else goes into a cell, which was the next one on the way
-pub cell_reads_at : (old mid new : Generator) (p q : Lined) (here : Here) (e : Expression) (a : Address) → leaf e ≡ None → Grows mid new → InFrame (length mid.locals.items + here.height) a → here.height < mid.deepest → EmitsTo old new p q here a (Typed e) (λ t x. expression_code t x e) → ReadsOperand old new p q here e (record { address = a; cells = 1 })
+pub cell_reads_at : (old mid new : Generator) (p q : Lined) (here : Here) (e : Expression) (a : Address) → leaf e ≡ None → HasGrown mid new → IsInFrame (length mid.locals.items + here.height) a → here.height < mid.deepest → HasEmittedTo old new p q here a (IsTyped e) (λ t x. expression_code t x e) → HasReadOperand old new p q here e (record { address = a; cells = 1 })
 cell_reads_at old mid new p q here e a none grows cell room m = record {
   grows = m.grows;
   adds = λ f t u around located typed.
-      let at : AtTarget f t (next t) a = cell_at_site f mid here t a (stands_old f mid new here t grows located) cell in
+      let at : IsSiteTarget f t (next t) a = cell_at_site f mid here t a (stands_old f mid new here t grows located) cell in
       adds_same f p q (expression_code t (next t) e) (operand_code t e) (sym (ap (λ (o : Option Operand). unless_leaf o (expression_code t (next t) e)) none))
       (m.adds f t (next t) around located (at, typed));
   more = λ f t u around located typed.
-      let mine : Around f mid = around_old f mid new grows around in
-      let at : AtOperand f t (Taken (height t)) a = cell_at_site f mid here t a (stands_old f mid new here t grows located) cell in
+      let mine : IsAround f mid = around_old f mid new grows around in
+      let at : IsSiteOperand f t (Taken (height t)) a = cell_at_site f mid here t a (stands_old f mid new here t grows located) cell in
       record {
-        at = subst (λ (o : Option Operand). AtOperand f t (or_cell (height t) o) a) (sym none) at;
+        at = subst (λ (o : Option Operand). IsSiteOperand f t (or_cell (height t) o) a) (sym none) at;
         high = cell_high t e none;
         deep = omega (arith, cell_high t e none, located.high, room, mine.depth);
       };
@@ -68,13 +68,13 @@ cell_reads_at old mid new p q here e a none grows cell room m = record {
 -- ## An operand, and the instruction that reads it
 
 -- where an operand located
-pub read_stands : (f : Final) (g : Generator) (here higher : Here) (t : Site) (e : Expression) (o : Read) → Around f g → IsLocated f g here t → IsRead f t e o → higher.line ≡ here.line → (here.height + o.cells < 2 ^ 64 → higher.height ≡ here.height + o.cells) → IsLocated f g higher (after t e)
+pub read_stands : (f : Final) (g : Generator) (here higher : Here) (t : Site) (e : Expression) (o : Read) → IsAround f g → IsLocated f g here t → IsRead f t e o → higher.line ≡ here.line → (here.height + o.cells < 2 ^ 64 → higher.height ≡ here.height + o.cells) → IsLocated f g higher (after t e)
 read_stands f g here higher t e o around located r line above = stands_above f g here higher t (after t e) o.cells around.small located line above refl refl r.high r.deep
 
 -- ## Looks, and owners
 
 -- an operand that is looked at
-pub looked_reads : (old new : Generator) (p q r : Lined) (here : Here) (e : Expression) (o : Read) (Good : TypedScope → Type 0) (make : Operand → Instruction) (y : Running) → ReadsOperand old new p q here e o → r ≡ q ++ on_line here.line y ∷ [] → ((f : Final) (t : Site) → Around f new → IsLocated f new here t → Good t.scope → IsRead f t e o → Typed e t.scope × Runs f (place (after t e) (make (operand t e))) y) → ((s : TypedScope) → Good s → Typed e s) → ReadsBy old new p r here Good e o (λ t. with_operand t e make)
+pub looked_reads : (old new : Generator) (p q r : Lined) (here : Here) (e : Expression) (o : Read) (Good : TypedScope → Type 0) (make : Operand → Instruction) (y : Running) → HasReadOperand old new p q here e o → r ≡ q ++ on_line here.line y ∷ [] → ((f : Final) (t : Site) → IsAround f new → IsLocated f new here t → Good t.scope → IsRead f t e o → IsTyped e t.scope × IsRunBy f (place (after t e) (make (operand t e))) y) → ((s : TypedScope) → Good s → IsTyped e s) → HasReadBy old new p r here Good e o (λ t. with_operand t e make)
 looked_reads old new p q r here e o Good make y m is h typed = record {
   grows = m.grows;
   adds = λ f t u around located good.
@@ -86,14 +86,14 @@ looked_reads old new p q r here e o Good make y m is h typed = record {
 }
 
 -- an operand that is not
-pub unlooked_reads : (old new : Generator) (p q : Lined) (here : Here) (e : Expression) (o : Read) (Good : TypedScope → Type 0) → ((s : TypedScope) → Good s → Typed e s) → ReadsOperand old new p q here e o → ReadsBy old new p q here Good e o (λ t. operand_code t e)
+pub unlooked_reads : (old new : Generator) (p q : Lined) (here : Here) (e : Expression) (o : Read) (Good : TypedScope → Type 0) → ((s : TypedScope) → Good s → IsTyped e s) → HasReadOperand old new p q here e o → HasReadBy old new p q here Good e o (λ t. operand_code t e)
 unlooked_reads old new p q here e o Good typed m = record {
   grows = m.grows;
   adds = λ f t u around located good. m.adds f t u around located (typed t.scope good);
   more = λ f t u around located good. m.more f t u around located (typed t.scope good);
 }
 
-pub entity_bears : (old new : Generator) (p q : Lined) (here : Here) (e : Expression) (o : Read) → ReadsOperand old new p q here e o → Bears old new p q here (Some e) o
+pub entity_bears : (old new : Generator) (p q : Lined) (here : Here) (e : Expression) (o : Read) → HasReadOperand old new p q here e o → HasBorne old new p q here (Some e) o
 entity_bears old new p q here e o m = record {
   grows = m.grows;
   adds = λ f t u around located good. m.adds f t u around located (_, good);
@@ -103,6 +103,6 @@ entity_bears old new p q here e o m = record {
 }
 
 -- an operand that a call gives is one of an owner
-pub entity_ok : {E : Type 0} (r : Result Read E) (old new : Generator) (p q : Lined) (here : Here) (e : Expression) → IfOk r (λ o. ReadsOperand old new p q here e o) → IfOk r (λ o. Bears old new p q here (Some e) o)
+pub entity_ok : {E : Type 0} (r : Result Read E) (old new : Generator) (p q : Lined) (here : Here) (e : Expression) → IfOk r (λ o. HasReadOperand old new p q here e o) → IfOk r (λ o. HasBorne old new p q here (Some e) o)
 entity_ok (Ok o) old new p q here e h = entity_bears old new p q here e o h
 entity_ok (Err x) old new p q here e h = tt

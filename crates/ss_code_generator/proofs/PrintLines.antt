@@ -3,10 +3,10 @@ use Rattle.std.proofs.Common.{◌≡◌, ◌+◌, List, ◌++◌, length, map, s
 use Rattle.std.proofs.lemmas.List.{map-append, length-map}
 use Rattle.ss_code_instructions.specs.Instructions.{Lines}
 use Rattle.ss_code_instructions.specs.Carried.{RunningLines, lines_of_running}
-use Rattle.ss_code_generator.specs.Printed.{Prints}
+use Rattle.ss_code_generator.specs.Printed.{HasPrinted}
 
 -- the lines of all PRINTs
-pub prints_then : (a b c : List RunningLines) (ls ms : List Lines) → Prints a b ls → Prints b c ms → Prints a c (ls ++ ms)
+pub prints_then : (a b c : List RunningLines) (ls ms : List Lines) → HasPrinted a b ls → HasPrinted b c ms → HasPrinted a c (ls ++ ms)
 prints_then a b c ls ms h k = (
   h.0 ++ k.0,
   k.1 ∙ ap (λ (l : List RunningLines). l ++ k.0) h.1 ∙ append_assoc a h.0 k.0,
@@ -14,5 +14,5 @@ prints_then a b c ls ms h k = (
 )
 
 -- how many there are then
-pub prints_long : (a b : List RunningLines) (ls : List Lines) → Prints a b ls → length b ≡ length a + length ls
+pub prints_long : (a b : List RunningLines) (ls : List Lines) → HasPrinted a b ls → length b ≡ length a + length ls
 prints_long a b ls h = ap length h.1 ∙ length-append a h.0 ∙ ap (λ n. length a + n) (sym (length-map h.0 lines_of_running) ∙ ap length h.2)

@@ -11,14 +11,14 @@ use Rattle.ss_code_instructions.specs.declared.instruction.Instruction.TheVarian
 use Rattle.ss_code_instructions.specs.Instructions.{Constant, Instruction, Placed}
 use Rattle.ss_code_instructions.specs.Instructions as i
 use Rattle.ss_code_instructions.specs.Translation.{Site, height, place, next, above, expression_mode, expression_code, values_code, after_values, take_code}
-use Rattle.ss_code_instructions.specs.Carried.{InFrame}
+use Rattle.ss_code_instructions.specs.Carried.{IsInFrame}
 use Rattle.ss_code_instructions.proofs.Stacked.{values_high}
 use Rattle.ss_code_generator.specs.declared.generator.Generator.{Generator}
 use Rattle.ss_code_generator.specs.declared.generator.Site.{Site as Here}
 use Rattle.ss_code_generator.specs.declared.targets.VariableSpot.{VariableSpot}
 use Rattle.ss_code_pieces.specs.Lined.{Lined, no_code, on_line}
-use Rattle.ss_code_generator.specs.Emitted.{Final, Around, Grows, Emits, AtOperand, Typed}
-use Rattle.ss_code_generator.specs.Looped.{TakesLoopItem, TakesItems}
+use Rattle.ss_code_generator.specs.Emitted.{Final, IsAround, HasGrown, HasEmitted, IsSiteOperand, IsTyped}
+use Rattle.ss_code_generator.specs.Looped.{HasTakenLoopItem, HasTakenItems}
 use Rattle.ss_code_generator.proofs.Emitting.{around_old, grows_same, grows_then, stands_old, stands_above, adds_then, adds_one, adds_piece, adds_same, piece_long}
 use Rattle.ss_code_generator.proofs.Operands.{cell_at_site}
 use Rattle.ss_code_generator.proofs.Listed.{every_split}
@@ -28,7 +28,7 @@ use Rattle.std.proofs.lemmas.List.{take_all}
 -- ## Values
 
 -- the number 1 in the next cell
-pub one_pushed : (old new : Generator) (p q : Lined) (here : Here) (a one : Address) → Grows old new → InFrame (length new.locals.items + here.height) a → ((f : Final) (t : Site) → Around f new → AtOperand f t (Constant (Whole (pos 1))) one) → q ≡ p ++ on_line here.line (r.Move one a) ∷ [] → Emits old new p q here (λ s. Unit {0}) (λ t. place t (i.Move (Constant (Whole (pos 1))) (next t)) ∷ [])
+pub one_pushed : (old new : Generator) (p q : Lined) (here : Here) (a one : Address) → HasGrown old new → IsInFrame (length new.locals.items + here.height) a → ((f : Final) (t : Site) → IsAround f new → IsSiteOperand f t (Constant (Whole (pos 1))) one) → q ≡ p ++ on_line here.line (r.Move one a) ∷ [] → HasEmitted old new p q here (λ s. Unit {0}) (λ t. place t (i.Move (Constant (Whole (pos 1))) (next t)) ∷ [])
 one_pushed old new p q here a one grows cell at made = record {
   grows = grows;
   adds = λ f t u around located typed.
@@ -46,13 +46,13 @@ values_code_more t (x ∷ es) e =
     let last : List Placed = expression_code (after_values u es) (next (after_values u es)) e in
     ap (λ (c : List Placed). expression_code t (next t) x ++ c) (values_code_more u es e) ∙ sym (append_assoc (expression_code t (next t) x) (values_code u es) last)
 
-pub values_more : (old mid new : Generator) (p q s : Lined) (here higher : Here) (es : List Expression) (e : Expression) → Emits old mid p q here (λ k. Every (λ x. Typed x k) es) (λ t. values_code t es) → here.height + length es ≤ mid.deepest → higher.line ≡ here.line → (here.height + length es < 2 ^ 64 → higher.height ≡ here.height + length es) → Emits mid new q s higher (Typed e) (λ t. expression_code t (next t) e) → Emits old new p s here (λ k. Every (λ x. Typed x k) (es ++ e ∷ [])) (λ t. values_code t (es ++ e ∷ []))
+pub values_more : (old mid new : Generator) (p q s : Lined) (here higher : Here) (es : List Expression) (e : Expression) → HasEmitted old mid p q here (λ k. Every (λ x. IsTyped x k) es) (λ t. values_code t es) → here.height + length es ≤ mid.deepest → higher.line ≡ here.line → (here.height + length es < 2 ^ 64 → higher.height ≡ here.height + length es) → HasEmitted mid new q s higher (IsTyped e) (λ t. expression_code t (next t) e) → HasEmitted old new p s here (λ k. Every (λ x. IsTyped x k) (es ++ e ∷ [])) (λ t. values_code t (es ++ e ∷ []))
 values_more old mid new p q s here higher es e m room line above_ n = record {
   grows = grows_then old mid new m.grows n.grows;
   adds = λ f t u around located typed.
       let mine = around_old f mid new n.grows around in
       let there = stands_old f mid new here t n.grows located in
-      let each = every_split (λ (x : Expression). Typed x t.scope) es e typed in
+      let each = every_split (λ (x : Expression). IsTyped x t.scope) es e typed in
       let long : height (after_values t es) ≡ length es + height t = values_high t.scope es t.cells in
       let high : height (after_values t es) ≡ height t + length es = omega (arith, long) in
       let deep : height (after_values t es) ≤ f.depth = omega (arith, high, located.high, room, mine.depth) in
@@ -64,22 +64,22 @@ values_more old mid new p q s here higher es e m room line above_ n = record {
 }
 
 -- the values so far, with the next one
-pub next_value : (old mid new : Generator) (p q s : Lined) (here higher : Here) (xs : List expressions.Expression) (i : ℕ) (x : expressions.Expression) → i < length xs → x ≡ get_or xs i x → Emits old mid p q here (λ k. Every (λ e. Typed e k) (map view_expression (take i xs))) (λ t. values_code t (map view_expression (take i xs))) → here.height + i ≤ mid.deepest → higher.line ≡ here.line → (here.height + i < 2 ^ 64 → higher.height ≡ here.height + i) → Emits mid new q s higher (Typed (view_expression x)) (λ t. expression_code t (next t) (view_expression x)) → Emits old new p s here (λ k. Every (λ e. Typed e k) (map view_expression (take (i + 1) xs))) (λ t. values_code t (map view_expression (take (i + 1) xs)))
+pub next_value : (old mid new : Generator) (p q s : Lined) (here higher : Here) (xs : List expressions.Expression) (i : ℕ) (x : expressions.Expression) → i < length xs → x ≡ get_or xs i x → HasEmitted old mid p q here (λ k. Every (λ e. IsTyped e k) (map view_expression (take i xs))) (λ t. values_code t (map view_expression (take i xs))) → here.height + i ≤ mid.deepest → higher.line ≡ here.line → (here.height + i < 2 ^ 64 → higher.height ≡ here.height + i) → HasEmitted mid new q s higher (IsTyped (view_expression x)) (λ t. expression_code t (next t) (view_expression x)) → HasEmitted old new p s here (λ k. Every (λ e. IsTyped e k) (map view_expression (take (i + 1) xs))) (λ t. values_code t (map view_expression (take (i + 1) xs)))
 next_value old mid new p q s here higher xs i x lt is m room line above_ n =
     let es = map view_expression (take i xs) in
     let long = taken_long view_expression xs i lt in
     let fits : here.height + length es ≤ mid.deepest = omega (arith, long, room) in
-    subst (λ (l : List Expression). Emits old new p s here (λ k. Every (λ e. Typed e k) l) (λ t. values_code t l)) (sym (next_taken view_expression xs i x lt is))
+    subst (λ (l : List Expression). HasEmitted old new p s here (λ k. Every (λ e. IsTyped e k) l) (λ t. values_code t l)) (sym (next_taken view_expression xs i x lt is))
     (values_more old mid new p q s here higher es (view_expression x) m fits line (subst (λ (k : ℕ). here.height + k < 2 ^ 64 → higher.height ≡ here.height + k) (sym long) above_) n)
 
 -- and all of them
-pub all_values : (old new : Generator) (p q : Lined) (here : Here) (xs : List expressions.Expression) (i : ℕ) → length xs ≤ i → Emits old new p q here (λ k. Every (λ e. Typed e k) (map view_expression (take i xs))) (λ t. values_code t (map view_expression (take i xs))) → Emits old new p q here (λ k. Every (λ e. Typed e k) (map view_expression xs)) (λ t. values_code t (map view_expression xs))
-all_values old new p q here xs i le m = subst (λ (l : List expressions.Expression). Emits old new p q here (λ k. Every (λ e. Typed e k) (map view_expression l)) (λ t. values_code t (map view_expression l))) (take_all i xs le) m
+pub all_values : (old new : Generator) (p q : Lined) (here : Here) (xs : List expressions.Expression) (i : ℕ) → length xs ≤ i → HasEmitted old new p q here (λ k. Every (λ e. IsTyped e k) (map view_expression (take i xs))) (λ t. values_code t (map view_expression (take i xs))) → HasEmitted old new p q here (λ k. Every (λ e. IsTyped e k) (map view_expression xs)) (λ t. values_code t (map view_expression xs))
+all_values old new p q here xs i le m = subst (λ (l : List expressions.Expression). HasEmitted old new p q here (λ k. Every (λ e. IsTyped e k) (map view_expression l)) (λ t. values_code t (map view_expression l))) (take_all i xs le) m
 
 -- ## Items of a loop
 
 -- the item, the turn, and on to the next one
-pub items_taken : (g : Generator) (a b c turn : Lined) (here : Here) (n back : ℕ) (s : VariableSpot) → TakesLoopItem g no_code a here n s → b ≡ a ++ turn → back ≡ length b → c ≡ b ++ on_line here.line (r.Next n back) ∷ [] → TakesItems g c here n s turn
+pub items_taken : (g : Generator) (a b c turn : Lined) (here : Here) (n back : ℕ) (s : VariableSpot) → HasTakenLoopItem g no_code a here n s → b ≡ a ++ turn → back ≡ length b → c ≡ b ++ on_line here.line (r.Next n back) ∷ [] → HasTakenItems g c here n s turn
 items_taken g a b c turn here n back s m both long made = record {
   grows = grows_same g;
   adds = λ f u x around located fits.

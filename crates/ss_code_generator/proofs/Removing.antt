@@ -4,7 +4,7 @@ use Rattle.ss_base.specs.declared.layout.Mode.TheVariants.{Integer}
 use Rattle.ss_program.specs.declared.sections.Subject.TheVariants.{OfCount}
 use Rattle.ss_base.specs.declared.words.End.{End}
 use Rattle.ss_program.specs.Program.{SetOwner, Place, RemoveEnd}
-use Rattle.ss_program.specs.WellTyped.{Good}
+use Rattle.ss_program.specs.WellTyped.{IsTypedStatement}
 use Rattle.ss_code_instructions.specs.declared.address.Address.{Address}
 use Rattle.ss_code_instructions.specs.Facts.{watch, expression_of}
 use Rattle.ss_code_instructions.specs.Instructions.{Instruction, Target}
@@ -16,8 +16,8 @@ use Rattle.ss_code_generator.specs.declared.generator.Site.{Site as Here}
 use Rattle.ss_code_generator.specs.declared.targets.Spot.{Spot}
 use Rattle.ss_code_pieces.specs.Lined.{Lined, on_line}
 use Rattle.ss_code_instructions.specs.Forms.{removing}
-use Rattle.ss_code_generator.specs.Emitted.{Grows, Emits, Bears}
-use Rattle.ss_code_generator.specs.Spots.{IsSpot, GoodPlace, Taking, AssignsLanded, spot_cells, landing, landed_code}
+use Rattle.ss_code_generator.specs.Emitted.{HasGrown, HasEmitted, HasBorne}
+use Rattle.ss_code_generator.specs.Spots.{IsSpot, IsTypedPlace, Taking, HasAssignedLanded, spot_cells, landing, landed_code}
 use Rattle.ss_code_generator.proofs.Emitting.{around_old, grows_then, stands_old, adds_then, adds_one, adds_same}
 use Rattle.ss_code_generator.proofs.Forms as forms
 use Rattle.ss_code_generator.proofs.Testing.{owner_number}
@@ -26,7 +26,7 @@ use Rattle.ss_code_generator.proofs.Letting.{MakesSpot, Lands, spot_stands, hold
 use Rattle.ss_code_generator.proofs.Filed.{counts_noted}
 
 -- the place, the owner, the member that is removed, and what is left to do for the place
-pub end_removed : (old mid one new : Generator) (p q v w z : Lined) (here higher : Here) (x : Place) (s : Spot) (end : End) (set : ℕ) (o : SetOwner) (owner : Read) (to : Address) (noted : Bool) → MakesSpot old mid p q here (λ t. place_code t x) x s → higher.line ≡ here.line → (here.height + spot_cells s < 2 ^ 64 → higher.height ≡ here.height + spot_cells s) → Bears mid one q v higher (expression_of o) owner → Grows one new → Lands new higher s to → noted ≡ watch new.program.now.statistics.items (OfCount set) → w ≡ v ++ on_line here.line (removing end set owner.address to noted) ∷ [] → AssignsLanded new w z higher to (λ f t k. IsSpot f t k s) → Emits old new p z here (λ k. Good k (RemoveEnd here.line end set x o)) (λ t. remove_end_code t end set x o)
+pub end_removed : (old mid one new : Generator) (p q v w z : Lined) (here higher : Here) (x : Place) (s : Spot) (end : End) (set : ℕ) (o : SetOwner) (owner : Read) (to : Address) (noted : Bool) → MakesSpot old mid p q here (λ t. place_code t x) x s → higher.line ≡ here.line → (here.height + spot_cells s < 2 ^ 64 → higher.height ≡ here.height + spot_cells s) → HasBorne mid one q v higher (expression_of o) owner → HasGrown one new → Lands new higher s to → noted ≡ watch new.program.now.statistics.items (OfCount set) → w ≡ v ++ on_line here.line (removing end set owner.address to noted) ∷ [] → HasAssignedLanded new w z higher to (λ f t k. IsSpot f t k s) → HasEmitted old new p z here (λ k. IsTypedStatement k (RemoveEnd here.line end set x o)) (λ t. remove_end_code t end set x o)
 end_removed old mid one new p q v w z here higher x s end set o owner to noted l line up b g land watched is n =
     let late = grows_then mid one new b.grows g in
     record {
@@ -34,7 +34,7 @@ end_removed old mid one new p q v w z here higher x s end set o owner to noted l
       adds = λ f t u around located good.
           let mine = around_old f mid new late around in
           let there = stands_old f mid new here t late located in
-          let fits : GoodPlace x t.scope = (Integer, good.0) in
+          let fits : IsTypedPlace x t.scope = (Integer, good.0) in
           let spot = l.more f t tt mine there fits in
           let t1 : Site = after_place t x in
           let on = spot_stands f new here higher t x s around located spot line up in

@@ -25,8 +25,8 @@ use Rattle.ss_code_generator.specs.declared.targets.Spot.{Spot}
 use Rattle.ss_code_generator.specs.declared.targets.Spot.TheVariants as spots
 use Rattle.ss_code_pieces.specs.Lined.{Lined, on_line}
 use Rattle.ss_code_instructions.specs.Forms.{moving, storing}
-use Rattle.ss_code_generator.specs.Emitted.{Final, Around, IsLocated, Adds, Generates, AtOperand, AtTarget, IsInteger, ReadsOperand}
-use Rattle.ss_code_generator.specs.Spots.{IsWatchedAs, IsAttribute, IsSpot, IsPlaceOf, GoodPlace, HasTargetRoom, HoldsMode, Assignment, Assigns, AssignsLanded, landing, assigned_code, landed_code}
+use Rattle.ss_code_generator.specs.Emitted.{Final, IsAround, IsLocated, HasAdded, HasGenerated, IsSiteOperand, IsSiteTarget, IsInteger, HasReadOperand}
+use Rattle.ss_code_generator.specs.Spots.{IsWatchedAs, IsAttribute, IsSpot, IsPlaceOf, IsTypedPlace, HasTargetRoom, HasHeldMode, Assignment, HasAssigned, HasAssignedLanded, landing, assigned_code, landed_code}
 use Rattle.ss_code_generator.proofs.Emitting.{grows_same, stands_above, adds_none, adds_then, adds_one, adds_same}
 use Rattle.ss_code_generator.proofs.Operands.{operand_at, stays_at}
 use Rattle.ss_code_generator.proofs.Modes.{on_top}
@@ -35,15 +35,15 @@ use Rattle.ss_code_generator.proofs.Assigned.{assignment_kept, kept_at, move_run
 
 -- ## What is found
 
-pub program_at : (f : Final) (g : Generator) (here : Here) (t : Site) → Around f g → IsLocated f g here t → t.scope.program ≡ view_program g.program.now
+pub program_at : (f : Final) (g : Generator) (here : Here) (t : Site) → IsAround f g → IsLocated f g here t → t.scope.program ≡ view_program g.program.now
 program_at f g here t around located = located.program ∙ sym around.program
 
 -- an attribute, whose entity was evaluated
 abbrev pub MakesAttribute : (old new : Generator) → (before after : Lined) → Here → (Site → List Placed) → (class field : ℕ) → Expression → AttributeSpot → Type 0
 MakesAttribute old new before after here c class field e s =
-    Generates old new before after here (λ f t (u : Unit {0}). IsInteger e t.scope) (λ t u. c t) (λ f t u. IsAttribute f t class field e s)
+    HasGenerated old new before after here (λ f t (u : Unit {0}). IsInteger e t.scope) (λ t u. c t) (λ f t u. IsAttribute f t class field e s)
 
-pub attribute_found : (old new : Generator) (p q : Lined) (here : Here) (class field : ℕ) (e : Expression) (s : AttributeSpot) → ReadsOperand old new p q here e (record { address = s.entity; cells = s.cells }) → s.class ≡ class → s.field ≡ field → s.mode ≡ or_integer (field_mode (view_program new.program.now) class field) → s.is_watched ≡ watch new.program.now.statistics.items (OfAttribute class field) → MakesAttribute old new p q here (λ t. operand_code t e) class field e s
+pub attribute_found : (old new : Generator) (p q : Lined) (here : Here) (class field : ℕ) (e : Expression) (s : AttributeSpot) → HasReadOperand old new p q here e (record { address = s.entity; cells = s.cells }) → s.class ≡ class → s.field ≡ field → s.mode ≡ or_integer (field_mode (view_program new.program.now) class field) → s.is_watched ≡ watch new.program.now.statistics.items (OfAttribute class field) → MakesAttribute old new p q here (λ t. operand_code t e) class field e s
 attribute_found old new p q here class field e s m is_class is_field mode noted = record {
   grows = m.grows;
   adds = λ f t u around located good. m.adds f t tt around located (Integer, good);
@@ -81,14 +81,14 @@ attribute_looked old new p q v here class field e s false m is = record {
 
 -- ## Places that are found
 
-pub count_spotted : (g : Generator) (p : Lined) (here : Here) (c : CountedClass) (s : Spot) → ((f : Final) (here : Here) (t : Site) → Around f g → IsLocated f g here t → IsSpot f t (ToCount c) s) → Generates g g p p here (λ f t (u : Unit {0}). GoodPlace (ToCount c) t.scope) (λ t u. []) (λ f t u. IsSpot f t (ToCount c) s)
+pub count_spotted : (g : Generator) (p : Lined) (here : Here) (c : CountedClass) (s : Spot) → ((f : Final) (here : Here) (t : Site) → IsAround f g → IsLocated f g here t → IsSpot f t (ToCount c) s) → HasGenerated g g p p here (λ f t (u : Unit {0}). IsTypedPlace (ToCount c) t.scope) (λ t u. []) (λ f t u. IsSpot f t (ToCount c) s)
 count_spotted g p here c s h = record {
   grows = grows_same g;
   adds = λ f t u around located good. adds_none f p;
   more = λ f t u around located good. h f here t around located;
 }
 
-pub attribute_spotted : (old new : Generator) (p q : Lined) (here : Here) (c : Site → List Placed) (class field : ℕ) (e : Expression) (s : AttributeSpot) → MakesAttribute old new p q here c class field e s → Generates old new p q here (λ f t (u : Unit {0}). GoodPlace (ToAttribute class field e) t.scope) (λ t u. c t) (λ f t u. IsSpot f t (ToAttribute class field e) (spots.Attribute s))
+pub attribute_spotted : (old new : Generator) (p q : Lined) (here : Here) (c : Site → List Placed) (class field : ℕ) (e : Expression) (s : AttributeSpot) → MakesAttribute old new p q here c class field e s → HasGenerated old new p q here (λ f t (u : Unit {0}). IsTypedPlace (ToAttribute class field e) t.scope) (λ t u. c t) (λ f t u. IsSpot f t (ToAttribute class field e) (spots.Attribute s))
 attribute_spotted old new p q here c class field e s m = record {
   grows = m.grows;
   adds = λ f t u around located good. m.adds f t tt around located good.1.1;
@@ -98,7 +98,7 @@ attribute_spotted old new p q here c class field e s m = record {
 -- ## What an operand is given to
 
 module _ (g : Generator) (p q : Lined) (here : Here) (from : Address) where
-  pub gives_for : (IsIt Other : Final → Site → Place → Type 0) → ((f : Final) (t : Site) (x : Place) → Other f t x → IsIt f t x) → Assigns g p q here from IsIt → Assigns g p q here from Other
+  pub gives_for : (IsIt Other : Final → Site → Place → Type 0) → ((f : Final) (t : Site) (x : Place) → Other f t x → IsIt f t x) → HasAssigned g p q here from IsIt → HasAssigned g p q here from Other
   gives_for IsIt Other so m = record {
     grows = m.grows;
     adds = λ f u x around located fits. m.adds f u x around located (so f x.resolved x.place fits.0, fits.1, fits.2, fits.3, fits.4);
@@ -106,14 +106,14 @@ module _ (g : Generator) (p q : Lined) (here : Here) (from : Address) where
   }
 
   -- and another one
-  moved_at_place : (s : VariableSpot) → s.watched ≡ None → q ≡ p ++ on_line here.line (moving s.mode from s.address) ∷ [] → (f : Final) (t u : Site) (y : Operand) (x : Place) (m : Mode) → IsPlaceOf t x s → t.scope ≡ u.scope → AtOperand f u y from → HoldsMode u.scope x m → mode_here (code_of f.program) f.constants (place u Leave) y ≡ Some m → IsLocated f g here u → Adds f p q (assigned_code t u x y)
+  moved_at_place : (s : VariableSpot) → s.watched ≡ None → q ≡ p ++ on_line here.line (moving s.mode from s.address) ∷ [] → (f : Final) (t u : Site) (y : Operand) (x : Place) (m : Mode) → IsPlaceOf t x s → t.scope ≡ u.scope → IsSiteOperand f u y from → HasHeldMode u.scope x m → mode_here (code_of f.program) f.constants (place u Leave) y ≡ Some m → IsLocated f g here u → HasAdded f p q (assigned_code t u x y)
   moved_at_place s watched is f t u y (ToVariable x) m v same at holds mode located =
       let same_mode : m ≡ s.mode = sym (v.mode ∙ ap (λ (k : TypedScope). or_integer (mode_at k x)) same ∙ ap or_integer holds) in
       adds_one f p q here.line (place u (assignment u x y)) (moving s.mode from s.address) is located.line (move_runs f t u x y s from v watched same at (mode ∙ ap Some same_mode) located.deep)
   moved_at_place s watched is f t u y (ToAttribute class field e) m v same at holds mode located = absurd v
   moved_at_place s watched is f t u y (ToCount c) m v same at holds mode located = absurd v
 
-  pub moved_given : (s : VariableSpot) → s.watched ≡ None → q ≡ p ++ on_line here.line (moving s.mode from s.address) ∷ [] → Assigns g p q here from (λ f t x. IsPlaceOf t x s)
+  pub moved_given : (s : VariableSpot) → s.watched ≡ None → q ≡ p ++ on_line here.line (moving s.mode from s.address) ∷ [] → HasAssigned g p q here from (λ f t x. IsPlaceOf t x s)
   moved_given s watched is = record {
     grows = grows_same g;
     adds = λ f u x around located fits. moved_at_place s watched is f x.resolved u x.from x.place x.mode fits.0 fits.1 fits.2 fits.3 fits.4 located;
@@ -121,7 +121,7 @@ module _ (g : Generator) (p q : Lined) (here : Here) (from : Address) where
   }
 
 -- what goes to an attribute that was found
-pub stored : (f : Final) (p q : Lined) (l : Line) (from : Address) (s : AttributeSpot) → q ≡ p ++ on_line l (storing s.mode s.class s.field s.entity from s.is_watched) ∷ [] → (g : Generator) → Around f g → (t u : Site) (class field : ℕ) (e : Expression) (z y : Operand) (m : Mode) → IsAttribute f t class field e s → t.scope ≡ u.scope → AtOperand f u z s.entity → AtOperand f u y from → field_mode u.scope.program class field ≡ Some m → u.line ≡ l → u.scope.program ≡ f.program → height u ≤ f.depth → Adds f p q (place u (i.SetAttribute class field z y) ∷ [])
+pub stored : (f : Final) (p q : Lined) (l : Line) (from : Address) (s : AttributeSpot) → q ≡ p ++ on_line l (storing s.mode s.class s.field s.entity from s.is_watched) ∷ [] → (g : Generator) → IsAround f g → (t u : Site) (class field : ℕ) (e : Expression) (z y : Operand) (m : Mode) → IsAttribute f t class field e s → t.scope ≡ u.scope → IsSiteOperand f u z s.entity → IsSiteOperand f u y from → field_mode u.scope.program class field ≡ Some m → u.line ≡ l → u.scope.program ≡ f.program → height u ≤ f.depth → HasAdded f p q (place u (i.SetAttribute class field z y) ∷ [])
 stored f p q l from s is g around t u class field e z y m v same entity at holds line program deep =
     let mine : t.scope.program ≡ f.program = ap (λ (k : TypedScope). k.program) same ∙ program in
     let there : field_mode f.program class field ≡ Some m = ap (λ (k : Program). field_mode k class field) (sym program) ∙ holds in
@@ -133,13 +133,13 @@ stored f p q l from s is g around t u class field e z y m v same entity at holds
     (store_runs f t u class field e s v same mine z y from m there plain entity at deep)
 
 module _ (g : Generator) (p q : Lined) (here : Here) (from : Address) where
-  stored_at_place : (s : AttributeSpot) → q ≡ p ++ on_line here.line (storing s.mode s.class s.field s.entity from s.is_watched) ∷ [] → (f : Final) (t u : Site) (y : Operand) (x : Place) (m : Mode) → IsSpot f t x (spots.Attribute s) → t.scope ≡ u.scope → AtOperand f u y from → HoldsMode u.scope x m → Around f g → IsLocated f g here u → Adds f p q (assigned_code t u x y)
+  stored_at_place : (s : AttributeSpot) → q ≡ p ++ on_line here.line (storing s.mode s.class s.field s.entity from s.is_watched) ∷ [] → (f : Final) (t u : Site) (y : Operand) (x : Place) (m : Mode) → IsSpot f t x (spots.Attribute s) → t.scope ≡ u.scope → IsSiteOperand f u y from → HasHeldMode u.scope x m → IsAround f g → IsLocated f g here u → HasAdded f p q (assigned_code t u x y)
   stored_at_place s is f t u y (ToVariable x) m v same at holds around located = absurd v
   stored_at_place s is f t u y (ToAttribute class field e) m v same at holds around located =
       stored f p q here.line from s is g around t u class field e (operand t e) y m v same (operand_at f t u (operand t e) s.entity (sym same) v.entity.at) at holds located.line located.program located.deep
   stored_at_place s is f t u y (ToCount c) m v same at holds around located = absurd v
 
-  pub attribute_given : (s : AttributeSpot) → q ≡ p ++ on_line here.line (storing s.mode s.class s.field s.entity from s.is_watched) ∷ [] → Assigns g p q here from (λ f t x. IsSpot f t x (spots.Attribute s))
+  pub attribute_given : (s : AttributeSpot) → q ≡ p ++ on_line here.line (storing s.mode s.class s.field s.entity from s.is_watched) ∷ [] → HasAssigned g p q here from (λ f t x. IsSpot f t x (spots.Attribute s))
   attribute_given s is = record {
     grows = grows_same g;
     adds = λ f u x around located fits. stored_at_place s is f x.resolved u x.from x.place x.mode fits.0 fits.1 fits.2 fits.3 around located;
@@ -147,8 +147,8 @@ module _ (g : Generator) (p q : Lined) (here : Here) (from : Address) where
   }
 
 -- N. of a class: it is looked whether there are entities yet
-module _ (g : Generator) (p q v : Lined) (here : Here) (from : Address) (class : ℕ) (s : VariableSpot) (is : q ≡ p ++ on_line here.line (r.LookCount class) ∷ []) (m : Assigns g q v here from (λ f t x. IsPlaceOf t x s)) where
-  counted_at_place : (f : Final) (t u : Site) (y : Operand) (x : Place) (k : Mode) → IsSpot f t x (spots.Count class s) → t.scope ≡ u.scope → AtOperand f u y from → HoldsMode u.scope x k → mode_here (code_of f.program) f.constants (place u Leave) y ≡ Some k → Around f g → IsLocated f g here u → Adds f p v (assigned_code t u x y)
+module _ (g : Generator) (p q v : Lined) (here : Here) (from : Address) (class : ℕ) (s : VariableSpot) (is : q ≡ p ++ on_line here.line (r.LookCount class) ∷ []) (m : HasAssigned g q v here from (λ f t x. IsPlaceOf t x s)) where
+  counted_at_place : (f : Final) (t u : Site) (y : Operand) (x : Place) (k : Mode) → IsSpot f t x (spots.Count class s) → t.scope ≡ u.scope → IsSiteOperand f u y from → HasHeldMode u.scope x k → mode_here (code_of f.program) f.constants (place u Leave) y ≡ Some k → IsAround f g → IsLocated f g here u → HasAdded f p v (assigned_code t u x y)
   counted_at_place f t u y (ToVariable x) k h same at holds mode around located = absurd h
   counted_at_place f t u y (ToAttribute c field e) k h same at holds mode around located = absurd h
   counted_at_place f t u y (ToCount c) k h same at holds mode around located =
@@ -158,7 +158,7 @@ module _ (g : Generator) (p q v : Lined) (here : Here) (from : Address) (class :
       (adds_one f p q here.line (place u look) (r.LookCount class) is located.line (record { carries = ap i.LookCount (sym h.0); deep = located.deep; shown = tt }))
       (m.adds f u it around located (h.1, same, at, holds, mode))
 
-  pub count_given : Assigns g p v here from (λ f t x. IsSpot f t x (spots.Count class s))
+  pub count_given : HasAssigned g p v here from (λ f t x. IsSpot f t x (spots.Count class s))
   count_given = record {
     grows = grows_same g;
     adds = λ f u x around located fits. counted_at_place f x.resolved u x.from x.place x.mode fits.0 fits.1 fits.2 fits.3 fits.4 around located;
@@ -173,25 +173,25 @@ ComesToCell (spots.Variable s) = (k : ℕ) × (s.watched ≡ Some k)
 ComesToCell (spots.Attribute s) = Unit {0}
 ComesToCell (spots.Count class s) = Unit {0}
 
-module _ (g : Generator) (p q : Lined) (here higher : Here) (from : Address) (s : Spot) (line : higher.line ≡ here.line) (up : here.height + 1 < 2 ^ 64 → higher.height ≡ here.height + 1) (m : Assigns g p q higher from (λ f t x. IsSpot f t x s)) where
+module _ (g : Generator) (p q : Lined) (here higher : Here) (from : Address) (s : Spot) (line : higher.line ≡ here.line) (up : here.height + 1 < 2 ^ 64 → higher.height ≡ here.height + 1) (m : HasAssigned g p q higher from (λ f t x. IsSpot f t x s)) where
   -- one cell higher
-  stands_higher : (f : Final) (u : Site) (k : Mode) → Around f g → IsLocated f g here u → height u < f.depth → IsLocated f g higher (above u k)
+  stands_higher : (f : Final) (u : Site) (k : Mode) → IsAround f g → IsLocated f g here u → height u < f.depth → IsLocated f g higher (above u k)
   stands_higher f u k around located low =
       let high : height (above u k) ≡ height u + 1 = omega arith in
       stands_above f g here higher u (above u k) 1 around.small located line up refl refl high (omega (arith, high, low))
 
-  given_higher : (f : Final) (t u : Site) (x : Place) (k : Mode) → IsSpot f t x s → t.scope ≡ u.scope → AtTarget f u (next u) from → height u < f.depth → HoldsMode u.scope x k → Around f g → IsLocated f g here u → Adds f p q (assigned_code t (above u k) x (Taken (height u)))
+  given_higher : (f : Final) (t u : Site) (x : Place) (k : Mode) → IsSpot f t x s → t.scope ≡ u.scope → IsSiteTarget f u (next u) from → height u < f.depth → HasHeldMode u.scope x k → IsAround f g → IsLocated f g here u → HasAdded f p q (assigned_code t (above u k) x (Taken (height u)))
   given_higher f t u x k v same at low holds around located =
       let it : Assignment = record { resolved = t; place = x; from = Taken (height u); mode = k } in
       m.adds f (above u k) it around (stands_higher f u k around located low) (v, same, at, holds, on_top (height u) k u.cells refl)
 
-taken_at_place : (g : Generator) (p q : Lined) (here higher : Here) (from : Address) (s : Spot) → higher.line ≡ here.line → (here.height + 1 < 2 ^ 64 → higher.height ≡ here.height + 1) → Assigns g p q higher from (λ f t x. IsSpot f t x s) → ComesToCell s → (f : Final) (t u : Site) (x : Place) (k : Mode) → IsSpot f t x s → t.scope ≡ u.scope → AtTarget f u (landing u x) from → HasTargetRoom f (landing u x) → HoldsMode u.scope x k → Around f g → IsLocated f g here u → Adds f p q (landed_code t u x k)
+taken_at_place : (g : Generator) (p q : Lined) (here higher : Here) (from : Address) (s : Spot) → higher.line ≡ here.line → (here.height + 1 < 2 ^ 64 → higher.height ≡ here.height + 1) → HasAssigned g p q higher from (λ f t x. IsSpot f t x s) → ComesToCell s → (f : Final) (t u : Site) (x : Place) (k : Mode) → IsSpot f t x s → t.scope ≡ u.scope → IsSiteTarget f u (landing u x) from → HasTargetRoom f (landing u x) → HasHeldMode u.scope x k → IsAround f g → IsLocated f g here u → HasAdded f p q (landed_code t u x k)
 taken_at_place g p q here higher from (spots.Variable s) line up m cell f t u (ToVariable x) k v same at room holds around located =
     let w : (is_kept t x ≡ true) × (x ≡ Global cell.0) = subst (IsWatchedAs (is_kept t x) x) cell.1 v.watched in
     let kept : is_kept u x ≡ true = kept_at t u x true same w.0 in
     let lands : landing u (ToVariable x) ≡ next u = lands_kept t u x s cell.0 v cell.1 same in
     let low : height u < f.depth = subst (HasTargetRoom f) lands room in
-    let there : AtTarget f u (next u) from = subst (λ (y : Target). AtTarget f u y from) lands at in
+    let there : IsSiteTarget f u (next u) from = subst (λ (y : Target). IsSiteTarget f u y from) lands at in
     let integer : mode_at u.scope x ≡ Some Integer = kept_integer f.program around.typed u.scope located.program x kept in
     let h = given_higher g p q here higher from (spots.Variable s) line up m f t u (ToVariable x) Integer v same there low integer around located in
     let z : Site = above u Integer in
@@ -209,13 +209,13 @@ taken_at_place g p q here higher from (spots.Count class s) line up m cell f t u
 taken_at_place g p q here higher from (spots.Count class s) line up m cell f t u (ToCount c) k v same at room holds around located =
     given_higher g p q here higher from (spots.Count class s) line up m f t u (ToCount c) k v same at room holds around located
 
-pub taken : (g : Generator) (p q : Lined) (here higher : Here) (from : Address) (s : Spot) → higher.line ≡ here.line → (here.height + 1 < 2 ^ 64 → higher.height ≡ here.height + 1) → Assigns g p q higher from (λ f t x. IsSpot f t x s) → ComesToCell s → AssignsLanded g p q here from (λ f t x. IsSpot f t x s)
+pub taken : (g : Generator) (p q : Lined) (here higher : Here) (from : Address) (s : Spot) → higher.line ≡ here.line → (here.height + 1 < 2 ^ 64 → higher.height ≡ here.height + 1) → HasAssigned g p q higher from (λ f t x. IsSpot f t x s) → ComesToCell s → HasAssignedLanded g p q here from (λ f t x. IsSpot f t x s)
 taken g p q here higher from s line up m cell = record {
   grows = grows_same g;
   adds = λ f u x around located fits. taken_at_place g p q here higher from s line up m cell f x.resolved u x.place x.mode fits.0 fits.1 fits.2 fits.3 fits.4 around located;
   more = λ f u x around located fits. tt;
 }
 
-pub count_spotted_ok : {E : Type 0} (g : Generator) (p : Lined) (here : Here) (c : CountedClass) (found : Result Spot E) → IfOk found (λ s. (f : Final) (here : Here) (t : Site) → Around f g → IsLocated f g here t → IsSpot f t (ToCount c) s) → IfOk found (λ s. Generates g g p p here (λ f t (u : Unit {0}). GoodPlace (ToCount c) t.scope) (λ t u. []) (λ f t u. IsSpot f t (ToCount c) s))
+pub count_spotted_ok : {E : Type 0} (g : Generator) (p : Lined) (here : Here) (c : CountedClass) (found : Result Spot E) → IfOk found (λ s. (f : Final) (here : Here) (t : Site) → IsAround f g → IsLocated f g here t → IsSpot f t (ToCount c) s) → IfOk found (λ s. HasGenerated g g p p here (λ f t (u : Unit {0}). IsTypedPlace (ToCount c) t.scope) (λ t u. []) (λ f t u. IsSpot f t (ToCount c) s))
 count_spotted_ok g p here c (Ok s) h = count_spotted g p here c s h
 count_spotted_ok g p here c (Err e) h = tt

@@ -4,7 +4,7 @@ use Rattle.ss_base.specs.declared.layout.Mode.{Mode}
 use Rattle.ss_base.specs.declared.words.Relation.{Relation}
 use Rattle.std.specs.List.{AllByRecursion as Every}
 use Rattle.ss_program.specs.Program.{Expression, SetOwner, TheSystem, Entity, Test, Compare, Empty, Condition, Guard, Phrase}
-use Rattle.ss_program.specs.WellTyped.{TypedScope, HasMode, OwnerFits, GoodTest, GoodCondition, GoodPhrase}
+use Rattle.ss_program.specs.WellTyped.{TypedScope, HasMode, IsTypedOwner, IsTypedTest, IsTypedCondition, IsTypedPhrase}
 use Rattle.ss_code_instructions.specs.declared.instruction.Instruction.TheVariants as r
 use Rattle.ss_code_instructions.specs.Instructions.{Instruction, Placed}
 use Rattle.ss_code_instructions.specs.Instructions as i
@@ -15,21 +15,21 @@ use Rattle.ss_code_generator.specs.declared.generator.Generator.{Generator}
 use Rattle.ss_code_generator.specs.declared.generator.Site.{Site as Here}
 use Rattle.ss_code_pieces.specs.Lined.{Lined, no_code, on_line}
 use Rattle.ss_code_instructions.specs.Forms.{comparing}
-use Rattle.ss_code_generator.specs.Emitted.{Final, Around, IsLocated, Emits, EmitsAround, Typed, AreNumbers, ReadsOperand, Bears}
+use Rattle.ss_code_generator.specs.Emitted.{Final, IsAround, IsLocated, HasEmitted, HasEmittedAround, IsTyped, AreNumbers, HasReadOperand, HasBorne}
 use Rattle.ss_code_generator.proofs.Emitting.{around_old, grows_same, grows_then, stands_old, adds_then, adds_one, adds_apart, adds_same, piece_long}
 use Rattle.ss_code_generator.proofs.Forms as forms
 use Rattle.ss_code_generator.proofs.Modes.{operand_mode, mode_after}
 use Rattle.ss_code_generator.proofs.Operands.{read_stands}
 
 -- the owner of a set is a number
-pub owner_number : (s : TypedScope) (set : ℕ) (o : SetOwner) → OwnerFits s set o → AreNumbers (expression_of o) s
+pub owner_number : (s : TypedScope) (set : ℕ) (o : SetOwner) → IsTypedOwner s set o → AreNumbers (expression_of o) s
 owner_number s set TheSystem h = tt
 owner_number s set (Entity e) h = h.1
 
 -- ## Tests
 
 -- two values are compared
-pub compared : (old mid new : Generator) (p q s v : Lined) (here higher : Here) (skip : ℕ) (relation : Relation) (a b : Expression) (left right : Read) (m : Mode) → ReadsOperand old mid p q here a left → higher.line ≡ here.line → (here.height + left.cells < 2 ^ 64 → higher.height ≡ here.height + left.cells) → ReadsOperand mid new q s higher b right → ((f : Final) (t : Site) (n : Mode) → Around f new → IsLocated f new here t → HasMode t.scope a n → n ≡ m) → v ≡ s ++ on_line here.line (comparing m relation left.address right.address skip) ∷ [] → Emits old new p v here (λ k. GoodTest k (Compare relation a b)) (λ t. test_code t skip (Compare relation a b))
+pub compared : (old mid new : Generator) (p q s v : Lined) (here higher : Here) (skip : ℕ) (relation : Relation) (a b : Expression) (left right : Read) (m : Mode) → HasReadOperand old mid p q here a left → higher.line ≡ here.line → (here.height + left.cells < 2 ^ 64 → higher.height ≡ here.height + left.cells) → HasReadOperand mid new q s higher b right → ((f : Final) (t : Site) (n : Mode) → IsAround f new → IsLocated f new here t → HasMode t.scope a n → n ≡ m) → v ≡ s ++ on_line here.line (comparing m relation left.address right.address skip) ∷ [] → HasEmitted old new p v here (λ k. IsTypedTest k (Compare relation a b)) (λ t. test_code t skip (Compare relation a b))
 compared old mid new p q s v here higher skip relation a b left right m ra line above rb mode is = record {
   grows = grows_then old mid new ra.grows rb.grows;
   adds = λ f t u around located good.
@@ -38,8 +38,8 @@ compared old mid new p q s v here higher skip relation a b left right m ra line 
       let t2 : Site = after t1 b in
       let mine = around_old f mid new rb.grows around in
       let there = stands_old f mid new here t rb.grows located in
-      let typed_a : Typed a t.scope = (n, good.1) in
-      let typed_b : Typed b t1.scope = (n, good.2) in
+      let typed_a : IsTyped a t.scope = (n, good.1) in
+      let typed_b : IsTyped b t1.scope = (n, good.2) in
       let read_a = ra.more f t tt mine there typed_a in
       let above_a = read_stands f new here higher t a left around located read_a line above in
       let read_b = rb.more f t1 tt around above_a typed_b in
@@ -55,7 +55,7 @@ compared old mid new p q s v here higher skip relation a b left right m ra line 
 }
 
 -- whether a set has no member
-pub emptiness_tested : (old new : Generator) (p q v : Lined) (here : Here) (skip : ℕ) (negated : Bool) (set : ℕ) (o : SetOwner) (owner : Read) → Bears old new p q here (expression_of o) owner → v ≡ q ++ on_line here.line (r.UnlessEmpty set owner.address skip negated) ∷ [] → Emits old new p v here (λ k. GoodTest k (Empty negated set o)) (λ t. test_code t skip (Empty negated set o))
+pub emptiness_tested : (old new : Generator) (p q v : Lined) (here : Here) (skip : ℕ) (negated : Bool) (set : ℕ) (o : SetOwner) (owner : Read) → HasBorne old new p q here (expression_of o) owner → v ≡ q ++ on_line here.line (r.UnlessEmpty set owner.address skip negated) ∷ [] → HasEmitted old new p v here (λ k. IsTypedTest k (Empty negated set o)) (λ t. test_code t skip (Empty negated set o))
 emptiness_tested old new p q v here skip negated set o owner m is = record {
   grows = m.grows;
   adds = λ f t u around located good.
@@ -71,7 +71,7 @@ emptiness_tested old new p q v here skip negated set o owner m is = record {
 -- ## Pieces that are made from the end
 
 -- A piece comes before another one, by whose length it may go. The first is made last
-pub before_made : (old mid new : Generator) (front back whole : Lined) (here : Here) (Front Back : TypedScope → Type 0) (c : ℕ → Site → List Placed) (d : Site → List Placed) (past : ℕ) → Emits old mid no_code back here Back d → Emits mid new no_code front here Front (c past) → whole ≡ front ++ back → (more : ℕ) → past ≡ length back + more → Emits old new no_code whole here (λ k. Front k × Back k) (λ t. c (length (d t) + more) t ++ d t)
+pub before_made : (old mid new : Generator) (front back whole : Lined) (here : Here) (Front Back : TypedScope → Type 0) (c : ℕ → Site → List Placed) (d : Site → List Placed) (past : ℕ) → HasEmitted old mid no_code back here Back d → HasEmitted mid new no_code front here Front (c past) → whole ≡ front ++ back → (more : ℕ) → past ≡ length back + more → HasEmitted old new no_code whole here (λ k. Front k × Back k) (λ t. c (length (d t) + more) t ++ d t)
 before_made old mid new front back whole here Front Back c d past m n is more same = record {
   grows = grows_then old mid new m.grows n.grows;
   adds = λ f t u around located good.
@@ -83,7 +83,7 @@ before_made old mid new front back whole here Front Back c d past m n is more sa
 }
 
 -- a piece comes before another one, around which code is made, by whose length it may go
-pub before_around : (old mid new : Generator) (front back whole inner : Lined) (here : Here) (Front Back : TypedScope → Type 0) (c : ℕ → Site → List Placed) (d : Site → List Placed → List Placed) (past : ℕ) → EmitsAround old mid no_code back here inner Back d → Emits mid new no_code front here Front (c past) → whole ≡ front ++ back → (more : ℕ) → past ≡ length back + more → EmitsAround old new no_code whole here inner (λ k. Front k × Back k) (λ t b. c (length (d t b) + more) t ++ d t b)
+pub before_around : (old mid new : Generator) (front back whole inner : Lined) (here : Here) (Front Back : TypedScope → Type 0) (c : ℕ → Site → List Placed) (d : Site → List Placed → List Placed) (past : ℕ) → HasEmittedAround old mid no_code back here inner Back d → HasEmitted mid new no_code front here Front (c past) → whole ≡ front ++ back → (more : ℕ) → past ≡ length back + more → HasEmittedAround old new no_code whole here inner (λ k. Front k × Back k) (λ t b. c (length (d t b) + more) t ++ d t b)
 before_around old mid new front back whole inner here Front Back c d past m n is more same = record {
   grows = grows_then old mid new m.grows n.grows;
   adds = λ f t b around located fits.
@@ -95,7 +95,7 @@ before_around old mid new front back whole inner here Front Back c d past m n is
 }
 
 -- one piece after another, of two that were made apart
-pub then_made : (old mid new : Generator) (front back whole : Lined) (here : Here) (Front Back : TypedScope → Type 0) (c d : Site → List Placed) → Emits old mid no_code front here Front c → Emits mid new no_code back here Back d → whole ≡ front ++ back → Emits old new no_code whole here (λ k. Front k × Back k) (λ t. c t ++ d t)
+pub then_made : (old mid new : Generator) (front back whole : Lined) (here : Here) (Front Back : TypedScope → Type 0) (c d : Site → List Placed) → HasEmitted old mid no_code front here Front c → HasEmitted mid new no_code back here Back d → whole ≡ front ++ back → HasEmitted old new no_code whole here (λ k. Front k × Back k) (λ t. c t ++ d t)
 then_made old mid new front back whole here Front Back c d m n is = record {
   grows = grows_then old mid new m.grows n.grows;
   adds = λ f t u around located good.
@@ -104,7 +104,7 @@ then_made old mid new front back whole here Front Back c d m n is = record {
 }
 
 -- what was made, for another code that is the same at each site at which the generator may be, where other things are well typed
-pub emits_where : (old new : Generator) (p q : Lined) (here : Here) (Good Other : TypedScope → Type 0) (c d : Site → List Placed) → ((k : TypedScope) → Other k → Good k) → ((f : Final) (t : Site) → Around f new → IsLocated f new here t → c t ≡ d t) → Emits old new p q here Good c → Emits old new p q here Other d
+pub emits_where : (old new : Generator) (p q : Lined) (here : Here) (Good Other : TypedScope → Type 0) (c d : Site → List Placed) → ((k : TypedScope) → Other k → Good k) → ((f : Final) (t : Site) → IsAround f new → IsLocated f new here t → c t ≡ d t) → HasEmitted old new p q here Good c → HasEmitted old new p q here Other d
 emits_where old new p q here Good Other c d good same m = record {
   grows = m.grows;
   adds = λ f t u around located other. adds_same f p q (c t) (d t) (same f t around located) (m.adds f t u around located (good t.scope other));
@@ -112,7 +112,7 @@ emits_where old new p q here Good Other c d good same m = record {
 }
 
 -- and around a piece
-pub around_for : (old new : Generator) (p q inner : Lined) (here : Here) (Good Other : TypedScope → Type 0) (c d : Site → List Placed → List Placed) → ((k : TypedScope) → Other k → Good k) → ((t : Site) (b : List Placed) → c t b ≡ d t b) → EmitsAround old new p q here inner Good c → EmitsAround old new p q here inner Other d
+pub around_for : (old new : Generator) (p q inner : Lined) (here : Here) (Good Other : TypedScope → Type 0) (c d : Site → List Placed → List Placed) → ((k : TypedScope) → Other k → Good k) → ((t : Site) (b : List Placed) → c t b ≡ d t b) → HasEmittedAround old new p q here inner Good c → HasEmittedAround old new p q here inner Other d
 around_for old new p q inner here Good Other c d so same m = record {
   grows = m.grows;
   adds = λ f t b around located fits. adds_same f p q (c t b) (d t b) (same t b) (m.adds f t b around located (fits.0, so t.scope fits.1));
@@ -130,12 +130,12 @@ guards_more t more g gs b =
 
 -- ## One thing more, before those that follow
 
-pub tests_step : (old mid new : Generator) (rest front whole : Lined) (here : Here) (skip past : ℕ) (x : Test) (xs : List Test) → Emits old mid no_code rest here (λ s. Every (GoodTest s) xs) (λ t. tests_code t skip xs) → Emits mid new no_code front here (λ s. GoodTest s x) (λ t. test_code t past x) → past ≡ length rest + skip → whole ≡ front ++ rest → Emits old new no_code whole here (λ s. Every (GoodTest s) (x ∷ xs)) (λ t. tests_code t skip (x ∷ xs))
+pub tests_step : (old mid new : Generator) (rest front whole : Lined) (here : Here) (skip past : ℕ) (x : Test) (xs : List Test) → HasEmitted old mid no_code rest here (λ s. Every (IsTypedTest s) xs) (λ t. tests_code t skip xs) → HasEmitted mid new no_code front here (λ s. IsTypedTest s x) (λ t. test_code t past x) → past ≡ length rest + skip → whole ≡ front ++ rest → HasEmitted old new no_code whole here (λ s. Every (IsTypedTest s) (x ∷ xs)) (λ t. tests_code t skip (x ∷ xs))
 tests_step old mid new rest front whole here skip past x xs m n long is =
-    before_made old mid new front rest whole here (λ s. GoodTest s x) (λ s. Every (GoodTest s) xs) (λ k t. test_code t k x) (λ t. tests_code t skip xs) past m n is skip long
+    before_made old mid new front rest whole here (λ s. IsTypedTest s x) (λ s. Every (IsTypedTest s) xs) (λ k t. test_code t k x) (λ t. tests_code t skip xs) past m n is skip long
 
 -- a jump, as a piece
-jumps : (g : Generator) (here : Here) (skip : ℕ) → Emits g g no_code (on_line here.line (r.Jump skip) ∷ []) here (λ s. Unit {0}) (λ t. place t (i.Jump skip) ∷ [])
+jumps : (g : Generator) (here : Here) (skip : ℕ) → HasEmitted g g no_code (on_line here.line (r.Jump skip) ∷ []) here (λ s. Unit {0}) (λ t. place t (i.Jump skip) ∷ [])
 jumps g here skip = record {
   grows = grows_same g;
   adds = λ f t u around located good.
@@ -143,40 +143,40 @@ jumps g here skip = record {
   more = λ f t u around located good. tt;
 }
 
-pub alternatives_step : (old mid new : Generator) (rest front both whole : Lined) (here : Here) (skip past : ℕ) (xs ys : List Test) (others : List (List Test)) → Emits old mid no_code rest here (λ s. GoodCondition s (ys ∷ others)) (λ t. condition_code t skip (ys ∷ others)) → Emits mid new no_code front here (λ s. Every (GoodTest s) xs) (λ t. tests_code t 1 xs) → past ≡ length rest → both ≡ front ++ on_line here.line (r.Jump past) ∷ [] → whole ≡ both ++ rest → Emits old new no_code whole here (λ s. GoodCondition s (xs ∷ (ys ∷ others))) (λ t. condition_code t skip (xs ∷ (ys ∷ others)))
+pub alternatives_step : (old mid new : Generator) (rest front both whole : Lined) (here : Here) (skip past : ℕ) (xs ys : List Test) (others : List (List Test)) → HasEmitted old mid no_code rest here (λ s. IsTypedCondition s (ys ∷ others)) (λ t. condition_code t skip (ys ∷ others)) → HasEmitted mid new no_code front here (λ s. Every (IsTypedTest s) xs) (λ t. tests_code t 1 xs) → past ≡ length rest → both ≡ front ++ on_line here.line (r.Jump past) ∷ [] → whole ≡ both ++ rest → HasEmitted old new no_code whole here (λ s. IsTypedCondition s (xs ∷ (ys ∷ others))) (λ t. condition_code t skip (xs ∷ (ys ∷ others)))
 alternatives_step old mid new rest front both whole here skip past xs ys others m n long both_is is =
     let code : Site → List Placed = λ (t : Site). condition_code t skip (ys ∷ others) in
     let first : ℕ → Site → List Placed = λ (k : ℕ) (t : Site). tests_code t 1 xs ++ place t (i.Jump k) ∷ [] in
     let plus : (k : ℕ) → k + 0 ≡ k = λ (k : ℕ). omega arith in
     let past_is : past ≡ length rest + 0 = long ∙ sym (plus (length rest)) in
-    let two = then_made mid new new front (on_line here.line (r.Jump past) ∷ []) both here (λ s. Every (GoodTest s) xs) (λ s. Unit {0}) (λ t. tests_code t 1 xs) (λ t. place t (i.Jump past) ∷ []) n (jumps new here past) both_is in
-    let all = before_made old mid new both rest whole here (λ s. Every (GoodTest s) xs × Unit {0}) (λ s. GoodCondition s (ys ∷ others)) first code past m two is 0 past_is in
-    emits_where old new no_code whole here (λ s. (Every (GoodTest s) xs × Unit {0}) × GoodCondition s (ys ∷ others)) (λ s. GoodCondition s (xs ∷ (ys ∷ others))) (λ t. first (length (code t) + 0) t ++ code t) (λ t. condition_code t skip (xs ∷ (ys ∷ others))) (λ s h. ((h.0, tt), h.1))
+    let two = then_made mid new new front (on_line here.line (r.Jump past) ∷ []) both here (λ s. Every (IsTypedTest s) xs) (λ s. Unit {0}) (λ t. tests_code t 1 xs) (λ t. place t (i.Jump past) ∷ []) n (jumps new here past) both_is in
+    let all = before_made old mid new both rest whole here (λ s. Every (IsTypedTest s) xs × Unit {0}) (λ s. IsTypedCondition s (ys ∷ others)) first code past m two is 0 past_is in
+    emits_where old new no_code whole here (λ s. (Every (IsTypedTest s) xs × Unit {0}) × IsTypedCondition s (ys ∷ others)) (λ s. IsTypedCondition s (xs ∷ (ys ∷ others))) (λ t. first (length (code t) + 0) t ++ code t) (λ t. condition_code t skip (xs ∷ (ys ∷ others))) (λ s h. ((h.0, tt), h.1))
     (λ f t around located. ap (λ (k : ℕ). first k t ++ code t) (plus (length (code t))) ∙ append_assoc (tests_code t 1 xs) (place t (i.Jump (length (code t))) ∷ []) (code t)) all
 
-pub negated_made : (old new : Generator) (front whole : Lined) (here : Here) (skip : ℕ) (c : Condition) → Emits old new no_code front here (λ s. GoodCondition s c) (λ t. condition_code t 1 c) → whole ≡ front ++ on_line here.line (r.Jump skip) ∷ [] → Emits old new no_code whole here (λ s. GoodCondition s c) (λ t. negated_code t skip c)
+pub negated_made : (old new : Generator) (front whole : Lined) (here : Here) (skip : ℕ) (c : Condition) → HasEmitted old new no_code front here (λ s. IsTypedCondition s c) (λ t. condition_code t 1 c) → whole ≡ front ++ on_line here.line (r.Jump skip) ∷ [] → HasEmitted old new no_code whole here (λ s. IsTypedCondition s c) (λ t. negated_code t skip c)
 negated_made old new front whole here skip c m is =
-    let both = then_made old new new front (on_line here.line (r.Jump skip) ∷ []) whole here (λ s. GoodCondition s c) (λ s. Unit {0}) (λ t. condition_code t 1 c) (λ t. place t (i.Jump skip) ∷ []) m (jumps new here skip) is in
-    emits_where old new no_code whole here (λ s. GoodCondition s c × Unit {0}) (λ s. GoodCondition s c) (λ t. negated_code t skip c) (λ t. negated_code t skip c) (λ s h. (h, tt)) (λ f t around located. refl) both
+    let both = then_made old new new front (on_line here.line (r.Jump skip) ∷ []) whole here (λ s. IsTypedCondition s c) (λ s. Unit {0}) (λ t. condition_code t 1 c) (λ t. place t (i.Jump skip) ∷ []) m (jumps new here skip) is in
+    emits_where old new no_code whole here (λ s. IsTypedCondition s c × Unit {0}) (λ s. IsTypedCondition s c) (λ t. negated_code t skip c) (λ t. negated_code t skip c) (λ s h. (h, tt)) (λ f t around located. refl) both
 
-pub guards_step : (old mid new : Generator) (rest front whole inner : Lined) (here : Here) (more past : ℕ) (g : Guard) (gs : List Guard) → EmitsAround old mid no_code rest here inner (λ s. Every (λ g. GoodCondition s g.condition) gs) (λ t b. guards_code t (length b + more) gs ++ b) → Emits mid new no_code front here (λ s. GoodCondition s g.condition) (λ t. guard_code t past g.kind g.condition) → past ≡ length rest + more → whole ≡ front ++ rest → EmitsAround old new no_code whole here inner (λ s. Every (λ g. GoodCondition s g.condition) (g ∷ gs)) (λ t b. guards_code t (length b + more) (g ∷ gs) ++ b)
+pub guards_step : (old mid new : Generator) (rest front whole inner : Lined) (here : Here) (more past : ℕ) (g : Guard) (gs : List Guard) → HasEmittedAround old mid no_code rest here inner (λ s. Every (λ g. IsTypedCondition s g.condition) gs) (λ t b. guards_code t (length b + more) gs ++ b) → HasEmitted mid new no_code front here (λ s. IsTypedCondition s g.condition) (λ t. guard_code t past g.kind g.condition) → past ≡ length rest + more → whole ≡ front ++ rest → HasEmittedAround old new no_code whole here inner (λ s. Every (λ g. IsTypedCondition s g.condition) (g ∷ gs)) (λ t b. guards_code t (length b + more) (g ∷ gs) ++ b)
 guards_step old mid new rest front whole inner here more past g gs m n long is =
     let code : Site → List Placed → List Placed = λ (t : Site) (b : List Placed). guards_code t (length b + more) gs ++ b in
     let first : ℕ → Site → List Placed = λ (k : ℕ) (t : Site). guard_code t k g.kind g.condition in
-    let all = before_around old mid new front rest whole inner here (λ s. GoodCondition s g.condition) (λ s. Every (λ g. GoodCondition s g.condition) gs) first code past m n is more long in
-    around_for old new no_code whole inner here (λ s. GoodCondition s g.condition × Every (λ g. GoodCondition s g.condition) gs) (λ s. Every (λ g. GoodCondition s g.condition) (g ∷ gs)) (λ t b. first (length (code t b) + more) t ++ code t b) (λ t b. guards_code t (length b + more) (g ∷ gs) ++ b) (λ s h. h) (λ t b. guards_more t more g gs b) all
+    let all = before_around old mid new front rest whole inner here (λ s. IsTypedCondition s g.condition) (λ s. Every (λ g. IsTypedCondition s g.condition) gs) first code past m n is more long in
+    around_for old new no_code whole inner here (λ s. IsTypedCondition s g.condition × Every (λ g. IsTypedCondition s g.condition) gs) (λ s. Every (λ g. IsTypedCondition s g.condition) (g ∷ gs)) (λ t b. first (length (code t b) + more) t ++ code t b) (λ t b. guards_code t (length b + more) (g ∷ gs) ++ b) (λ s h. h) (λ t b. guards_more t more g gs b) all
 
-pub phrases_step : (old mid new : Generator) (rest front whole inner : Lined) (here : Here) (past : ℕ) (x : Phrase) (xs : List Phrase) → EmitsAround old mid no_code rest here inner (λ s. Every (GoodPhrase s) xs) (λ t b. phrases_code t xs b) → Emits mid new no_code front here (λ s. GoodCondition s x.condition) (λ t. phrase_code t past x.kind x.condition) → past ≡ length rest → whole ≡ front ++ rest → EmitsAround old new no_code whole here inner (λ s. Every (GoodPhrase s) (x ∷ xs)) (λ t b. phrases_code t (x ∷ xs) b)
+pub phrases_step : (old mid new : Generator) (rest front whole inner : Lined) (here : Here) (past : ℕ) (x : Phrase) (xs : List Phrase) → HasEmittedAround old mid no_code rest here inner (λ s. Every (IsTypedPhrase s) xs) (λ t b. phrases_code t xs b) → HasEmitted mid new no_code front here (λ s. IsTypedCondition s x.condition) (λ t. phrase_code t past x.kind x.condition) → past ≡ length rest → whole ≡ front ++ rest → HasEmittedAround old new no_code whole here inner (λ s. Every (IsTypedPhrase s) (x ∷ xs)) (λ t b. phrases_code t (x ∷ xs) b)
 phrases_step old mid new rest front whole inner here past x xs m n long is =
     let code : Site → List Placed → List Placed = λ (t : Site) (b : List Placed). phrases_code t xs b in
     let first : ℕ → Site → List Placed = λ (k : ℕ) (t : Site). phrase_code t k x.kind x.condition in
     let plus : (k : ℕ) → k + 0 ≡ k = λ (k : ℕ). omega arith in
-    let all = before_around old mid new front rest whole inner here (λ s. GoodCondition s x.condition) (λ s. Every (GoodPhrase s) xs) first code past m n is 0 (long ∙ sym (plus (length rest))) in
-    around_for old new no_code whole inner here (λ s. GoodCondition s x.condition × Every (GoodPhrase s) xs) (λ s. Every (GoodPhrase s) (x ∷ xs)) (λ t b. first (length (code t b) + 0) t ++ code t b) (λ t b. phrases_code t (x ∷ xs) b) (λ s h. h)
+    let all = before_around old mid new front rest whole inner here (λ s. IsTypedCondition s x.condition) (λ s. Every (IsTypedPhrase s) xs) first code past m n is 0 (long ∙ sym (plus (length rest))) in
+    around_for old new no_code whole inner here (λ s. IsTypedCondition s x.condition × Every (IsTypedPhrase s) xs) (λ s. Every (IsTypedPhrase s) (x ∷ xs)) (λ t b. first (length (code t b) + 0) t ++ code t b) (λ t b. phrases_code t (x ∷ xs) b) (λ s h. h)
     (λ t b. ap (λ (k : ℕ). first k t ++ code t b) (plus (length (code t b)))) all
 
 -- the last of the alternatives
-pub last_alternative : (old new : Generator) (last whole : Lined) (here : Here) (skip : ℕ) (xs : List Test) → Emits old new no_code last here (λ s. Every (GoodTest s) xs) (λ t. tests_code t skip xs) → whole ≡ last → Emits old new no_code whole here (λ s. GoodCondition s (xs ∷ [])) (λ t. condition_code t skip (xs ∷ []))
+pub last_alternative : (old new : Generator) (last whole : Lined) (here : Here) (skip : ℕ) (xs : List Test) → HasEmitted old new no_code last here (λ s. Every (IsTypedTest s) xs) (λ t. tests_code t skip xs) → whole ≡ last → HasEmitted old new no_code whole here (λ s. IsTypedCondition s (xs ∷ [])) (λ t. condition_code t skip (xs ∷ []))
 last_alternative old new last whole here skip xs m is =
-    let made = subst (λ (p : Lined). Emits old new no_code p here (λ s. Every (GoodTest s) xs) (λ t. tests_code t skip xs)) (sym is) m in
-    emits_where old new no_code whole here (λ s. Every (GoodTest s) xs) (λ s. GoodCondition s (xs ∷ [])) (λ t. tests_code t skip xs) (λ t. condition_code t skip (xs ∷ [])) (λ s h. h.0) (λ f t around located. refl) made
+    let made = subst (λ (p : Lined). HasEmitted old new no_code p here (λ s. Every (IsTypedTest s) xs) (λ t. tests_code t skip xs)) (sym is) m in
+    emits_where old new no_code whole here (λ s. Every (IsTypedTest s) xs) (λ s. IsTypedCondition s (xs ∷ [])) (λ t. tests_code t skip xs) (λ t. condition_code t skip (xs ∷ [])) (λ s h. h.0) (λ f t around located. refl) made

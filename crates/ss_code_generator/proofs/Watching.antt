@@ -11,7 +11,7 @@ use Rattle.ss_program.specs.declared.expression.Variable.{Variable}
 use Rattle.ss_program.specs.declared.expression.Variable.TheVariants.{Global, Local}
 use Rattle.ss_program.specs.declared.statement.CountedClass.{CountedClass}
 use Rattle.ss_program.specs.Program.{Program}
-use Rattle.ss_program.specs.WellTyped.{TypedScope, WellTyped, GoodSubject, GoodCount, mode_at, field_mode}
+use Rattle.ss_program.specs.WellTyped.{TypedScope, IsWellTyped, IsTypedSubject, IsTypedCount, mode_at, field_mode}
 use Rattle.ss_meaning.specs.Histories.{same_subject}
 use Rattle.ss_meaning.proofs.Lists.{every_get}
 use Rattle.ss_meaning.proofs.Kept.{same_subject_is}
@@ -25,32 +25,32 @@ not_both p class field e f = differ (sym e ∙ f)
     differ q = cc
 
 -- no statistic watches a text
-pub text_unwatched : (p : Program) (class field : ℕ) → field_mode p class field ≡ Some Alpha → (ss : List Statistic) → Every (λ s. GoodSubject p s.subject) ss → watch ss (OfAttribute class field) ≡ false
+pub text_unwatched : (p : Program) (class field : ℕ) → field_mode p class field ≡ Some Alpha → (ss : List Statistic) → Every (λ s. IsTypedSubject p s.subject) ss → watch ss (OfAttribute class field) ≡ false
 text_unwatched p class field e [] good = refl
 text_unwatched p class field e (s ∷ ss) good = by (same_subject s.subject (OfAttribute class field)) refl (text_unwatched p class field e ss good.1)
   where
     by : (b : Bool) → same_subject s.subject (OfAttribute class field) ≡ b → watch ss (OfAttribute class field) ≡ false → (if b then true else watch ss (OfAttribute class field)) ≡ false
     by false q rest = rest
-    by true q rest = absurd (not_both p class field e (subst (λ (x : Subject). GoodSubject p x) (same_subject_is s.subject (OfAttribute class field) q) good.0))
+    by true q rest = absurd (not_both p class field e (subst (λ (x : Subject). IsTypedSubject p x) (same_subject_is s.subject (OfAttribute class field) q) good.0))
 
 -- a variable that they watch is a number
-variable_watched : (p : Program) (k : ℕ) (ss : List Statistic) → Every (λ s. GoodSubject p s.subject) ss → watch ss (OfVariable k) ≡ true → slice_get p.globals k ≡ Some Integer
+variable_watched : (p : Program) (k : ℕ) (ss : List Statistic) → Every (λ s. IsTypedSubject p s.subject) ss → watch ss (OfVariable k) ≡ true → slice_get p.globals k ≡ Some Integer
 variable_watched p k [] good h = absurd (true≢false (sym h))
 variable_watched p k (s ∷ ss) good h = by (same_subject s.subject (OfVariable k)) refl h (variable_watched p k ss good.1)
   where
     by : (b : Bool) → same_subject s.subject (OfVariable k) ≡ b → (if b then true else watch ss (OfVariable k)) ≡ true → (watch ss (OfVariable k) ≡ true → slice_get p.globals k ≡ Some Integer) → slice_get p.globals k ≡ Some Integer
     by false q h rest = rest h
-    by true q h rest = (subst (λ (x : Subject). GoodSubject p x) (same_subject_is s.subject (OfVariable k) q) good.0).0
+    by true q h rest = (subst (λ (x : Subject). IsTypedSubject p x) (same_subject_is s.subject (OfVariable k) q) good.0).0
 
-pub kept_integer : (p : Program) → WellTyped p → (s : TypedScope) → s.program ≡ p → (x : Variable) → is_watched s.program.statistics x ≡ true → mode_at s x ≡ Some Integer
+pub kept_integer : (p : Program) → IsWellTyped p → (s : TypedScope) → s.program ≡ p → (x : Variable) → is_watched s.program.statistics x ≡ true → mode_at s x ≡ Some Integer
 kept_integer p typed s same (Global k) w =
     ap (λ (q : Program). slice_get q.globals k) same ∙ variable_watched p k p.statistics typed.statistics (sym (ap (λ (q : Program). watch q.statistics (OfVariable k)) same) ∙ w)
 kept_integer p typed s same (Local k) w = absurd (true≢false (sym w))
 
 -- N. of a class is one too
-pub count_integer : (p : Program) → WellTyped p → (s : TypedScope) → s.program ≡ p → (c : CountedClass) → Contains s.program.counts c → mode_at s (Global c.variable) ≡ Some Integer
+pub count_integer : (p : Program) → IsWellTyped p → (s : TypedScope) → s.program ≡ p → (c : CountedClass) → Contains s.program.counts c → mode_at s (Global c.variable) ≡ Some Integer
 count_integer p typed s same c has =
     let there : Contains p.counts c = subst (λ (q : Program). Contains q.counts c) same has in
     let at = contains_get p.counts c there in
-    let good : GoodCount p c = every_get (GoodCount p) p.counts at.0 c typed.counts at.1 in
+    let good : IsTypedCount p c = every_get (IsTypedCount p) p.counts at.0 c typed.counts at.1 in
     ap (λ (q : Program). slice_get q.globals c.variable) same ∙ good.1

@@ -12,12 +12,12 @@ use Rattle.ss_code_generator.specs.declared.expressions.Operand.{Operand as Read
 use Rattle.ss_code_generator.specs.declared.generator.Generator.{Generator}
 use Rattle.ss_code_generator.specs.declared.generator.Site.{Site as Here}
 use Rattle.ss_code_pieces.specs.Lined.{Lined}
-use Rattle.ss_code_generator.specs.Emitted.{Generates, NoMore, AtTarget, EmitsTo, Typed, IsRead, IsInteger}
+use Rattle.ss_code_generator.specs.Emitted.{HasGenerated, HasNoMore, IsSiteTarget, HasEmittedTo, IsTyped, IsRead, IsInteger}
 use Rattle.ss_code_instructions.specs.declared.address.Address.{Address}
 
 -- the code of an expression, whose value goes to an address
-abbrev pub EmitsExpression : (old new : Generator) → (before after : Lined) → Here → Address → Expression → Type 0
-EmitsExpression old new before after here to e = EmitsTo old new before after here to (Typed e) (λ t x. expression_code t x e)
+abbrev pub HasEmittedExpression : (old new : Generator) → (before after : Lined) → Here → Address → Expression → Type 0
+HasEmittedExpression old new before after here to e = HasEmittedTo old new before after here to (IsTyped e) (λ t x. expression_code t x e)
 
 -- a number and operations on it
 abbrev pub with_operations : Expression → List Operation → Expression
@@ -33,6 +33,6 @@ pub record LeftOperand : Type 0 where
   pub to : Target
 
 -- an operation on a number that is there
-abbrev pub Operates : (old new : Generator) → (before following : Lined) → Here → Read → Address → Operation → Type 0
-Operates old new before following here left to o =
-    Generates {I = LeftOperand} old new before following here (λ f t x. IsRead f t x.left left × AtTarget f t x.to to × IsInteger (view_expression o.operand) t.scope) (λ t x. operation_code t x.left o x.to) NoMore
+abbrev pub HasOperated : (old new : Generator) → (before following : Lined) → Here → Read → Address → Operation → Type 0
+HasOperated old new before following here left to o =
+    HasGenerated {I = LeftOperand} old new before following here (λ f t x. IsRead f t x.left left × IsSiteTarget f t x.to to × IsInteger (view_expression o.operand) t.scope) (λ t x. operation_code t x.left o x.to) HasNoMore

@@ -7,7 +7,7 @@ use Rattle.ss_program.specs.WellTyped.{TypedScope}
 use Rattle.ss_code_instructions.specs.declared.item.ItemKind.{ItemKind}
 use Rattle.ss_code_instructions.specs.declared.item.ItemKind.TheVariants as shows
 use Rattle.ss_code_instructions.specs.Translation.{expression_mode}
-use Rattle.ss_code_generator.specs.Emitted.{Typed, IsInteger}
+use Rattle.ss_code_generator.specs.Emitted.{IsTyped, IsInteger}
 
 abbrev pub value_kind : Mode → ItemKind
 value_kind Integer = shows.Number
@@ -25,7 +25,7 @@ item_width (AMean k) = 0
 item_width (AMeanOf k e) = 1
 
 -- what is asked of an item alone
-abbrev pub GoodItem : PrintItem → TypedScope → Type 0
-GoodItem (AValue e) s = Typed e s
-GoodItem (AMean k) s = Unit {0}
-GoodItem (AMeanOf k e) s = IsInteger e s
+abbrev pub IsTypedItem : PrintItem → TypedScope → Type 0
+IsTypedItem (AValue e) s = IsTyped e s
+IsTypedItem (AMean k) s = Unit {0}
+IsTypedItem (AMeanOf k e) s = IsInteger e s

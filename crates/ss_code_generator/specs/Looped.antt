@@ -2,7 +2,7 @@
 use Rattle.std.specs.Prelude.{◌≡◌, ◌≤◌, ◌+◌, ℕ, Bool, true, false, List, ◌∷◌, ◌++◌, length, Option, Some, None}
 use Rattle.ss_program.specs.declared.expression.Variable.{Variable}
 use Rattle.ss_program.specs.Program.{SetOwner, TheSystem, Entity, Head, Numbers, Each, Members, Start, AtEnd, From, After}
-use Rattle.ss_program.specs.WellTyped.{GoodStart}
+use Rattle.ss_program.specs.WellTyped.{IsTypedStart}
 use Rattle.ss_code_instructions.specs.declared.instruction.Instruction.{Instruction as Running}
 use Rattle.ss_code_instructions.specs.declared.instruction.Instruction.TheVariants.{BeginSet, BeginAt, Begin, BeginClass}
 use Rattle.ss_code_instructions.specs.Instructions.{Bearer, Next, NextMember, Placed}
@@ -15,7 +15,7 @@ use Rattle.ss_code_generator.specs.declared.generator.Site.{Site as Here}
 use Rattle.ss_code_generator.specs.declared.loops.MemberLoop.{MemberLoop}
 use Rattle.ss_code_generator.specs.declared.targets.VariableSpot.{VariableSpot}
 use Rattle.ss_code_pieces.specs.Lined.{Lined, no_code}
-use Rattle.ss_code_generator.specs.Emitted.{Final, Generates, NoMore, Adds, AtBearer, AtCell, AreNumbers}
+use Rattle.ss_code_generator.specs.Emitted.{Final, HasGenerated, HasNoMore, HasAdded, IsSiteBearer, IsSiteCell, AreNumbers}
 use Rattle.ss_code_generator.specs.Spots.{IsVariable}
 
 -- how many cells a FOR keeps
@@ -44,16 +44,16 @@ pub record Turning : Type 0 where
   pub turn : List Placed
 
 -- the cell of the item has this number, and lies below others
-abbrev pub FitsItem : (cell : ℕ) → VariableSpot → Final → Site → Turning → Type 0
-FitsItem n spot f u x = IsVariable u x.variable spot × AtCell f u x.cell n
+abbrev pub IsFittingItem : (cell : ℕ) → VariableSpot → Final → Site → Turning → Type 0
+IsFittingItem n spot f u x = IsVariable u x.variable spot × IsSiteCell f u x.cell n
 
-abbrev pub TakesLoopItem : Generator → (before after : Lined) → Here → (cell : ℕ) → VariableSpot → Type 0
-TakesLoopItem g before after here n spot = Generates g g before after here (FitsItem n spot) (λ u x. take_code u x.cell x.variable) NoMore
+abbrev pub HasTakenLoopItem : Generator → (before after : Lined) → Here → (cell : ℕ) → VariableSpot → Type 0
+HasTakenLoopItem g before after here n spot = HasGenerated g g before after here (IsFittingItem n spot) (λ u x. take_code u x.cell x.variable) HasNoMore
 
 -- a turn was made before
-abbrev pub TakesItems : Generator → (after : Lined) → Here → (cell : ℕ) → VariableSpot → (turn : Lined) → Type 0
-TakesItems g after here n spot turn =
-    Generates g g no_code after here (λ f u x. FitsItem n spot f u x × Adds f no_code turn x.turn) (λ u x. turns_code u x.cell x.variable x.turn (Next x.cell)) NoMore
+abbrev pub HasTakenItems : Generator → (after : Lined) → Here → (cell : ℕ) → VariableSpot → (turn : Lined) → Type 0
+HasTakenItems g after here n spot turn =
+    HasGenerated g g no_code after here (λ f u x. IsFittingItem n spot f u x × HasAdded f no_code turn x.turn) (λ u x. turns_code u x.cell x.variable x.turn (Next x.cell)) HasNoMore
 
 -- the instruction that begins a FOR over numbers, or over a class
 abbrev pub items_begin : (class : Option ℕ) → (cell skip : ℕ) → Running
@@ -81,21 +81,21 @@ pub record Walking : Type 0 where
   pub cell : ℕ
   pub turn : List Placed
 
-abbrev pub FitsWalk : MemberLoop → Final → Site → Walking → Type 0
-FitsWalk w f u x = IsVariable u x.variable w.variable × (w.set ≡ x.set) × AtBearer f u x.owner w.owner × AtCell f u x.cell w.cell
+abbrev pub IsFittingWalk : MemberLoop → Final → Site → Walking → Type 0
+IsFittingWalk w f u x = IsVariable u x.variable w.variable × (w.set ≡ x.set) × IsSiteBearer f u x.owner w.owner × IsSiteCell f u x.cell w.cell
 
-abbrev pub TakesMembers : Generator → (after : Lined) → Here → MemberLoop → (turn : Lined) → Type 0
-TakesMembers g after here w turn =
-    Generates g g no_code after here (λ f u x. FitsWalk w f u x × Adds f no_code turn x.turn)
-    (λ u x. turns_code u x.cell x.variable x.turn (NextMember w.reverse x.set x.owner x.cell)) NoMore
+abbrev pub HasTakenMembers : Generator → (after : Lined) → Here → MemberLoop → (turn : Lined) → Type 0
+HasTakenMembers g after here w turn =
+    HasGenerated g g no_code after here (λ f u x. IsFittingWalk w f u x × HasAdded f no_code turn x.turn)
+    (λ u x. turns_code u x.cell x.variable x.turn (NextMember w.reverse x.set x.owner x.cell)) HasNoMore
 
 -- the owner of a walk, which stays in a cell
-abbrev pub KeepsOwner : (old new : Generator) → (before after : Lined) → Here → SetOwner → Read → Type 0
-KeepsOwner old new before after here o r =
-    Generates old new before after here (λ f t (u : Unit {0}). AreNumbers (expression_of o) t.scope) (λ t u. owner_code t o)
-    (λ f t u. AtBearer f t (owner_kept t o) r.address × (height (owner_cell t o) ≡ height t + r.cells) × (height (owner_cell t o) ≤ f.depth))
+abbrev pub HasKeptOwner : (old new : Generator) → (before after : Lined) → Here → SetOwner → Read → Type 0
+HasKeptOwner old new before after here o r =
+    HasGenerated old new before after here (λ f t (u : Unit {0}). AreNumbers (expression_of o) t.scope) (λ t u. owner_code t o)
+    (λ f t u. IsSiteBearer f t (owner_kept t o) r.address × (height (owner_cell t o) ≡ height t + r.cells) × (height (owner_cell t o) ≤ f.depth))
 
 -- the member with which a walk begins, or after which
-abbrev pub StartsWalk : (old new : Generator) → (before after : Lined) → Here → MemberLoop → Start → Type 0
-StartsWalk old new before after here w start =
-    Generates old new before after here (λ f u x. FitsWalk w f u x × GoodStart u.scope start) (λ u x. start_code u x.set x.owner start) NoMore
+abbrev pub HasStartedWalk : (old new : Generator) → (before after : Lined) → Here → MemberLoop → Start → Type 0
+HasStartedWalk old new before after here w start =
+    HasGenerated old new before after here (λ f u x. IsFittingWalk w f u x × IsTypedStart u.scope start) (λ u x. start_code u x.set x.owner start) HasNoMore

@@ -13,8 +13,8 @@ use Rattle.ss_code_instructions.specs.Translation.{Site, height, place, above, o
 use Rattle.ss_code_generator.specs.declared.generator.Generator.{Generator}
 use Rattle.ss_code_generator.specs.declared.generator.Site.{Site as Here}
 use Rattle.ss_code_pieces.specs.Lined.{Lined}
-use Rattle.ss_code_generator.specs.Emitted.{Final, Generates, NoMore, AtTarget}
-use Rattle.ss_code_generator.specs.Spots.{Taking, HasTargetRoom, HoldsMode, landing, landed_code}
+use Rattle.ss_code_generator.specs.Emitted.{Final, HasGenerated, HasNoMore, IsSiteTarget}
+use Rattle.ss_code_generator.specs.Spots.{Taking, HasTargetRoom, HasHeldMode, landing, landed_code}
 
 -- the statistics watch one of the first attributes of a class, so many
 abbrev pub any_watched : List Statistic → (class given : ℕ) → Bool
@@ -37,10 +37,10 @@ named_code t u (ToVariable x) = landed_code t u (ToVariable x) Integer
 named_code t u (ToAttribute class field r) = place (above u Integer) (SetAttribute class field (stay (operand t r)) (Stays (height u))) ∷ []
 named_code t u (ToCount c) = count_code (above u Integer) c (Stays (height u))
 
-abbrev pub FitsNaming : (IsIt : Final → Site → Place → Type 0) → Address → Final → Site → Taking → Type 0
-FitsNaming IsIt from f u g =
-    IsIt f g.resolved g.place × (g.resolved.scope ≡ u.scope) × AtTarget f u (landing u g.place) from × HasTargetRoom f (landing u g.place)
-    × HoldsMode u.scope g.place Integer
+abbrev pub IsFittingNaming : (IsIt : Final → Site → Place → Type 0) → Address → Final → Site → Taking → Type 0
+IsFittingNaming IsIt from f u g =
+    IsIt f g.resolved g.place × (g.resolved.scope ≡ u.scope) × IsSiteTarget f u (landing u g.place) from × HasTargetRoom f (landing u g.place)
+    × HasHeldMode u.scope g.place Integer
 
-abbrev pub Names : Generator → (before after : Lined) → Here → Address → (IsIt : Final → Site → Place → Type 0) → Type 0
-Names g before after here from IsIt = Generates g g before after here (FitsNaming IsIt from) (λ u x. named_code x.resolved u x.place) NoMore
+abbrev pub HasNamed : Generator → (before after : Lined) → Here → Address → (IsIt : Final → Site → Place → Type 0) → Type 0
+HasNamed g before after here from IsIt = HasGenerated g g before after here (IsFittingNaming IsIt from) (λ u x. named_code x.resolved u x.place) HasNoMore

@@ -3,19 +3,19 @@ use Rattle.std.specs.Prelude.{◌≡◌, ℕ, List, [], ◌∷◌, ◌++◌, len
 use Rattle.std.specs.List.{AllByRecursion as Every}
 use Rattle.ss_base.specs.declared.line.Line.{Line}
 use Rattle.ss_program.specs.Program.{PrintItem, Statement, Let, Change, Call, Return, Stop, Read, Simulate, If, Loop, For, Find, Create, CreateEvery, Destroy, File, RemoveEnd, Remove, ScheduleNew, Schedule, Cancel, Reset, Print as APrint, Skip, Block}
-use Rattle.ss_program.specs.WellTyped.{TypedScope, Good, GoodBlock}
+use Rattle.ss_program.specs.WellTyped.{TypedScope, IsTypedStatement, IsTypedBlock}
 use Rattle.ss_code_instructions.specs.Instructions.{Lines, Print, Placed}
 use Rattle.ss_code_instructions.specs.Carried.{RunningLines, lines_of_running as run_as}
 use Rattle.ss_code_instructions.specs.Translation.{Site, height, place, no_line, items_code, after_items, lines_of_items, statement_code, statement_prints, block_code, block_prints}
 use Rattle.ss_code_generator.specs.declared.generator.Generator.{Generator}
 use Rattle.ss_code_generator.specs.declared.generator.Site.{Site as Here}
 use Rattle.ss_code_pieces.specs.Lined.{Lined, no_code}
-use Rattle.ss_code_generator.specs.Emitted.{EmitsPrinting}
-use Rattle.ss_code_generator.specs.Items.{GoodItem}
+use Rattle.ss_code_generator.specs.Emitted.{HasEmittedPrinting}
+use Rattle.ss_code_generator.specs.Items.{IsTypedItem}
 
 -- the lines of PRINTs that were put down: after those before come these
-abbrev pub Prints : (before after : List RunningLines) → List Lines → Type 0
-Prints before after ls = (more : List RunningLines) × (after ≡ before ++ more) × (map run_as more ≡ ls)
+abbrev pub HasPrinted : (before after : List RunningLines) → List Lines → Type 0
+HasPrinted before after ls = (more : List RunningLines) × (after ≡ before ++ more) × (map run_as more ≡ ls)
 
 -- the line of a statement; one that never faults has none
 abbrev pub line_or_none : Statement → Line
@@ -48,21 +48,21 @@ abbrev pub statement_site : (height : ℕ) → Here
 statement_site h = record { line = no_line; height = h }
 
 -- code, and the lines of its PRINTs
-pub record PrintsBy (old new : Generator) (before after : Lined) (here : Here) (old_prints new_prints : List RunningLines) (Good : TypedScope → Type 0) (ls : List Lines) (c : (first : ℕ) → Site → List Placed) : Type 0 where
-  pub code : EmitsPrinting old new before after here new_prints Good (c (length old_prints))
-  pub prints : Prints old_prints new_prints ls
+pub record HasPrintedBy (old new : Generator) (before after : Lined) (here : Here) (old_prints new_prints : List RunningLines) (IsTypedStatement : TypedScope → Type 0) (ls : List Lines) (c : (first : ℕ) → Site → List Placed) : Type 0 where
+  pub code : HasEmittedPrinting old new before after here new_prints IsTypedStatement (c (length old_prints))
+  pub prints : HasPrinted old_prints new_prints ls
 
-abbrev pub PrintsLines : (old new : Generator) → (before after : Lined) → Here → (old_prints new_prints : List RunningLines) → List PrintItem → (pictures : List (List ℕ)) → Type 0
-PrintsLines old new before after here old_prints new_prints items pictures =
-    PrintsBy old new before after here old_prints new_prints (λ s. Every (λ x. GoodItem x s) items) (lines_of_items items pictures ∷ [])
+abbrev pub HasPrintedLines : (old new : Generator) → (before after : Lined) → Here → (old_prints new_prints : List RunningLines) → List PrintItem → (pictures : List (List ℕ)) → Type 0
+HasPrintedLines old new before after here old_prints new_prints items pictures =
+    HasPrintedBy old new before after here old_prints new_prints (λ s. Every (λ x. IsTypedItem x s) items) (lines_of_items items pictures ∷ [])
     (λ first t. items_code t items ++ place (after_items t items) (Print first (height t)) ∷ [])
 
 -- a statement
-abbrev pub EmitsStatement : (old new : Generator) → (before after : Lined) → (height : ℕ) → (old_prints new_prints : List RunningLines) → Statement → Type 0
-EmitsStatement old new before after h old_prints new_prints s =
-    PrintsBy old new before after (statement_site h) old_prints new_prints (λ scope. Good scope s) (statement_prints s) (λ first t. statement_code t first s)
+abbrev pub HasEmittedStatement : (old new : Generator) → (before after : Lined) → (height : ℕ) → (old_prints new_prints : List RunningLines) → Statement → Type 0
+HasEmittedStatement old new before after h old_prints new_prints s =
+    HasPrintedBy old new before after (statement_site h) old_prints new_prints (λ scope. IsTypedStatement scope s) (statement_prints s) (λ first t. statement_code t first s)
 
 -- and a block of them
-abbrev pub EmitsBlock : (old new : Generator) → (after : Lined) → (height : ℕ) → (old_prints new_prints : List RunningLines) → Block → Type 0
-EmitsBlock old new after h old_prints new_prints b =
-    PrintsBy old new no_code after (statement_site h) old_prints new_prints (λ scope. GoodBlock scope b) (block_prints b) (λ first t. block_code t first b)
+abbrev pub HasEmittedBlock : (old new : Generator) → (after : Lined) → (height : ℕ) → (old_prints new_prints : List RunningLines) → Block → Type 0
+HasEmittedBlock old new after h old_prints new_prints b =
+    HasPrintedBy old new no_code after (statement_site h) old_prints new_prints (λ scope. IsTypedBlock scope b) (block_prints b) (λ first t. block_code t first b)

@@ -6,12 +6,12 @@ use Rattle.ss_program.specs.declared.expression.Variable.{Variable}
 use Rattle.ss_program.specs.declared.expression.Variable.TheVariants.{Global}
 use Rattle.ss_program.specs.declared.sections.Subject.TheVariants.{OfAttribute}
 use Rattle.ss_program.specs.Program.{Expression, Place, ToVariable, ToAttribute, ToCount}
-use Rattle.ss_program.specs.WellTyped.{TypedScope, TakesMode, mode_at, field_mode}
+use Rattle.ss_program.specs.WellTyped.{TypedScope, CanTakeMode, mode_at, field_mode}
 use Rattle.ss_code_instructions.specs.Facts.{watch}
 use Rattle.ss_code_instructions.specs.declared.address.Address.{Address}
 use Rattle.ss_code_instructions.specs.Instructions.{Operand, Taken, Target, Into, Onto, Placed}
 use Rattle.ss_code_instructions.specs.Instructions as i
-use Rattle.ss_code_instructions.specs.Carried.{VariableAt, mode_here}
+use Rattle.ss_code_instructions.specs.Carried.{IsVariableAt, mode_here}
 use Rattle.ss_code_instructions.specs.Translation.{Site, height, above, place, next, operand, operand_code, is_kept, or_integer, assignment, count_code, code_of}
 use Rattle.ss_code_generator.specs.declared.targets.VariableSpot.{VariableSpot}
 use Rattle.ss_code_generator.specs.declared.targets.AttributeSpot.{AttributeSpot}
@@ -20,7 +20,7 @@ use Rattle.ss_code_generator.specs.declared.targets.Spot.TheVariants as spots
 use Rattle.ss_code_generator.specs.declared.generator.Generator.{Generator}
 use Rattle.ss_code_generator.specs.declared.generator.Site.{Site as Here}
 use Rattle.ss_code_pieces.specs.Lined.{Lined}
-use Rattle.ss_code_generator.specs.Emitted.{Final, Generates, NoMore, AtOperand, AtTarget, IsRead}
+use Rattle.ss_code_generator.specs.Emitted.{Final, HasGenerated, HasNoMore, IsSiteOperand, IsSiteTarget, IsRead}
 
 -- ## Spots
 
@@ -30,7 +30,7 @@ IsWatchedAs kept x None = kept ≡ false
 IsWatchedAs kept x (Some k) = (kept ≡ true) × (x ≡ Global k)
 
 pub record IsVariable (t : Site) (x : Variable) (s : VariableSpot) : Type 0 where
-  pub at : VariableAt x s.address
+  pub at : IsVariableAt x s.address
   pub mode : s.mode ≡ or_integer (mode_at t.scope x)
   pub watched : IsWatchedAs (is_kept t x) x s.watched
 
@@ -86,8 +86,8 @@ landed_code t u (ToCount c) m = count_code (above u m) c (Taken (height u))
 
 -- ## Places that are well typed
 
-abbrev pub GoodPlace : Place → TypedScope → Type 0
-GoodPlace p s = (m : Mode) × TakesMode s p m
+abbrev pub IsTypedPlace : Place → TypedScope → Type 0
+IsTypedPlace p s = (m : Mode) × CanTakeMode s p m
 
 -- ## The contracts of what assigns
 
@@ -105,24 +105,24 @@ IsPlaceOf t (ToAttribute class field r) s = ⊥
 IsPlaceOf t (ToCount c) s = ⊥
 
 -- what a place holds has this mode
-abbrev pub HoldsMode : TypedScope → Place → Mode → Type 0
-HoldsMode s (ToVariable x) m = mode_at s x ≡ Some m
-HoldsMode s (ToAttribute class field r) m = field_mode s.program class field ≡ Some m
-HoldsMode s (ToCount c) m = mode_at s (Global c.variable) ≡ Some m
+abbrev pub HasHeldMode : TypedScope → Place → Mode → Type 0
+HasHeldMode s (ToVariable x) m = mode_at s x ≡ Some m
+HasHeldMode s (ToAttribute class field r) m = field_mode s.program class field ≡ Some m
+HasHeldMode s (ToCount c) m = mode_at s (Global c.variable) ≡ Some m
 
 -- the frame has room for a target
 abbrev pub HasTargetRoom : Final → Target → Type 0
 HasTargetRoom f (Into x) = Unit {0}
 HasTargetRoom f (Onto h) = h < f.depth
 
-abbrev pub FitsGiven : (IsIt : Final → Site → Place → Type 0) → Address → Final → Site → Assignment → Type 0
-FitsGiven IsIt from f u g =
-    IsIt f g.resolved g.place × (g.resolved.scope ≡ u.scope) × AtOperand f u g.from from × HoldsMode u.scope g.place g.mode
+abbrev pub IsFittingGiven : (IsIt : Final → Site → Place → Type 0) → Address → Final → Site → Assignment → Type 0
+IsFittingGiven IsIt from f u g =
+    IsIt f g.resolved g.place × (g.resolved.scope ≡ u.scope) × IsSiteOperand f u g.from from × HasHeldMode u.scope g.place g.mode
     × (mode_here (code_of f.program) f.constants (place u i.Leave) g.from ≡ Some g.mode)
 
 -- an operand goes to what is assigned
-abbrev pub Assigns : Generator → (before after : Lined) → Here → Address → (IsIt : Final → Site → Place → Type 0) → Type 0
-Assigns g before after here from IsIt = Generates g g before after here (FitsGiven IsIt from) (λ u x. assigned_code x.resolved u x.place x.from) NoMore
+abbrev pub HasAssigned : Generator → (before after : Lined) → Here → Address → (IsIt : Final → Site → Place → Type 0) → Type 0
+HasAssigned g before after here from IsIt = HasGenerated g g before after here (IsFittingGiven IsIt from) (λ u x. assigned_code x.resolved u x.place x.from) HasNoMore
 
 -- a value that lies where it comes at first goes to what is assigned; here are the cells below it
 pub record Taking : Type 0 where
@@ -130,13 +130,13 @@ pub record Taking : Type 0 where
   pub place : Place
   pub mode : Mode
 
-abbrev pub FitsTaking : (IsIt : Final → Site → Place → Type 0) → Address → Final → Site → Taking → Type 0
-FitsTaking IsIt from f u g =
-    IsIt f g.resolved g.place × (g.resolved.scope ≡ u.scope) × AtTarget f u (landing u g.place) from × HasTargetRoom f (landing u g.place)
-    × HoldsMode u.scope g.place g.mode
+abbrev pub IsFittingTaking : (IsIt : Final → Site → Place → Type 0) → Address → Final → Site → Taking → Type 0
+IsFittingTaking IsIt from f u g =
+    IsIt f g.resolved g.place × (g.resolved.scope ≡ u.scope) × IsSiteTarget f u (landing u g.place) from × HasTargetRoom f (landing u g.place)
+    × HasHeldMode u.scope g.place g.mode
 
-abbrev pub AssignsLanded : Generator → (before after : Lined) → Here → Address → (IsIt : Final → Site → Place → Type 0) → Type 0
-AssignsLanded g before after here from IsIt = Generates g g before after here (FitsTaking IsIt from) (λ u x. landed_code x.resolved u x.place x.mode) NoMore
+abbrev pub HasAssignedLanded : Generator → (before after : Lined) → Here → Address → (IsIt : Final → Site → Place → Type 0) → Type 0
+HasAssignedLanded g before after here from IsIt = HasGenerated g g before after here (IsFittingTaking IsIt from) (λ u x. landed_code x.resolved u x.place x.mode) HasNoMore
 
 -- a variable that ADD or SUBTRACT changes, and the place that it is
 pub record Changed : Type 0 where

@@ -3,12 +3,12 @@
 ghost use Rattle.std.specs.Prelude.{◌≡◌, ◌+◌, ◌∷◌, [], ◌++◌, length, map, IfOk, OnOk};
 ghost use Rattle.std.specs.List.{AllByRecursion as Every};
 ghost use Rattle.ss_program.specs.View.{view_test, view_conjunction, view_condition, view_guard, view_phrase};
-ghost use Rattle.ss_program.specs.WellTyped.{GoodTest, GoodCondition, GoodPhrase};
+ghost use Rattle.ss_program.specs.WellTyped.{IsTypedTest, IsTypedCondition, IsTypedPhrase};
 ghost use Rattle.ss_code_instructions.specs.Instructions.{Jump};
 ghost use Rattle.ss_code_instructions.specs.Translation.{place, test_code, tests_code, condition_code, negated_code, guard_code, guards_code, phrase_code, phrases_code};
 ghost use Rattle.ss_code_instructions.specs.Forms.{comparing_numbers, comparing};
 ghost use Rattle.ss_code_pieces.specs.Lined.{no_code};
-ghost use Rattle.ss_code_generator.specs.Emitted.{Emits, EmitsAround};
+ghost use Rattle.ss_code_generator.specs.Emitted.{HasEmitted, HasEmittedAround};
 
 use crate::generator::{Generator, Site};
 use ss_base::Mode;
@@ -60,7 +60,7 @@ impl Generator<'_> {
         skip: u32,
         test: &Test,
     ) -> Result<(), AllocError>
-        ensures { OnOk result (Emits self.old self.new code.old code.new site (λ s. GoodTest s (view_test test.now)) (λ t. test_code t skip (view_test test.now))) }
+        ensures { OnOk result (HasEmitted self.old self.new code.old code.new site (λ s. IsTypedTest s (view_test test.now)) (λ t. test_code t skip (view_test test.now))) }
     {
         match test {
             Test::Compare {
@@ -123,7 +123,7 @@ impl Generator<'_> {
 
     // Tests that all must hold, the last of them first.
     fn tests(&mut self, site: Site, skip: u32, tests: &[Test]) -> Result<Piece, AllocError>
-        ensures { IfOk result (λ code. Emits self.old self.new no_code code site (λ s. Every (GoodTest s) (map view_test tests.now)) (λ t. tests_code t skip (map view_test tests.now))) }
+        ensures { IfOk result (λ code. HasEmitted self.old self.new no_code code site (λ s. Every (IsTypedTest s) (map view_test tests.now)) (λ t. tests_code t skip (map view_test tests.now))) }
     {
         let mut rest = Backward::new(self.alloc);
         for i in (0..tests.len()).rev() {
@@ -137,7 +137,7 @@ impl Generator<'_> {
 
     /// A jump.
     pub fn jump(&self, site: Site, skip: u32) -> Result<Piece, AllocError>
-        ensures { IfOk result (λ code. Emits self.now self.now no_code code site (λ s. Unit {0}) (λ t. place t (Jump skip) ∷ [])) }
+        ensures { IfOk result (λ code. HasEmitted self.now self.now no_code code site (λ s. Unit {0}) (λ t. place t (Jump skip) ∷ [])) }
     {
         let mut code = Piece::new(self.alloc);
         code.put(site.line, Instruction::Jump { skip })?;
@@ -151,7 +151,7 @@ impl Generator<'_> {
         skip: u32,
         alternatives: &[Conjunction],
     ) -> Result<Piece, AllocError>
-        ensures { IfOk result (λ code. Emits self.old self.new no_code code site (λ s. GoodCondition s (map view_conjunction alternatives.now)) (λ t. condition_code t skip (map view_conjunction alternatives.now))) }
+        ensures { IfOk result (λ code. HasEmitted self.old self.new no_code code site (λ s. IsTypedCondition s (map view_conjunction alternatives.now)) (λ t. condition_code t skip (map view_conjunction alternatives.now))) }
     {
         let count = alternatives.len();
         if count == 0 {
@@ -175,14 +175,14 @@ impl Generator<'_> {
         skip: u32,
         condition: &Condition,
     ) -> Result<Piece, AllocError>
-        ensures { IfOk result (λ code. Emits self.old self.new no_code code site (λ s. GoodCondition s (view_condition condition.now)) (λ t. condition_code t skip (view_condition condition.now))) }
+        ensures { IfOk result (λ code. HasEmitted self.old self.new no_code code site (λ s. IsTypedCondition s (view_condition condition.now)) (λ t. condition_code t skip (view_condition condition.now))) }
     {
         self.alternatives(site, skip, &condition.alternatives)
     }
 
     // A condition, which jumps where it holds.
     fn negated(&mut self, site: Site, skip: u32, condition: &Condition) -> Result<Piece, AllocError>
-        ensures { IfOk result (λ code. Emits self.old self.new no_code code site (λ s. GoodCondition s (view_condition condition.now)) (λ t. negated_code t skip (view_condition condition.now))) }
+        ensures { IfOk result (λ code. HasEmitted self.old self.new no_code code site (λ s. IsTypedCondition s (view_condition condition.now)) (λ t. negated_code t skip (view_condition condition.now))) }
     {
         let mut code = self.condition(site, 1, condition)?;
         code.put(site.line, Instruction::Jump { skip })?;
@@ -191,7 +191,7 @@ impl Generator<'_> {
 
     // A guard of a loop.
     fn guard(&mut self, site: Site, skip: u32, guard: &Guard) -> Result<Piece, AllocError>
-        ensures { IfOk result (λ code. Emits self.old self.new no_code code site (λ s. GoodCondition s (view_condition guard.now.condition)) (λ t. guard_code t skip guard.now.kind (view_condition guard.now.condition))) }
+        ensures { IfOk result (λ code. HasEmitted self.old self.new no_code code site (λ s. IsTypedCondition s (view_condition guard.now.condition)) (λ t. guard_code t skip guard.now.kind (view_condition guard.now.condition))) }
     {
         match guard.kind {
             GuardKind::While => self.condition(site, skip, &guard.condition),
@@ -208,7 +208,7 @@ impl Generator<'_> {
         guards: &[Guard],
         following: Piece,
     ) -> Result<Piece, AllocError>
-        ensures { IfOk result (λ code. EmitsAround self.old self.new no_code code site following (λ s. Every (λ g. GoodCondition s g.condition) (map view_guard guards.now)) (λ t b. guards_code t (length b + more) (map view_guard guards.now) ++ b)) }
+        ensures { IfOk result (λ code. HasEmittedAround self.old self.new no_code code site following (λ s. Every (λ g. IsTypedCondition s g.condition) (map view_guard guards.now)) (λ t b. guards_code t (length b + more) (map view_guard guards.now) ++ b)) }
     {
         let mut rest = Backward::of(following);
         for i in (0..guards.len()).rev() {
@@ -221,7 +221,7 @@ impl Generator<'_> {
 
     // A phrase before the rest of a turn, of so many instructions.
     fn phrase(&mut self, site: Site, rest: u32, phrase: &Phrase) -> Result<Piece, AllocError>
-        ensures { IfOk result (λ code. Emits self.old self.new no_code code site (λ s. GoodCondition s (view_condition phrase.now.condition)) (λ t. phrase_code t rest phrase.now.kind (view_condition phrase.now.condition))) }
+        ensures { IfOk result (λ code. HasEmitted self.old self.new no_code code site (λ s. IsTypedCondition s (view_condition phrase.now.condition)) (λ t. phrase_code t rest phrase.now.kind (view_condition phrase.now.condition))) }
     {
         let condition = &phrase.condition;
         let past = as_index(rest as usize + 1)?;
@@ -240,7 +240,7 @@ impl Generator<'_> {
         phrases: &[Phrase],
         turn: Piece,
     ) -> Result<Piece, AllocError>
-        ensures { IfOk result (λ code. EmitsAround self.old self.new no_code code site turn (λ s. Every (GoodPhrase s) (map view_phrase phrases.now)) (λ t b. phrases_code t (map view_phrase phrases.now) b)) }
+        ensures { IfOk result (λ code. HasEmittedAround self.old self.new no_code code site turn (λ s. Every (IsTypedPhrase s) (map view_phrase phrases.now)) (λ t b. phrases_code t (map view_phrase phrases.now) b)) }
     {
         let mut rest = Backward::of(turn);
         for i in (0..phrases.len()).rev() {

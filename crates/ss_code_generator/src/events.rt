@@ -4,12 +4,12 @@ ghost use Rattle.std.specs.Prelude.{◌≡◌, ◌+◌, ◌<◌, ◌^◌, [], �
 ghost use Rattle.std.specs.List.{AllByRecursion as Every};
 ghost use Rattle.ss_program.specs.Program.{ScheduleNew, Schedule, Cancel};
 ghost use Rattle.ss_program.specs.View.{view_expression, view_place, view_when, view_restart};
-ghost use Rattle.ss_program.specs.WellTyped.{GoodWhen, GoodRestart, Good};
+ghost use Rattle.ss_program.specs.WellTyped.{IsTypedWhen, IsTypedRestart, IsTypedStatement};
 ghost use Rattle.ss_code_instructions.specs.Instructions.{Cancel as Cancels};
 ghost use Rattle.ss_code_instructions.specs.Translation.{with_operand, values_code, after_values, when_code, schedule_new_code, schedule_code, restarts_code};
-ghost use Rattle.ss_code_generator.specs.Notices.{named_at, any_watched, simulate_code, Names};
+ghost use Rattle.ss_code_generator.specs.Notices.{named_at, any_watched, simulate_code, HasNamed};
 ghost use Rattle.ss_code_generator.specs.Spots.{IsSpot};
-ghost use Rattle.ss_code_generator.specs.Emitted.{Emits, Typed};
+ghost use Rattle.ss_code_generator.specs.Emitted.{HasEmitted, IsTyped};
 
 use crate::generator::{Generator, Site};
 use crate::targets::{Spot, set_of};
@@ -42,7 +42,7 @@ pub struct Planned<'a> {
 impl Generator<'_> {
     // The time to schedule for goes into the next cell.
     fn time(&mut self, code: &mut Piece, site: Site, when: &When) -> Result<(), AllocError>
-        ensures code { OnOk result (Emits self.old self.new code.old code.new site (λ s. GoodWhen s (view_when when.now)) (λ t. when_code t (view_when when.now))) }
+        ensures code { OnOk result (HasEmitted self.old self.new code.old code.new site (λ s. IsTypedWhen s (view_when when.now)) (λ t. when_code t (view_when when.now))) }
         ensures room { OnOk result (site.height < self.new.deepest) }
     {
         let to = self.cell(site)?;
@@ -67,7 +67,7 @@ impl Generator<'_> {
         given: &[Expression],
         when: &When,
     ) -> Result<(), AllocError>
-        ensures code { OnOk result (Emits self.old self.new code.old code.new site (λ s. Every (λ e. Typed e s) (map view_expression given.now) × GoodWhen s (view_when when.now)) (λ t. values_code t (map view_expression given.now) ++ when_code (after_values t (map view_expression given.now)) (view_when when.now))) }
+        ensures code { OnOk result (HasEmitted self.old self.new code.old code.new site (λ s. Every (λ e. IsTyped e s) (map view_expression given.now) × IsTypedWhen s (view_when when.now)) (λ t. values_code t (map view_expression given.now) ++ when_code (after_values t (map view_expression given.now)) (view_when when.now))) }
         ensures room { OnOk result (self.new.deepest < 2 ^ 64 → site.height + length given.now < self.new.deepest) }
     {
         self.values(code, site, given)?;
@@ -93,7 +93,7 @@ impl Generator<'_> {
         spot: Spot,
         to: Address,
     ) -> Result<(), AllocError>
-        ensures { OnOk result (Names self.now code.old code.new site to (λ f t p. IsSpot f t p spot)) }
+        ensures { OnOk result (HasNamed self.now code.old code.new site to (λ f t p. IsSpot f t p spot)) }
     {
         match spot {
             Spot::Variable(_) => self.take(code, site, spot, to),
@@ -111,7 +111,7 @@ impl Generator<'_> {
         place: &Place,
         given: &[Expression],
     ) -> Result<(), AllocError>
-        ensures { OnOk result (Emits self.old self.new code.old code.new site (λ s. Good s (ScheduleNew site.line planned.entry.class (view_place place.now) (map view_expression given.now) (view_when planned.entry.when.now))) (λ t. schedule_new_code t planned.entry.class (view_place place.now) (map view_expression given.now) (view_when planned.entry.when.now))) }
+        ensures { OnOk result (HasEmitted self.old self.new code.old code.new site (λ s. IsTypedStatement s (ScheduleNew site.line planned.entry.class (view_place place.now) (map view_expression given.now) (view_when planned.entry.when.now))) (λ t. schedule_new_code t planned.entry.class (view_place place.now) (map view_expression given.now) (view_when planned.entry.when.now))) }
     {
         let spot = self.looked_spot(code, site, place)?;
         let above = site.above(spot.cells());
@@ -151,7 +151,7 @@ impl Generator<'_> {
         notice: &Expression,
         given: &[Expression],
     ) -> Result<(), AllocError>
-        ensures { OnOk result (Emits self.old self.new code.old code.new site (λ s. Good s (Schedule site.line planned.entry.class (view_expression notice.now) (map view_expression given.now) (view_when planned.entry.when.now))) (λ t. schedule_code t planned.entry.class (view_expression notice.now) (map view_expression given.now) (view_when planned.entry.when.now))) }
+        ensures { OnOk result (HasEmitted self.old self.new code.old code.new site (λ s. IsTypedStatement s (Schedule site.line planned.entry.class (view_expression notice.now) (map view_expression given.now) (view_when planned.entry.when.now))) (λ t. schedule_code t planned.entry.class (view_expression notice.now) (map view_expression given.now) (view_when planned.entry.when.now))) }
     {
         let notice = self.operand(code, site, notice)?;
         let (class, entity) = (as_index(planned.class)?, notice.address);
@@ -178,7 +178,7 @@ impl Generator<'_> {
         class: usize,
         notice: &Expression,
     ) -> Result<(), AllocError>
-        ensures { OnOk result (Emits self.old self.new code.old code.new site (λ s. Good s (Cancel site.line class (view_expression notice.now))) (λ t. with_operand t (view_expression notice.now) (Cancels class))) }
+        ensures { OnOk result (HasEmitted self.old self.new code.old code.new site (λ s. IsTypedStatement s (Cancel site.line class (view_expression notice.now))) (λ t. with_operand t (view_expression notice.now) (Cancels class))) }
     {
         let notice = self.operand(code, site, notice)?.address;
         let class = as_index(class)?;
@@ -187,7 +187,7 @@ impl Generator<'_> {
 
     /// START SIMULATION.
     pub fn simulate(&self, code: &mut Piece, site: Site) -> Result<(), AllocError>
-        ensures { OnOk result (Emits self.now self.now code.old code.new site (λ s. Unit {0}) (λ t. simulate_code t)) }
+        ensures { OnOk result (HasEmitted self.now self.now code.old code.new site (λ s. Unit {0}) (λ t. simulate_code t)) }
     {
         let cell = self.place_of(site)?;
         code.put(site.line, Instruction::Await { skip: 2 })?;
@@ -198,7 +198,7 @@ impl Generator<'_> {
 
     // A statistic starts afresh.
     fn reset(&mut self, code: &mut Piece, site: Site, restart: &Restart) -> Result<(), AllocError>
-        ensures { OnOk result (Emits self.old self.new code.old code.new site (λ s. GoodRestart s restart.now.statistic (view_restart restart.now).of) (λ t. restarts_code t (view_restart restart.now ∷ []))) }
+        ensures { OnOk result (HasEmitted self.old self.new code.old code.new site (λ s. IsTypedRestart s restart.now.statistic (view_restart restart.now).of) (λ t. restarts_code t (view_restart restart.now ∷ []))) }
     {
         let entity = self.entity_of(code, site, &restart.of)?.address;
         let statistic = as_index(restart.statistic)?;
@@ -212,7 +212,7 @@ impl Generator<'_> {
         site: Site,
         restarts: &[Restart],
     ) -> Result<(), AllocError>
-        ensures { OnOk result (Emits self.old self.new code.old code.new site (λ s. Every (λ r. GoodRestart s r.statistic r.of) (map view_restart restarts.now)) (λ t. restarts_code t (map view_restart restarts.now))) }
+        ensures { OnOk result (HasEmitted self.old self.new code.old code.new site (λ s. Every (λ r. IsTypedRestart s r.statistic r.of) (map view_restart restarts.now)) (λ t. restarts_code t (map view_restart restarts.now))) }
     {
         for restart in restarts {
             self.reset(code, site, restart)?;

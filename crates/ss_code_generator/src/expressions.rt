@@ -14,8 +14,8 @@ ghost use Rattle.ss_code_instructions.specs.Forms.{calculating, asking_set, aski
 ghost use Rattle.ss_code_pieces.specs.Lined.{Lined, on_line};
 ghost use Rattle.ss_code_generator.specs.declared.generator.Generator.{Generator as Builder};
 ghost use Rattle.ss_program.specs.Program.{Expression as Plain};
-ghost use Rattle.ss_code_generator.specs.Calculations.{EmitsExpression, Operates, with_operations};
-ghost use Rattle.ss_code_generator.specs.Emitted.{Grows, Emits, Typed, IsLeaf, ReadsOperand, Bears};
+ghost use Rattle.ss_code_generator.specs.Calculations.{HasEmittedExpression, HasOperated, with_operations};
+ghost use Rattle.ss_code_generator.specs.Emitted.{HasGrown, HasEmitted, IsTyped, IsLeaf, HasReadOperand, HasBorne};
 
 use crate::generator::{Generator, Site};
 use ss_base::{Line, Mode};
@@ -187,7 +187,7 @@ fn fetch_figure(
 impl Generator<'_> {
     // The address of an expression that takes no code: a variable or a constant.
     fn leaf(&mut self, e: &Expression) -> Result<Option<Address>, AllocError>
-        ensures grows { OnOk result (Grows self.old self.new) }
+        ensures grows { OnOk result (HasGrown self.old self.new) }
         ensures leaf { IfOk result (λ found. IsLeaf self.new (view_expression e.now) found) }
     {
         match leaf_of(e) {
@@ -205,7 +205,7 @@ impl Generator<'_> {
         site: Site,
         e: &Expression,
     ) -> Result<Operand, AllocError>
-        ensures { IfOk result (λ o. ReadsOperand self.old self.new code.old code.new site (view_expression e.now) o) }
+        ensures { IfOk result (λ o. HasReadOperand self.old self.new code.old code.new site (view_expression e.now) o) }
     {
         if let Some(address) = self.leaf(e)? {
             return Ok(Operand::leaf(address));
@@ -225,7 +225,7 @@ impl Generator<'_> {
         e: &Expression,
         to: Address,
     ) -> Result<(), AllocError>
-        ensures { OnOk result (EmitsExpression self.old self.new code.old code.new site to (view_expression e.now)) }
+        ensures { OnOk result (HasEmittedExpression self.old self.new code.old code.new site to (view_expression e.now)) }
     {
         match e {
             Expression::Constant { value } => {
@@ -306,7 +306,7 @@ impl Generator<'_> {
         to: Address,
     ) -> Result<(), AllocError>
         requires { 0 < length further.now }
-        ensures { OnOk result ((old : Builder) (before : Lined) (e : Plain) → ReadsOperand old self.old before code.old site e left → EmitsExpression old self.new before code.new site to (with_operations e further.now)) }
+        ensures { OnOk result ((old : Builder) (before : Lined) (e : Plain) → HasReadOperand old self.old before code.old site e left → HasEmittedExpression old self.new before code.new site to (with_operations e further.now)) }
     {
         let count = further.len();
         let mut left = left;
@@ -328,7 +328,7 @@ impl Generator<'_> {
         operation: &Operation,
         to: Address,
     ) -> Result<(), AllocError>
-        ensures { OnOk result (Operates self.old self.new code.old code.new site left to operation.now) }
+        ensures { OnOk result (HasOperated self.old self.new code.old code.new site left to operation.now) }
     {
         let right = self
             .operand(code, site.above(left.cells), &operation.operand)?
@@ -342,7 +342,7 @@ impl Generator<'_> {
 
     /// An expression goes into the next cell.
     pub fn push(&mut self, code: &mut Piece, site: Site, e: &Expression) -> Result<(), AllocError>
-        ensures code { OnOk result (Emits self.old self.new code.old code.new site (Typed (view_expression e.now)) (λ t. expression_code t (next t) (view_expression e.now))) }
+        ensures code { OnOk result (HasEmitted self.old self.new code.old code.new site (IsTyped (view_expression e.now)) (λ t. expression_code t (next t) (view_expression e.now))) }
         ensures room { OnOk result (site.height < self.new.deepest) }
         ensures small { OnOk result (site.height < 2 ^ 32) }
     {
@@ -357,7 +357,7 @@ impl Generator<'_> {
         site: Site,
         values: &[Expression],
     ) -> Result<(), AllocError>
-        ensures code { OnOk result (Emits self.old self.new code.old code.new site (λ s. Every (λ e. Typed e s) (map view_expression values.now)) (λ t. values_code t (map view_expression values.now))) }
+        ensures code { OnOk result (HasEmitted self.old self.new code.old code.new site (λ s. Every (λ e. IsTyped e s) (map view_expression values.now)) (λ t. values_code t (map view_expression values.now))) }
         ensures room { OnOk result (site.height + length values.now ≤ self.new.deepest) }
     {
         self.reach(site.height);
@@ -374,7 +374,7 @@ impl Generator<'_> {
         site: Site,
         owner: &SetOwner,
     ) -> Result<Operand, AllocError>
-        ensures { IfOk result (λ o. Bears self.old self.new code.old code.new site (expression_of (view_owner owner.now)) o) }
+        ensures { IfOk result (λ o. HasBorne self.old self.new code.old code.new site (expression_of (view_owner owner.now)) o) }
     {
         match owner {
             SetOwner::TheSystem => Ok(Operand::leaf(self.zero()?)),
@@ -389,7 +389,7 @@ impl Generator<'_> {
         site: Site,
         e: &Option<Expression>,
     ) -> Result<Operand, AllocError>
-        ensures { IfOk result (λ o. Bears self.old self.new code.old code.new site (option_map view_expression e.now) o) }
+        ensures { IfOk result (λ o. HasBorne self.old self.new code.old code.new site (option_map view_expression e.now) o) }
     {
         match e {
             None => Ok(Operand::leaf(self.zero()?)),
@@ -399,7 +399,7 @@ impl Generator<'_> {
 
     /// The number 1 goes into the next cell.
     pub fn push_one(&mut self, code: &mut Piece, site: Site) -> Result<(), AllocError>
-        ensures code { OnOk result (Emits self.old self.new code.old code.new site (λ s. Unit {0}) (λ t. place t (Move (Constant (Whole (pos 1))) (next t)) ∷ [])) }
+        ensures code { OnOk result (HasEmitted self.old self.new code.old code.new site (λ s. Unit {0}) (λ t. place t (Move (Constant (Whole (pos 1))) (next t)) ∷ [])) }
         ensures room { OnOk result (site.height < self.new.deepest) }
     {
         let to = self.cell(site)?;

@@ -4,8 +4,8 @@ ghost use Rattle.std.specs.Prelude.{◌≡◌, ◌+◌, ◌<◌, ◌≤◌, ◌^
 ghost use Rattle.ss_base.specs.declared.value.Value.TheVariants.{Whole};
 ghost use Rattle.ss_code_instructions.specs.Instructions.{Constant};
 ghost use Rattle.ss_code_instructions.specs.Translation.{Site as At};
-ghost use Rattle.ss_code_instructions.specs.Carried.{VariableAt, InFrame};
-ghost use Rattle.ss_code_generator.specs.Emitted.{Final, Around, Grows, AtOperand};
+ghost use Rattle.ss_code_instructions.specs.Carried.{IsVariableAt, IsInFrame};
+ghost use Rattle.ss_code_generator.specs.Emitted.{Final, IsAround, HasGrown, IsSiteOperand};
 
 use ss_base::{Line, Mode, Value};
 use ss_code_instructions::address::Address;
@@ -71,7 +71,7 @@ impl<'a> Generator<'a> {
 
     /// The address of a variable.
     pub fn variable(&self, variable: Variable) -> Result<Address, AllocError>
-        ensures { IfOk result (λ a. VariableAt variable a) }
+        ensures { IfOk result (λ a. IsVariableAt variable a) }
     {
         match variable {
             Variable::Global { number } => Ok(Address::fixed(as_index(number)?)),
@@ -89,7 +89,7 @@ impl<'a> Generator<'a> {
 
     // One constant more.
     fn put_constant(&mut self, value: Value) -> Result<(), AllocError>
-        ensures grows { OnOk result (Grows self.old self.new) }
+        ensures grows { OnOk result (HasGrown self.old self.new) }
         ensures constants { OnOk result (self.new.constants.items ≡ self.old.constants.items ++ value ∷ []) }
     {
         self.constants.push(value)?;
@@ -98,8 +98,8 @@ impl<'a> Generator<'a> {
 
     /// The address of a constant, which is a new one.
     pub fn constant(&mut self, value: Value) -> Result<Address, AllocError>
-        ensures grows { OnOk result (Grows self.old self.new) }
-        ensures at { IfOk result (λ a. (f : Final) (t : At) → Around f self.new → AtOperand f t (Constant value) a) }
+        ensures grows { OnOk result (HasGrown self.old self.new) }
+        ensures at { IfOk result (λ a. (f : Final) (t : At) → IsAround f self.new → IsSiteOperand f t (Constant value) a) }
     {
         let number = self.constants.len();
         self.put_constant(value)?;
@@ -108,21 +108,21 @@ impl<'a> Generator<'a> {
 
     /// The address of the constant 0.
     pub fn zero(&self) -> Result<Address, AllocError>
-        ensures { IfOk result (λ a. (f : Final) (t : At) → Around f self.now → AtOperand f t (Constant (Whole (pos 0))) a) }
+        ensures { IfOk result (λ a. (f : Final) (t : At) → IsAround f self.now → IsSiteOperand f t (Constant (Whole (pos 0))) a) }
     {
         self.constant_at(ZERO)
     }
 
     /// The address of the constant 1.
     pub fn one(&self) -> Result<Address, AllocError>
-        ensures { IfOk result (λ a. (f : Final) (t : At) → Around f self.now → AtOperand f t (Constant (Whole (pos 1))) a) }
+        ensures { IfOk result (λ a. (f : Final) (t : At) → IsAround f self.now → IsSiteOperand f t (Constant (Whole (pos 1))) a) }
     {
         self.constant_at(ONE)
     }
 
     /// A frame has so many cells at least.
     pub fn reach(&mut self, cells: usize)
-        ensures grows { Grows self.old self.new }
+        ensures grows { HasGrown self.old self.new }
         ensures room { cells ≤ self.new.deepest }
     {
         self.deepest = self.deepest.max(cells);
@@ -138,7 +138,7 @@ impl<'a> Generator<'a> {
 
     /// The number of the next cell in the frame, which the stack will have.
     pub fn cell_number(&mut self, site: Site) -> Result<u32, AllocError>
-        ensures grows { OnOk result (Grows self.old self.new) }
+        ensures grows { OnOk result (HasGrown self.old self.new) }
         ensures number { IfOk result (λ n. n ≡ length self.new.locals.items + site.height) }
         ensures room { OnOk result (site.height < self.new.deepest) }
         ensures small { OnOk result (site.height < 2 ^ 32) }
@@ -150,8 +150,8 @@ impl<'a> Generator<'a> {
 
     /// The address of the next cell.
     pub fn cell(&mut self, site: Site) -> Result<Address, AllocError>
-        ensures grows { OnOk result (Grows self.old self.new) }
-        ensures at { IfOk result (λ a. InFrame (length self.new.locals.items + site.height) a) }
+        ensures grows { OnOk result (HasGrown self.old self.new) }
+        ensures at { IfOk result (λ a. IsInFrame (length self.new.locals.items + site.height) a) }
         ensures room { OnOk result (site.height < self.new.deepest) }
         ensures small { OnOk result (site.height < 2 ^ 32) }
     {

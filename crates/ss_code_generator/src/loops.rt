@@ -5,10 +5,10 @@ ghost use Rattle.std.specs.List.{AllByRecursion as Every};
 ghost use Rattle.ss_program.specs.Program.{Members, From};
 ghost use Rattle.ss_program.specs.View.{view_expression, view_owner, view_start, view_head, view_guard, view_phrase};
 ghost use Rattle.std.specs.Option.{option_map};
-ghost use Rattle.ss_program.specs.WellTyped.{GoodHead, GoodCondition, GoodPhrase};
+ghost use Rattle.ss_program.specs.WellTyped.{IsTypedHead, IsTypedCondition, IsTypedPhrase};
 ghost use Rattle.ss_code_instructions.specs.Translation.{loop_code, range_code, for_code, find_code};
-ghost use Rattle.ss_code_generator.specs.Emitted.{Emits, EmitsAround, EmitsAroundBoth, IsInteger, AreNumbers};
-ghost use Rattle.ss_code_generator.specs.Looped.{loop_width, is_after, begin_of, items_begin, item_loop_code, TakesLoopItem, TakesItems, TakesMembers, StartsWalk, KeepsOwner};
+ghost use Rattle.ss_code_generator.specs.Emitted.{HasEmitted, HasEmittedAround, HasEmittedAroundBoth, IsInteger, AreNumbers};
+ghost use Rattle.ss_code_generator.specs.Looped.{loop_width, is_after, begin_of, items_begin, item_loop_code, HasTakenLoopItem, HasTakenItems, HasTakenMembers, HasStartedWalk, HasKeptOwner};
 
 use crate::expressions::Operand;
 use crate::generator::{Generator, Site};
@@ -118,7 +118,7 @@ impl Generator<'_> {
         guards: &[Guard],
         body: &Piece,
     ) -> Result<(), AllocError>
-        ensures { OnOk result (EmitsAround self.old self.new code.old code.new site body.now (λ s. Every (λ g. GoodCondition s g.condition) (map view_guard guards.now)) (λ t b. loop_code t (map view_guard guards.now) b)) }
+        ensures { OnOk result (HasEmittedAround self.old self.new code.old code.new site body.now (λ s. Every (λ g. IsTypedCondition s g.condition) (map view_guard guards.now)) (λ t b. loop_code t (map view_guard guards.now) b)) }
     {
         let mut turn = Piece::new(self.alloc);
         turn.put(site.line, Instruction::Turn)?;
@@ -138,7 +138,7 @@ impl Generator<'_> {
         cell: u32,
         variable: VariableSpot,
     ) -> Result<(), AllocError>
-        ensures { OnOk result (TakesLoopItem self.now code.old code.new site cell variable) }
+        ensures { OnOk result (HasTakenLoopItem self.now code.old code.new site cell variable) }
     {
         match variable.watched {
             None => {
@@ -162,7 +162,7 @@ impl Generator<'_> {
         variable: VariableSpot,
         turn: &Piece,
     ) -> Result<Piece, AllocError>
-        ensures { IfOk result (λ code. TakesItems self.now code site cell variable turn.now) }
+        ensures { IfOk result (λ code. HasTakenItems self.now code site cell variable turn.now) }
     {
         let mut code = Piece::new(self.alloc);
         self.take_item(&mut code, site, cell, variable)?;
@@ -181,7 +181,7 @@ impl Generator<'_> {
         limit: &Expression,
         step: &Option<Expression>,
     ) -> Result<(), AllocError>
-        ensures { OnOk result (Emits self.old self.new code.old code.new site (λ s. IsInteger (view_expression first.now) s × IsInteger (view_expression limit.now) s × AreNumbers (option_map view_expression step.now) s) (λ t. range_code t (view_expression first.now) (view_expression limit.now) (option_map view_expression step.now))) }
+        ensures { OnOk result (HasEmitted self.old self.new code.old code.new site (λ s. IsInteger (view_expression first.now) s × IsInteger (view_expression limit.now) s × AreNumbers (option_map view_expression step.now) s) (λ t. range_code t (view_expression first.now) (view_expression limit.now) (option_map view_expression step.now))) }
     {
         self.push(code, site, first)?;
         self.push(code, site.above(1), limit)?;
@@ -201,7 +201,7 @@ impl Generator<'_> {
         class: Option<u32>,
         turn: &Piece,
     ) -> Result<(), AllocError>
-        ensures { OnOk result (EmitsAround self.old self.new code.old code.new site turn.now (λ s. Unit {0}) (λ t b. item_loop_code t class variable b)) }
+        ensures { OnOk result (HasEmittedAround self.old self.new code.old code.new site turn.now (λ s. Unit {0}) (λ t b. item_loop_code t class variable b)) }
     {
         let above = site.above(NUMBER_CELLS);
         self.reach(above.height);
@@ -216,7 +216,7 @@ impl Generator<'_> {
 
     // The members of a walk: a turn, and on to the next one.
     fn take_members(&self, site: Site, walk: MemberLoop, turn: &Piece) -> Result<Piece, AllocError>
-        ensures { IfOk result (λ code. TakesMembers self.now code site walk turn.now) }
+        ensures { IfOk result (λ code. HasTakenMembers self.now code site walk turn.now) }
     {
         let mut code = Piece::new(self.alloc);
         self.take_item(&mut code, site, walk.cell, walk.variable)?;
@@ -243,7 +243,7 @@ impl Generator<'_> {
         site: Site,
         owner: &SetOwner,
     ) -> Result<Operand, AllocError>
-        ensures { IfOk result (λ o. KeepsOwner self.old self.new code.old code.new site (view_owner owner.now) o) }
+        ensures { IfOk result (λ o. HasKeptOwner self.old self.new code.old code.new site (view_owner owner.now) o) }
     {
         match owner {
             SetOwner::TheSystem => self.owner(code, site, owner),
@@ -265,7 +265,7 @@ impl Generator<'_> {
         walk: MemberLoop,
         member: &Expression,
     ) -> Result<(), AllocError>
-        ensures { OnOk result (StartsWalk self.old self.new code.old code.new site walk (From (view_expression member.now))) }
+        ensures { OnOk result (HasStartedWalk self.old self.new code.old code.new site walk (From (view_expression member.now))) }
     {
         code.put(
             site.line,
@@ -285,7 +285,7 @@ impl Generator<'_> {
         walk: MemberLoop,
         start: &Start,
     ) -> Result<(), AllocError>
-        ensures { OnOk result (StartsWalk self.old self.new code.old code.new site walk (view_start start.now)) }
+        ensures { OnOk result (HasStartedWalk self.old self.new code.old code.new site walk (view_start start.now)) }
     {
         match start {
             Start::AtEnd => Ok(()),
@@ -302,7 +302,7 @@ impl Generator<'_> {
         of: SetLoop<'_>,
         turn: &Piece,
     ) -> Result<(), AllocError>
-        ensures { OnOk result (EmitsAround self.old self.new code.old code.new site turn.now (λ s. GoodHead s (Members of.entry.variable of.entry.set (view_owner of.entry.owner.now) (view_start of.entry.start.now) of.entry.reverse)) (λ t b. for_code t (Members of.entry.variable of.entry.set (view_owner of.entry.owner.now) (view_start of.entry.start.now) of.entry.reverse) b)) }
+        ensures { OnOk result (HasEmittedAround self.old self.new code.old code.new site turn.now (λ s. IsTypedHead s (Members of.entry.variable of.entry.set (view_owner of.entry.owner.now) (view_start of.entry.start.now) of.entry.reverse)) (λ t b. for_code t (Members of.entry.variable of.entry.set (view_owner of.entry.owner.now) (view_start of.entry.start.now) of.entry.reverse) b)) }
     {
         let kept = self.kept_owner(code, site, of.owner)?;
         let below = site.above(kept.cells);
@@ -331,7 +331,7 @@ impl Generator<'_> {
         head: &Head,
         turn: Piece,
     ) -> Result<(), AllocError>
-        ensures { OnOk result (EmitsAround self.old self.new code.old code.new site turn (λ s. GoodHead s (view_head head.now)) (λ t b. for_code t (view_head head.now) b)) }
+        ensures { OnOk result (HasEmittedAround self.old self.new code.old code.new site turn (λ s. IsTypedHead s (view_head head.now)) (λ t b. for_code t (view_head head.now) b)) }
     {
         match head {
             Head::Numbers {
@@ -376,7 +376,7 @@ impl Generator<'_> {
         found: &Piece,
         none: &Piece,
     ) -> Result<(), AllocError>
-        ensures { OnOk result (EmitsAroundBoth self.old self.new code.old code.new site found.now none.now (λ s. GoodHead s (view_head cases.entry.head.now) × Every (GoodPhrase s) (map view_phrase cases.entry.phrases.now)) (λ t b. find_code t (view_head cases.entry.head.now) (map view_phrase cases.entry.phrases.now) b.first b.second)) }
+        ensures { OnOk result (HasEmittedAroundBoth self.old self.new code.old code.new site found.now none.now (λ s. IsTypedHead s (view_head cases.entry.head.now) × Every (IsTypedPhrase s) (map view_phrase cases.entry.phrases.now)) (λ t b. find_code t (view_head cases.entry.head.now) (map view_phrase cases.entry.phrases.now) b.first b.second)) }
     {
         let cells = cells_of(cases.head);
         let above = site.above(cells);

@@ -5,9 +5,9 @@ ghost use Rattle.std.specs.List.{AllByRecursion as Every};
 ghost use Rattle.ss_program.specs.View.{view_item};
 ghost use Rattle.ss_code_instructions.specs.Translation.{item_code, items_code, after_items, height};
 ghost use Rattle.ss_code_pieces.specs.Preamble.{scope_for_modes};
-ghost use Rattle.ss_code_generator.specs.Items.{running_kind, item_width, GoodItem};
-ghost use Rattle.ss_code_generator.specs.Printed.{PrintsLines};
-ghost use Rattle.ss_code_generator.specs.Emitted.{Generates, Emits};
+ghost use Rattle.ss_code_generator.specs.Items.{running_kind, item_width, IsTypedItem};
+ghost use Rattle.ss_code_generator.specs.Printed.{HasPrintedLines};
+ghost use Rattle.ss_code_generator.specs.Emitted.{HasGenerated, HasEmitted};
 
 use crate::generator::{Generator, Site};
 use ss_base::Mode;
@@ -23,7 +23,7 @@ impl Generator<'_> {
     // An item: the value or reference that it takes goes into the next cell, and a mean is looked at. It answers how many cells
     // that takes.
     fn item(&mut self, code: &mut Piece, site: Site, item: &PrintItem) -> Result<usize, AllocError>
-        ensures code { IfOk result (λ n. Emits self.old self.new code.old code.new site (GoodItem (view_item item.now)) (λ t. item_code t (view_item item.now))) }
+        ensures code { IfOk result (λ n. HasEmitted self.old self.new code.old code.new site (IsTypedItem (view_item item.now)) (λ t. item_code t (view_item item.now))) }
         ensures width { IfOk result (λ n. n ≡ item_width (view_item item.now)) }
         ensures room { IfOk result (λ n. site.height + n ≤ self.new.deepest) }
     {
@@ -51,7 +51,7 @@ impl Generator<'_> {
 
     // Items, one after the other. It answers where the code goes on.
     fn items(&mut self, code: &mut Piece, site: Site, items: &[PrintItem]) -> Result<(), AllocError>
-        ensures { OnOk result (Generates self.old self.new code.old code.new site (λ f t (u : Unit {0}). Every (λ x. GoodItem x t.scope) (map view_item items.now)) (λ t u. items_code t (map view_item items.now)) (λ f t u. height (after_items t (map view_item items.now)) ≤ f.depth)) }
+        ensures { OnOk result (HasGenerated self.old self.new code.old code.new site (λ f t (u : Unit {0}). Every (λ x. IsTypedItem x t.scope) (map view_item items.now)) (λ t u. items_code t (map view_item items.now)) (λ f t u. height (after_items t (map view_item items.now)) ≤ f.depth)) }
     {
         self.reach(site.height);
         let mut here = site;
@@ -101,7 +101,7 @@ impl Generator<'_> {
         items: &[PrintItem],
         pictures: &[Vec<u8>],
     ) -> Result<(), AllocError>
-        ensures { OnOk result (PrintsLines self.old self.new code.old code.new site prints.old.items prints.new.items (map view_item items.now) (map (λ line. line.items) pictures.now)) }
+        ensures { OnOk result (HasPrintedLines self.old self.new code.old code.new site prints.old.items prints.new.items (map view_item items.now) (map (λ line. line.items) pictures.now)) }
     {
         let kinds = self.item_kinds(items)?;
         let made = Lines::of(self.alloc, kinds, pictures)?;

@@ -3,14 +3,14 @@
 ghost use Rattle.std.specs.Prelude.{◌≡◌, ◌++◌, if◌then◌else◌, IfOk, OnOk};
 ghost use Rattle.ss_program.specs.Program.{BeforeMember, AfterMember, File, RemoveEnd, Remove};
 ghost use Rattle.ss_program.specs.View.{view_expression, view_owner, view_place, view_position};
-ghost use Rattle.ss_program.specs.WellTyped.{OwnerFits, Good};
+ghost use Rattle.ss_program.specs.WellTyped.{IsTypedOwner, IsTypedStatement};
 ghost use Rattle.ss_code_instructions.specs.Translation.{with_owner, after as beyond, operand, member_code, file_code, remove_code, remove_end_code};
 ghost use Rattle.ss_code_instructions.specs.Facts.{may_fault, expression_of};
 ghost use Rattle.ss_code_instructions.specs.Instructions.{File as Files};
 ghost use Rattle.ss_code_pieces.specs.Preamble.{filing_of};
 ghost use Rattle.ss_code_instructions.specs.Forms.{removing};
 ghost use Rattle.ss_code_generator.specs.Filings.{filing_instruction};
-ghost use Rattle.ss_code_generator.specs.Emitted.{Emits, IsInteger, ReadsBy};
+ghost use Rattle.ss_code_generator.specs.Emitted.{HasEmitted, IsInteger, HasReadBy};
 
 use crate::expressions::Operand;
 use crate::generator::{Generator, Site};
@@ -100,7 +100,7 @@ impl Generator<'_> {
         e: &Expression,
         is_looked: bool,
     ) -> Result<Operand, AllocError>
-        ensures { IfOk result (λ o. ReadsBy self.old self.new code.old code.new site (IsInteger (view_expression e.now)) (view_expression e.now) o (λ t. member_code t is_looked set (view_expression e.now))) }
+        ensures { IfOk result (λ o. HasReadBy self.old self.new code.old code.new site (IsInteger (view_expression e.now)) (view_expression e.now) o (λ t. member_code t is_looked set (view_expression e.now))) }
     {
         let member = self.operand(code, site, e)?;
         if !is_looked {
@@ -125,7 +125,7 @@ impl Generator<'_> {
         of: MemberOf<'_>,
         ordering: Ordering,
     ) -> Result<(), AllocError>
-        ensures { OnOk result (Emits self.old self.new code.old code.new site (λ s. IsInteger (view_expression of.entry.member.now) s × OwnerFits s of.entry.set (view_owner of.entry.owner.now)) (λ t. member_code t (may_fault (expression_of (view_owner of.entry.owner.now))) of.entry.set (view_expression of.entry.member.now) ++ with_owner (beyond t (view_expression of.entry.member.now)) (view_owner of.entry.owner.now) (Files (filing_of ordering) of.entry.set (operand t (view_expression of.entry.member.now))))) }
+        ensures { OnOk result (HasEmitted self.old self.new code.old code.new site (λ s. IsInteger (view_expression of.entry.member.now) s × IsTypedOwner s of.entry.set (view_owner of.entry.owner.now)) (λ t. member_code t (may_fault (expression_of (view_owner of.entry.owner.now))) of.entry.set (view_expression of.entry.member.now) ++ with_owner (beyond t (view_expression of.entry.member.now)) (view_owner of.entry.owner.now) (Files (filing_of ordering) of.entry.set (operand t (view_expression of.entry.member.now))))) }
     {
         let member = self.member(code, site, of.set, of.member, owner_may_fault(of.owner))?;
         let above = site.above(member.cells);
@@ -146,7 +146,7 @@ impl Generator<'_> {
         after: bool,
         beside: &Expression,
     ) -> Result<(), AllocError>
-        ensures { OnOk result (Emits self.old self.new code.old code.new site (λ s. IsInteger (view_expression of.entry.member.now) s × IsInteger (view_expression beside.now) s × OwnerFits s of.entry.set (view_owner of.entry.owner.now)) (λ t. file_code t of.entry.set (view_expression of.entry.member.now) (if after then AfterMember (view_expression beside.now) else BeforeMember (view_expression beside.now)) (view_owner of.entry.owner.now))) }
+        ensures { OnOk result (HasEmitted self.old self.new code.old code.new site (λ s. IsInteger (view_expression of.entry.member.now) s × IsInteger (view_expression beside.now) s × IsTypedOwner s of.entry.set (view_owner of.entry.owner.now)) (λ t. file_code t of.entry.set (view_expression of.entry.member.now) (if after then AfterMember (view_expression beside.now) else BeforeMember (view_expression beside.now)) (view_owner of.entry.owner.now))) }
     {
         let member = self.member(code, site, of.set, of.member, true)?;
         let above = site.above(member.cells);
@@ -174,7 +174,7 @@ impl Generator<'_> {
         of: MemberOf<'_>,
         position: &Position,
     ) -> Result<(), AllocError>
-        ensures { OnOk result (Emits self.old self.new code.old code.new site (λ s. Good s (File site.line of.entry.set (view_expression of.entry.member.now) (view_position position.now) (view_owner of.entry.owner.now))) (λ t. file_code t of.entry.set (view_expression of.entry.member.now) (view_position position.now) (view_owner of.entry.owner.now))) }
+        ensures { OnOk result (HasEmitted self.old self.new code.old code.new site (λ s. IsTypedStatement s (File site.line of.entry.set (view_expression of.entry.member.now) (view_position position.now) (view_owner of.entry.owner.now))) (λ t. file_code t of.entry.set (view_expression of.entry.member.now) (view_position position.now) (view_owner of.entry.owner.now))) }
     {
         match position {
             Position::ByDiscipline => {
@@ -195,7 +195,7 @@ impl Generator<'_> {
         site: Site,
         of: MemberOf<'_>,
     ) -> Result<(), AllocError>
-        ensures { OnOk result (Emits self.old self.new code.old code.new site (λ s. Good s (Remove site.line of.entry.set (view_expression of.entry.member.now) (view_owner of.entry.owner.now))) (λ t. remove_code t of.entry.set (view_expression of.entry.member.now) (view_owner of.entry.owner.now))) }
+        ensures { OnOk result (HasEmitted self.old self.new code.old code.new site (λ s. IsTypedStatement s (Remove site.line of.entry.set (view_expression of.entry.member.now) (view_owner of.entry.owner.now))) (λ t. remove_code t of.entry.set (view_expression of.entry.member.now) (view_owner of.entry.owner.now))) }
     {
         let member = self.member(code, site, of.set, of.member, owner_may_fault(of.owner))?;
         let above = site.above(member.cells);
@@ -220,7 +220,7 @@ impl Generator<'_> {
         place: &Place,
         owner: &SetOwner,
     ) -> Result<(), AllocError>
-        ensures { OnOk result (Emits self.old self.new code.old code.new site (λ s. Good s (RemoveEnd site.line from.end from.set (view_place place.now) (view_owner owner.now))) (λ t. remove_end_code t from.end from.set (view_place place.now) (view_owner owner.now))) }
+        ensures { OnOk result (HasEmitted self.old self.new code.old code.new site (λ s. IsTypedStatement s (RemoveEnd site.line from.end from.set (view_place place.now) (view_owner owner.now))) (λ t. remove_end_code t from.end from.set (view_place place.now) (view_owner owner.now))) }
     {
         let spot = self.looked_spot(code, site, place)?;
         let above = site.above(spot.cells());

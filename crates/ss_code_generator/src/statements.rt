@@ -4,13 +4,13 @@ ghost use Rattle.std.specs.Prelude.{◌≡◌, ◌++◌, ◌∷◌, [], map, IfO
 ghost use Rattle.std.specs.List.{AllByRecursion as Every};
 ghost use Rattle.ss_program.specs.Program.{Call, For, Destroy, Skip};
 ghost use Rattle.ss_program.specs.View.{view_expression, view_condition, view_phrase, view_head, view_place, view_statement, view_body};
-ghost use Rattle.ss_program.specs.WellTyped.{GoodCondition, Good, GoodBlock};
+ghost use Rattle.ss_program.specs.WellTyped.{IsTypedCondition, IsTypedStatement, IsTypedBlock};
 ghost use Rattle.ss_code_instructions.specs.Instructions.{Call as Calls, Destroy as Destroys, Skip as Skips, Leave};
 ghost use Rattle.ss_code_instructions.specs.Translation.{with_operand, values_code, after_values, place, height as high_of, if_code, gives_code, block_code, block_prints};
 ghost use Rattle.ss_code_pieces.specs.Lined.{no_code, on_line};
-ghost use Rattle.ss_code_generator.specs.Emitted.{Emits, EmitsAroundBoth};
-ghost use Rattle.ss_code_generator.specs.Spots.{GoodPlace};
-ghost use Rattle.ss_code_generator.specs.Printed.{statement_site, line_or_none, PrintsBy, EmitsStatement, EmitsBlock};
+ghost use Rattle.ss_code_generator.specs.Emitted.{HasEmitted, HasEmittedAroundBoth};
+ghost use Rattle.ss_code_generator.specs.Spots.{IsTypedPlace};
+ghost use Rattle.ss_code_generator.specs.Printed.{statement_site, line_or_none, HasPrintedBy, HasEmittedStatement, HasEmittedBlock};
 
 use crate::events::Planned;
 use crate::generator::{Generator, Site};
@@ -52,7 +52,7 @@ impl Generator<'_> {
         then: &Piece,
         otherwise: &Piece,
     ) -> Result<(), AllocError>
-        ensures { OnOk result (EmitsAroundBoth self.old self.new code.old code.new site then.now otherwise.now (λ s. GoodCondition s (view_condition condition.now)) (λ t b. if_code t (view_condition condition.now) b.first b.second)) }
+        ensures { OnOk result (HasEmittedAroundBoth self.old self.new code.old code.new site then.now otherwise.now (λ s. IsTypedCondition s (view_condition condition.now)) (λ t b. if_code t (view_condition condition.now) b.first b.second)) }
     {
         if otherwise.len() == 0 {
             let past = as_index(then.len())?;
@@ -69,7 +69,7 @@ impl Generator<'_> {
 
     // What a routine yields lies in cells, the first on top: each place takes one.
     fn gives(&mut self, code: &mut Piece, site: Site, places: &[Place]) -> Result<(), AllocError>
-        ensures { OnOk result (Emits self.old self.new code.old code.new site (λ s. Every (λ p. GoodPlace p s) (map view_place places.now)) (λ t. gives_code t (map view_place places.now))) }
+        ensures { OnOk result (HasEmitted self.old self.new code.old code.new site (λ s. Every (λ p. IsTypedPlace p s) (map view_place places.now)) (λ t. gives_code t (map view_place places.now))) }
     {
         let count = places.len();
         self.reach(site.height.saturating_add(count));
@@ -88,7 +88,7 @@ impl Generator<'_> {
         given: &[Expression],
         yielding: &[Place],
     ) -> Result<(), AllocError>
-        ensures { OnOk result (Emits self.old self.new code.old code.new site (λ s. Good s (Call site.line routine (map view_expression given.now) (map view_place yielding.now))) (λ t. values_code t (map view_expression given.now) ++ place (after_values t (map view_expression given.now)) (Calls routine (high_of t)) ∷ gives_code t (map view_place yielding.now))) }
+        ensures { OnOk result (HasEmitted self.old self.new code.old code.new site (λ s. IsTypedStatement s (Call site.line routine (map view_expression given.now) (map view_place yielding.now))) (λ t. values_code t (map view_expression given.now) ++ place (after_values t (map view_expression given.now)) (Calls routine (high_of t)) ∷ gives_code t (map view_place yielding.now))) }
     {
         self.values(code, site, given)?;
         let routine = as_index(routine)?;
@@ -105,7 +105,7 @@ impl Generator<'_> {
         class: usize,
         entity: &Expression,
     ) -> Result<(), AllocError>
-        ensures { OnOk result (Emits self.old self.new code.old code.new site (λ s. Good s (Destroy site.line class (view_expression entity.now))) (λ t. with_operand t (view_expression entity.now) (Destroys class))) }
+        ensures { OnOk result (HasEmitted self.old self.new code.old code.new site (λ s. IsTypedStatement s (Destroy site.line class (view_expression entity.now))) (λ t. with_operand t (view_expression entity.now) (Destroys class))) }
     {
         let entity = self.operand(code, site, entity)?.address;
         let class = as_index(class)?;
@@ -114,7 +114,7 @@ impl Generator<'_> {
 
     // SKIP.
     fn skip(&mut self, code: &mut Piece, site: Site, count: &Expression) -> Result<(), AllocError>
-        ensures { OnOk result (Emits self.old self.new code.old code.new site (λ s. Good s (Skip site.line (view_expression count.now))) (λ t. with_operand t (view_expression count.now) Skips)) }
+        ensures { OnOk result (HasEmitted self.old self.new code.old code.new site (λ s. IsTypedStatement s (Skip site.line (view_expression count.now))) (λ t. with_operand t (view_expression count.now) Skips)) }
     {
         let count = self.operand(code, site, count)?.address;
         code.put(site.line, Instruction::Skip { count })
@@ -130,7 +130,7 @@ impl Generator<'_> {
         height: usize,
         s: &Statement,
     ) -> Result<(), AllocError>
-        ensures { OnOk result (EmitsStatement self.old self.new code.old code.new height prints.old.items prints.new.items (view_statement s.now)) }
+        ensures { OnOk result (HasEmittedStatement self.old self.new code.old code.new height prints.old.items prints.new.items (view_statement s.now)) }
     {
         let site = Site {
             line: line_of(s),
@@ -260,7 +260,7 @@ impl Generator<'_> {
         phrases: &[Phrase],
         body: &[Statement],
     ) -> Result<(), AllocError>
-        ensures { OnOk result (EmitsStatement self.old self.new code.old code.new site.height prints.old.items prints.new.items (For site.line (view_head head.now) (map view_phrase phrases.now) (view_body body.now))) }
+        ensures { OnOk result (HasEmittedStatement self.old self.new code.old code.new site.height prints.old.items prints.new.items (For site.line (view_head head.now) (map view_phrase phrases.now) (view_body body.now))) }
     {
         let above = site.above(cells_of(head));
         self.reach(above.height);
@@ -277,7 +277,7 @@ impl Generator<'_> {
         height: usize,
         body: &[Statement],
     ) -> Result<Piece, AllocError>
-        ensures { IfOk result (λ code. EmitsBlock self.old self.new code height prints.old.items prints.new.items (view_body body.now)) }
+        ensures { IfOk result (λ code. HasEmittedBlock self.old self.new code height prints.old.items prints.new.items (view_body body.now)) }
     {
         let mut code = Piece::new(self.alloc);
         for s in body {
@@ -292,7 +292,7 @@ impl Generator<'_> {
         prints: &mut Vec<Lines>,
         body: &[Statement],
     ) -> Result<Piece, AllocError>
-        ensures { IfOk result (λ code. PrintsBy self.old self.new no_code code (statement_site 0) prints.old.items prints.new.items (λ s. GoodBlock s (view_body body.now)) (block_prints (view_body body.now)) (λ first t. block_code t first (view_body body.now) ++ place t Leave ∷ [])) }
+        ensures { IfOk result (λ code. HasPrintedBy self.old self.new no_code code (statement_site 0) prints.old.items prints.new.items (λ s. IsTypedBlock s (view_body body.now)) (block_prints (view_body body.now)) (λ first t. block_code t first (view_body body.now) ++ place t Leave ∷ [])) }
     {
         let mut code = self.body(prints, 0, body)?;
         code.put(Line(0), Instruction::Leave)?;

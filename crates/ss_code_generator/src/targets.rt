@@ -5,7 +5,7 @@ ghost use Rattle.std.specs.List.{AllByRecursion as Every};
 ghost use Rattle.ss_base.specs.declared.layout.Mode.TheVariants.{Integer};
 ghost use Rattle.ss_program.specs.Program.{Let, Change, Place as Plain, ToVariable, ToAttribute, ToCount};
 ghost use Rattle.ss_program.specs.View.{view_expression, view_place, view_target};
-ghost use Rattle.ss_program.specs.WellTyped.{TakesMode, Good};
+ghost use Rattle.ss_program.specs.WellTyped.{CanTakeMode, IsTypedStatement};
 ghost use Rattle.ss_code_instructions.specs.Instructions.{Read, Create};
 ghost use Rattle.ss_code_instructions.specs.declared.instruction.Instruction.TheVariants.{LookEntity, ChangeAttribute};
 ghost use Rattle.ss_code_instructions.specs.Facts.{is_watched};
@@ -13,8 +13,8 @@ ghost use Rattle.ss_code_instructions.specs.Translation.{Site as At, operand_cod
 ghost use Rattle.ss_code_instructions.specs.Forms.{storing, reading};
 ghost use Rattle.ss_code_pieces.specs.Lined.{on_line};
 ghost use Rattle.ss_code_generator.specs.declared.generator.Site.{Site as Here};
-ghost use Rattle.ss_code_generator.specs.Emitted.{Final, Around, Grows, IsLocated, AtTarget, Generates, NoMore, Emits, IsInteger};
-ghost use Rattle.ss_code_generator.specs.Spots.{HasTargetRoom, HoldsMode, IsWatchedAs, IsVariable, IsAttribute, IsSpot, IsPlaceOf, spot_cells, spot_code, landing as lands_at, GoodPlace, Assigns, AssignsLanded, Changed, IsHeldBy};
+ghost use Rattle.ss_code_generator.specs.Emitted.{Final, IsAround, HasGrown, IsLocated, IsSiteTarget, HasGenerated, HasNoMore, HasEmitted, IsInteger};
+ghost use Rattle.ss_code_generator.specs.Spots.{HasTargetRoom, HasHeldMode, IsWatchedAs, IsVariable, IsAttribute, IsSpot, IsPlaceOf, spot_cells, spot_code, landing as lands_at, IsTypedPlace, HasAssigned, HasAssignedLanded, Changed, IsHeldBy};
 
 use crate::expressions::{move_of, signed};
 use crate::generator::{Generator, Site};
@@ -159,7 +159,7 @@ impl Generator<'_> {
 
     /// A variable as what is assigned.
     pub fn variable_spot(&self, variable: Variable) -> Result<VariableSpot, AllocError>
-        ensures { IfOk result (λ s. (f : Final) (here : Here) (t : At) → Around f self.now → IsLocated f self.now here t → IsVariable t variable s) }
+        ensures { IfOk result (λ s. (f : Final) (here : Here) (t : At) → IsAround f self.now → IsLocated f self.now here t → IsVariable t variable s) }
     {
         Ok(VariableSpot {
             address: self.variable(variable)?,
@@ -170,7 +170,7 @@ impl Generator<'_> {
 
     // N. of a class as what is assigned.
     fn count_spot(&self, count: CountedClass) -> Result<Spot, AllocError>
-        ensures { IfOk result (λ s. (f : Final) (here : Here) (t : At) → Around f self.now → IsLocated f self.now here t → IsSpot f t (ToCount count) s) }
+        ensures { IfOk result (λ s. (f : Final) (here : Here) (t : At) → IsAround f self.now → IsLocated f self.now here t → IsSpot f t (ToCount count) s) }
     {
         let variable = Variable::Global {
             number: count.variable,
@@ -187,7 +187,7 @@ impl Generator<'_> {
         field: usize,
         of: &Expression,
     ) -> Result<AttributeSpot, AllocError>
-        ensures { IfOk result (λ s. Generates self.old self.new code.old code.new site (λ f t (u : Unit {0}). IsInteger (view_expression of.now) t.scope) (λ t u. operand_code t (view_expression of.now)) (λ f t u. IsAttribute f t class field (view_expression of.now) s)) }
+        ensures { IfOk result (λ s. HasGenerated self.old self.new code.old code.new site (λ f t (u : Unit {0}). IsInteger (view_expression of.now) t.scope) (λ t u. operand_code t (view_expression of.now)) (λ f t u. IsAttribute f t class field (view_expression of.now) s)) }
     {
         let entity = self.operand(code, site, of)?;
         Ok(AttributeSpot {
@@ -202,7 +202,7 @@ impl Generator<'_> {
 
     // A place as what is assigned: the reference to the entity of an attribute is evaluated.
     fn spot(&mut self, code: &mut Piece, site: Site, place: &Place) -> Result<Spot, AllocError>
-        ensures { IfOk result (λ s. Generates self.old self.new code.old code.new site (λ f t (u : Unit {0}). GoodPlace (view_place place.now) t.scope) (λ t u. spot_code t (view_place place.now)) (λ f t u. IsSpot f t (view_place place.now) s)) }
+        ensures { IfOk result (λ s. HasGenerated self.old self.new code.old code.new site (λ f t (u : Unit {0}). IsTypedPlace (view_place place.now) t.scope) (λ t u. spot_code t (view_place place.now)) (λ f t u. IsSpot f t (view_place place.now) s)) }
     {
         match place {
             Place::ToVariable { variable } => Ok(Spot::Variable(self.variable_spot(*variable)?)),
@@ -221,7 +221,7 @@ impl Generator<'_> {
         site: Site,
         place: &Place,
     ) -> Result<Spot, AllocError>
-        ensures { IfOk result (λ s. Generates self.old self.new code.old code.new site (λ f t (u : Unit {0}). GoodPlace (view_place place.now) t.scope) (λ t u. place_code t (view_place place.now)) (λ f t u. IsSpot f t (view_place place.now) s)) }
+        ensures { IfOk result (λ s. HasGenerated self.old self.new code.old code.new site (λ f t (u : Unit {0}). IsTypedPlace (view_place place.now) t.scope) (λ t u. place_code t (view_place place.now)) (λ f t u. IsSpot f t (view_place place.now) s)) }
     {
         match place {
             Place::ToVariable { variable } => Ok(Spot::Variable(self.variable_spot(*variable)?)),
@@ -237,8 +237,8 @@ impl Generator<'_> {
 
     /// Where the value that a place will be assigned lies at first: in the variable itself, unless it is watched, or in the next cell.
     pub fn landing(&mut self, site: Site, spot: Spot) -> Result<Address, AllocError>
-        ensures grows { OnOk result (Grows self.old self.new) }
-        ensures at { IfOk result (λ to. (f : Final) (t u : At) (p : Plain) → Around f self.new → IsLocated f self.new site u → t.scope ≡ u.scope → IsSpot f t p spot → AtTarget f u (lands_at u p) to × HasTargetRoom f (lands_at u p)) }
+        ensures grows { OnOk result (HasGrown self.old self.new) }
+        ensures at { IfOk result (λ to. (f : Final) (t u : At) (p : Plain) → IsAround f self.new → IsLocated f self.new site u → t.scope ≡ u.scope → IsSpot f t p spot → IsSiteTarget f u (lands_at u p) to × HasTargetRoom f (lands_at u p)) }
     {
         match spot {
             Spot::Variable(variable) => match variable.watched {
@@ -258,7 +258,7 @@ impl Generator<'_> {
         variable: VariableSpot,
         from: Address,
     ) -> Result<(), AllocError>
-        ensures { OnOk result (Assigns self.now code.old code.new site from (λ f t p. IsPlaceOf t p variable)) }
+        ensures { OnOk result (HasAssigned self.now code.old code.new site from (λ f t p. IsPlaceOf t p variable)) }
     {
         match variable.watched {
             Some(variable) => code.put(site.line, Instruction::Keep { from, variable }),
@@ -274,7 +274,7 @@ impl Generator<'_> {
         spot: Spot,
         from: Address,
     ) -> Result<(), AllocError>
-        ensures { OnOk result (Assigns self.now code.old code.new site from (λ f t p. IsSpot f t p spot)) }
+        ensures { OnOk result (HasAssigned self.now code.old code.new site from (λ f t p. IsSpot f t p spot)) }
     {
         match spot {
             Spot::Variable(variable) => self.assign_variable(code, site, variable, from),
@@ -294,7 +294,7 @@ impl Generator<'_> {
         spot: Spot,
         from: Address,
     ) -> Result<(), AllocError>
-        ensures { OnOk result (AssignsLanded self.now code.old code.new site from (λ f t p. IsSpot f t p spot)) }
+        ensures { OnOk result (HasAssignedLanded self.now code.old code.new site from (λ f t p. IsSpot f t p spot)) }
     {
         match spot {
             Spot::Variable(variable) => match variable.watched {
@@ -308,7 +308,7 @@ impl Generator<'_> {
 
     /// So many cells that stayed are forgotten.
     pub fn forget(&self, code: &mut Piece, site: Site, cells: usize) -> Result<(), AllocError>
-        ensures { OnOk result (Emits self.now self.now code.old code.new site (λ s. Unit {0}) (λ u. forget u cells)) }
+        ensures { OnOk result (HasEmitted self.now self.now code.old code.new site (λ s. Unit {0}) (λ u. forget u cells)) }
     {
         if cells == 0 {
             return Ok(());
@@ -319,7 +319,7 @@ impl Generator<'_> {
 
     /// A value that lies in a cell goes to a place.
     pub fn give(&mut self, code: &mut Piece, site: Site, place: &Place) -> Result<(), AllocError>
-        ensures { OnOk result (Emits self.old self.new code.old code.new site (GoodPlace (view_place place.now)) (λ t. give_code t (view_place place.now))) }
+        ensures { OnOk result (HasEmitted self.old self.new code.old code.new site (IsTypedPlace (view_place place.now)) (λ t. give_code t (view_place place.now))) }
     {
         let from = self.cell(site)?;
         let above = site.above(1);
@@ -335,7 +335,7 @@ impl Generator<'_> {
         spot: VariableSpot,
         value: &Expression,
     ) -> Result<(), AllocError>
-        ensures { OnOk result (Generates self.old self.new code.old code.new site (λ f t x. IsVariable t x spot × Good t.scope (Let site.line (ToVariable x) (view_expression value.now))) (λ t x. let_code t (ToVariable x) (view_expression value.now)) NoMore) }
+        ensures { OnOk result (HasGenerated self.old self.new code.old code.new site (λ f t x. IsVariable t x spot × IsTypedStatement t.scope (Let site.line (ToVariable x) (view_expression value.now))) (λ t x. let_code t (ToVariable x) (view_expression value.now)) HasNoMore) }
     {
         match spot.watched {
             None => self.expression(code, site, value, spot.address),
@@ -354,7 +354,7 @@ impl Generator<'_> {
         place: &Place,
         value: &Expression,
     ) -> Result<(), AllocError>
-        ensures { OnOk result (Emits self.old self.new code.old code.new site (λ s. Good s (Let site.line (view_place place.now) (view_expression value.now))) (λ t. let_code t (view_place place.now) (view_expression value.now))) }
+        ensures { OnOk result (HasEmitted self.old self.new code.old code.new site (λ s. IsTypedStatement s (Let site.line (view_place place.now) (view_expression value.now))) (λ t. let_code t (view_place place.now) (view_expression value.now))) }
     {
         match place {
             Place::ToVariable { variable } => {
@@ -384,7 +384,7 @@ impl Generator<'_> {
         changed: ChangedSpot,
         value: &Expression,
     ) -> Result<(), AllocError>
-        ensures { OnOk result (Generates self.old self.new code.old code.new site (λ f t (c : Changed). IsSpot f t c.place changed.spot × IsVariable t c.variable changed.variable × IsHeldBy c × IsInteger (view_expression value.now) t.scope × HoldsMode t.scope c.place Integer) (λ t c. change_code t sign c.place (view_expression value.now)) NoMore) }
+        ensures { OnOk result (HasGenerated self.old self.new code.old code.new site (λ f t (c : Changed). IsSpot f t c.place changed.spot × IsVariable t c.variable changed.variable × IsHeldBy c × IsInteger (view_expression value.now) t.scope × HasHeldMode t.scope c.place Integer) (λ t c. change_code t sign c.place (view_expression value.now)) HasNoMore) }
     {
         let by = self.operand(code, site, value)?.address;
         let to = self.landing(site, changed.spot)?;
@@ -401,7 +401,7 @@ impl Generator<'_> {
         place: &Place,
         value: &Expression,
     ) -> Result<(), AllocError>
-        ensures { OnOk result (Emits self.old self.new code.old code.new site (λ s. Good s (Change site.line sign (view_place place.now) (view_expression value.now))) (λ t. change_code t sign (view_place place.now) (view_expression value.now))) }
+        ensures { OnOk result (HasEmitted self.old self.new code.old code.new site (λ s. IsTypedStatement s (Change site.line sign (view_place place.now) (view_expression value.now))) (λ t. change_code t sign (view_place place.now) (view_expression value.now))) }
     {
         match place {
             Place::ToVariable { variable } => {
@@ -427,7 +427,7 @@ impl Generator<'_> {
 
     // A target takes a word of input.
     fn read(&mut self, code: &mut Piece, site: Site, target: &InputTarget) -> Result<(), AllocError>
-        ensures { OnOk result (Emits self.old self.new code.old code.new site (λ s. TakesMode s (view_place target.now.place) target.now.mode) (λ t. to_place_code t (view_place target.now.place) target.now.mode (λ u to. placed u (Read target.now.mode to) ∷ []))) }
+        ensures { OnOk result (HasEmitted self.old self.new code.old code.new site (λ s. CanTakeMode s (view_place target.now.place) target.now.mode) (λ t. to_place_code t (view_place target.now.place) target.now.mode (λ u to. placed u (Read target.now.mode to) ∷ []))) }
     {
         let spot = self.looked_spot(code, site, &target.place)?;
         let above = site.above(spot.cells());
@@ -443,7 +443,7 @@ impl Generator<'_> {
         site: Site,
         targets: &[InputTarget],
     ) -> Result<(), AllocError>
-        ensures { OnOk result (Emits self.old self.new code.old code.new site (λ s. Every (λ x. TakesMode s x.place x.mode) (map view_target targets.now)) (λ t. reads_code t (map view_target targets.now))) }
+        ensures { OnOk result (HasEmitted self.old self.new code.old code.new site (λ s. Every (λ x. CanTakeMode s x.place x.mode) (map view_target targets.now)) (λ t. reads_code t (map view_target targets.now))) }
     {
         for target in targets {
             self.read(code, site, target)?;
@@ -459,7 +459,7 @@ impl Generator<'_> {
         class: usize,
         place: &Place,
     ) -> Result<(), AllocError>
-        ensures { OnOk result (Emits self.old self.new code.old code.new site (λ s. TakesMode s (view_place place.now) Integer) (λ t. to_place_code t (view_place place.now) Integer (λ u to. placed u (Create class to) ∷ []))) }
+        ensures { OnOk result (HasEmitted self.old self.new code.old code.new site (λ s. CanTakeMode s (view_place place.now) Integer) (λ t. to_place_code t (view_place place.now) Integer (λ u to. placed u (Create class to) ∷ []))) }
     {
         let spot = self.looked_spot(code, site, place)?;
         let above = site.above(spot.cells());
@@ -476,7 +476,7 @@ impl Generator<'_> {
         site: Site,
         classes: &[CountedClass],
     ) -> Result<(), AllocError>
-        ensures { OnOk result (Emits self.old self.new code.old code.new site (λ s. Unit {0}) (λ t. creates_code t classes.now)) }
+        ensures { OnOk result (HasEmitted self.old self.new code.old code.new site (λ s. Unit {0}) (λ t. creates_code t classes.now)) }
     {
         for counted in classes {
             let class = as_index(counted.class)?;

@@ -20,7 +20,7 @@ use Rattle.ss_code_instructions.specs.Instructions.{Taken, Target, Into, Onto, I
 use Rattle.ss_code_instructions.specs.Instructions as i
 use Rattle.ss_code_instructions.specs.States.{Called, ARoutine, AnEvent, Frame, Core, Moved, did, back_if, cell_at, take_off, Written, put_to, deliver_with, onward}
 use Rattle.ss_code_instructions.specs.Machine.{Code, changed_attribute, assignable_count, Walk, walk_at, walk_cells, unsigned, has_next, next_item, walk_further, values_shown, cells_of_kinds, enter, leave, take_event, take_next, act}
-use Rattle.ss_code_instructions.specs.Reached.{read_mode, TakesIf, TakesBy, input_of}
+use Rattle.ss_code_instructions.specs.Reached.{read_mode, HasTakenIf, HasTakenBy, input_of}
 use Rattle.ss_code_instructions.proofs.Keeping.{Only, Where, Lasts, lasts_then, lasts_so, Same, same_here, same_then, SameWith, TakesWord, ComingSame, BeginningSame, each, then_only, made, made_from, variable_same, attribute_same, changed_same, made_one_same, made_all_same, without_same, filed_same, removed_same, end_same, notice_same, pending_same, again_same, cancelled_same, read_takes, reset_same, event_same, begun_same}
 use Rattle.ss_code_instructions.proofs.Moving.{Every, every_so, did_only, did_any, fit_any, if_every, high, block, number, value, values, bearer, position, three, walk}
 
@@ -176,9 +176,9 @@ act_lasts code l x c = every_so (Leaves (read_mode x) c.store) (λ (d : Core). L
     by (Some mode) d h = h.0
 
 -- and a READ takes a word from the input, and no other instruction takes anything
-pub act_takes : (code : Code) (l : Line) (x : Instruction) (c : Core) → Every (λ (d : Core). TakesBy x (input_of c) (input_of d)) (act code l x c)
-act_takes code l x c = every_so (Leaves (read_mode x) c.store) (λ (d : Core). TakesBy x (input_of c) (input_of d)) (act code l x c) (by (read_mode x)) (act_keeps code l x c)
+pub act_takes : (code : Code) (l : Line) (x : Instruction) (c : Core) → Every (λ (d : Core). HasTakenBy x (input_of c) (input_of d)) (act code l x c)
+act_takes code l x c = every_so (Leaves (read_mode x) c.store) (λ (d : Core). HasTakenBy x (input_of c) (input_of d)) (act code l x c) (by (read_mode x)) (act_keeps code l x c)
   where
-    by : (o : Option Mode) (d : Core) → Leaves o c.store d → TakesIf o (input_of c) (input_of d)
+    by : (o : Option Mode) (d : Core) → Leaves o c.store d → HasTakenIf o (input_of c) (input_of d)
     by None d h = ap (λ (b : Setting × List ℕ). b.1) h.0
     by (Some mode) d h = h.1

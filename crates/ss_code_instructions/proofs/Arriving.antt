@@ -1,20 +1,20 @@
 -- Whatever input is handed to a machine as it goes on, it finds at each place what the place says, and is never stuck.
 use Rattle.std.proofs.Common.{ℕ, zero, suc, List, sym, subst}
 use Rattle.ss_program.specs.Program.{Program}
-use Rattle.ss_program.specs.WellTyped.{WellTyped}
-use Rattle.ss_meaning.specs.Fitting.{Fits}
+use Rattle.ss_program.specs.WellTyped.{IsWellTyped}
+use Rattle.ss_meaning.specs.Fitting.{IsFittingStore}
 use Rattle.ss_meaning.specs.Laws.{BeginsFit}
 use Rattle.ss_code_instructions.specs.States.{Core}
 use Rattle.ss_code_instructions.specs.Machine.{Code}
 use Rattle.ss_code_instructions.specs.Running.{begin_store, start}
 use Rattle.ss_code_instructions.specs.Translation.{code_of}
-use Rattle.ss_code_instructions.specs.Shape.{FitsCode}
+use Rattle.ss_code_instructions.specs.Shape.{IsFitForCode}
 use Rattle.ss_code_instructions.specs.Laws.{HasShape, ShapeStays}
-use Rattle.ss_code_instructions.specs.Reached.{ReachedIn, ReachedFits, ReachedGoes, core_with_input, at_core}
+use Rattle.ss_code_instructions.specs.Reached.{IsReachedAfter, ReachedFits, ReachedGoes, core_with_input, at_core}
 use Rattle.ss_code_instructions.proofs.ShapeKept.{fits_goes}
 
 -- a state fits as well with another input
-fits_input : (p : Program) (code : Code) (c : Core) (input : List ℕ) → FitsCode p code c → FitsCode p code (core_with_input input c)
+fits_input : (p : Program) (code : Code) (c : Core) (input : List ℕ) → IsFitForCode p code c → IsFitForCode p code (core_with_input input c)
 fits_input p code c input f =
     let s = f.fits.store.sound in
     record {
@@ -39,26 +39,26 @@ fits_input p code c input f =
       };
     }
 
-module _ (shape : HasShape) (stays : ShapeStays) (begins : BeginsFit) (p : Program) (typed : WellTyped p) where
-  first_fits : (input : List ℕ) → FitsCode p (code_of p) (start (code_of p) input 0).core
+module _ (shape : HasShape) (stays : ShapeStays) (begins : BeginsFit) (p : Program) (typed : IsWellTyped p) where
+  first_fits : (input : List ℕ) → IsFitForCode p (code_of p) (start (code_of p) input 0).core
   first_fits input =
       let at = (shape p typed).first in
       record {
         placed = at.placed;
         fits = record {
           there = at.there;
-          store = subst (λ ms. Fits p ms (begin_store (code_of p) input)) (sym at.locals) (begins p input);
+          store = subst (λ ms. IsFittingStore p ms (begin_store (code_of p) input)) (sym at.locals) (begins p input);
           cells = sym at.cells;
           frames = tt;
         };
       }
 
-  in_fits : (n : ℕ) (c : Core) → ReachedIn n (code_of p) c → FitsCode p (code_of p) c
-  in_fits zero c h = subst (FitsCode p (code_of p)) (sym h.1) (first_fits h.0)
+  in_fits : (n : ℕ) (c : Core) → IsReachedAfter n (code_of p) c → IsFitForCode p (code_of p) c
+  in_fits zero c h = subst (IsFitForCode p (code_of p)) (sym h.1) (first_fits h.0)
   in_fits (suc n) c h =
       let f = h.2 in
       let next = stays p typed (at_core h.0 f.report f.ticks) f.next (in_fits n h.0 h.1) f.steps in
-      subst (FitsCode p (code_of p)) (sym f.is) (fits_input p (code_of p) f.next.core f.input next)
+      subst (IsFitForCode p (code_of p)) (sym f.is) (fits_input p (code_of p) f.next.core f.input next)
 
 pub reached_fits : HasShape → ShapeStays → BeginsFit → ReachedFits
 reached_fits shape stays begins p typed c h = in_fits shape stays begins p typed h.0 c h.1

@@ -21,7 +21,7 @@ use Rattle.ss_code_instructions.specs.States.{Frame, Core, MachineState, Done, B
 use Rattle.ss_code_instructions.specs.Machine.{Code, changed_attribute, assignable_count, Walk, walk_at, walk_cells, has_item, unsigned, has_next, next_item, walk_further, values_shown, cells_of_kinds, leave, act, is_due, Stepped, Goes, Over, NoStep, with_rest, when_due, step_at, step}
 use Rattle.ss_program.specs.Program.{Program}
 use Rattle.ss_meaning.specs.Expressions.{not_if}
-use Rattle.ss_code_instructions.specs.Running.{Underway, Lands, goes_back, start, after_one_step, steps}
+use Rattle.ss_code_instructions.specs.Running.{Underway, HasLandings, goes_back, start, after_one_step, steps}
 use Rattle.ss_code_instructions.specs.Measure.{left_in, is_due_at, left_from, left_at, left_to_do}
 use Rattle.ss_code_instructions.specs.Reached.{StepsFall}
 use Rattle.ss_code_instructions.specs.Laws.{StepsAreBounded}
@@ -162,7 +162,7 @@ module _ (code : Code) where
   abbrev Less : Core → Core → Type 0
   Less c d = left_at code d.place d.frames < (length code.places - c.place) + left_in (length code.places) c.frames
 
-  less : Lands code → (c d : Core) (x : Placed) → slice_get code.places c.place ≡ Some x → c.place < length code.places → Way (goes_back x.instruction) c d → Less c d
+  less : HasLandings code → (c d : Core) (x : Placed) → slice_get code.places c.place ≡ Some x → c.place < length code.places → Way (goes_back x.instruction) c d → Less c d
   less lands c d x has within (inl on) = omega (arith, at_most d, within, on.0, ap (left_in (length code.places)) on.1)
   less lands c d x has within (inr (inl b)) =
       let t = (lands c.place b.0 x has b.1).1 in
@@ -195,7 +195,7 @@ module _ (code : Code) where
   falls true c r zero m x e h k = absurd cc
   falls true c r (suc t) m x e h k = let g = gone (Little c) r t m x e (k refl) in omega (arith, g.0, ap (λ j. j * (2 * length code.places + 1)) g.1)
 
-  at_falls : Lands code → (o : Option Placed) (s x : MachineState) → slice_get code.places s.core.place ≡ o → step_at o code s ≡ Goes x → left_to_do code x < left_to_do code s
+  at_falls : HasLandings code → (o : Option Placed) (s x : MachineState) → slice_get code.places s.core.place ≡ o → step_at o code s ≡ Goes x → left_to_do code x < left_to_do code s
   at_falls lands None s x q e = absurd cc
   at_falls lands (Some y) s x q e =
       let within = slice_get_within code.places s.core.place y q in
@@ -205,7 +205,7 @@ module _ (code : Code) where
       subst (λ b. left_to_do code x < s.ticks * (2 * length code.places + 1) + left_from b (length code.places - s.core.place) (left_in (length code.places) s.core.frames)) (sym (ap is_due_at q)) h
 
   -- each step leaves less to do
-  pub step_falls : Lands code → (s x : MachineState) → step code s ≡ Goes x → left_to_do code x < left_to_do code s
+  pub step_falls : HasLandings code → (s x : MachineState) → step code s ≡ Goes x → left_to_do code x < left_to_do code s
   step_falls lands s x e = at_falls lands (slice_get code.places s.core.place) s x refl e
 
 -- in the code of a program
@@ -233,7 +233,7 @@ due_ticks b r t m x e = by b t e
     by true (suc t) e = omega (arith, rest t m e)
 
 module _ (code : Code) where
-  falls_more : Lands code → (n : ℕ) (s t : MachineState) → ((x : MachineState) → steps code n x ≡ Underway t → left_to_do code t + n ≤ left_to_do code x) → (k : Stepped) → step code s ≡ k → after_one_step k s (steps code n) ≡ Underway t → left_to_do code t + suc n ≤ left_to_do code s
+  falls_more : HasLandings code → (n : ℕ) (s t : MachineState) → ((x : MachineState) → steps code n x ≡ Underway t → left_to_do code t + n ≤ left_to_do code x) → (k : Stepped) → step code s ≡ k → after_one_step k s (steps code n) ≡ Underway t → left_to_do code t + suc n ≤ left_to_do code s
   falls_more lands n s t on (Goes x) q e =
       let f : left_to_do code x < left_to_do code s = step_falls code lands s x q in
       omega (arith, on x e, f)
@@ -241,7 +241,7 @@ module _ (code : Code) where
   falls_more lands n s t on NoStep _ e = absurd cc
 
   -- so many steps leave less to do by as many
-  pub many_fall : Lands code → (n : ℕ) (s t : MachineState) → steps code n s ≡ Underway t → left_to_do code t + n ≤ left_to_do code s
+  pub many_fall : HasLandings code → (n : ℕ) (s t : MachineState) → steps code n s ≡ Underway t → left_to_do code t + n ≤ left_to_do code s
   many_fall lands zero s t e = omega (arith, ap (left_to_do code) (underway e))
   many_fall lands (suc n) s t e = falls_more lands n s t (λ x f. many_fall lands n x t f) (step code s) refl e
 

@@ -18,7 +18,7 @@ use Rattle.ss_code_instructions.specs.Instructions.{Taken, Target, Instruction, 
 use Rattle.ss_code_instructions.specs.Instructions as i
 use Rattle.ss_code_instructions.specs.States.{Called, ARoutine, AnEvent, Frame, Core, MachineState, Done, Breaks, Moved, To, Sends, Rest, Stuck, did, back_if, cell_at, take_off, deliver_with, put_to, onward}
 use Rattle.ss_code_instructions.specs.Machine.{Code, changed_attribute, assignable_count, Walk, walk_at, walk_cells, unsigned, has_next, next_item, walk_further, values_shown, cells_of_kinds, enter, leave, take_event, take_next, act, is_due, Goes, with_rest, when_due, step_at, step}
-use Rattle.ss_code_instructions.specs.Laws.{CallsAreLike, TicksAndCalls}
+use Rattle.ss_code_instructions.specs.Laws.{AreNextCalls, TicksAndCalls}
 use Rattle.ss_code_instructions.proofs.Moving.{Every, did_any, fit_any, if_every, high, block, number, value, values, bearer, position, three, walk}
 
 -- the open calls after an instruction, which takes a tick or not
@@ -139,15 +139,15 @@ act_calls code l (i.Skip count) c = value (Calls false c) count c.store c.cells 
 
 -- what holds after a step from a state with n ticks
 abbrev After : (s : MachineState) → ℕ → MachineState → Type 0
-After s n x = ((x.ticks ≡ n) ⊎ (suc x.ticks ≡ n)) × CallsAreLike s x
+After s n x = ((x.ticks ≡ n) ⊎ (suc x.ticks ≡ n)) × AreNextCalls s x
 
 -- of the three ways the second is only that of an instruction that takes a tick
-without_tick : (s x : MachineState) → Calls false s.core x.core → CallsAreLike s x
+without_tick : (s x : MachineState) → Calls false s.core x.core → AreNextCalls s x
 without_tick s x (inl e) = inl e
 without_tick s x (inr (inl o)) = let q : false ≡ true = o.2 in absurd cc
 without_tick s x (inr (inr b)) = inr (inr b)
 
-with_tick : (s x : MachineState) → suc x.ticks ≡ s.ticks → Calls true s.core x.core → CallsAreLike s x
+with_tick : (s x : MachineState) → suc x.ticks ≡ s.ticks → Calls true s.core x.core → AreNextCalls s x
 with_tick s x e (inl same) = inl same
 with_tick s x e (inr (inl o)) = inr (inl (o.0, o.1, e))
 with_tick s x e (inr (inr b)) = inr (inr b)

@@ -4,7 +4,7 @@ use Rattle.std.specs.Prelude.{slice_get}
 use Rattle.ss_code_instructions.specs.Instructions.{Placed}
 use Rattle.ss_code_instructions.specs.States.{Core, MachineState, Done, Breaks, Moved, To, Sends, Rest, Stuck}
 use Rattle.ss_code_instructions.specs.Machine.{Code, Stepped, Goes, Over, NoStep, act, is_due, with_rest, when_due, step_at}
-use Rattle.ss_code_instructions.specs.Reached.{TakesBy, TakesInput, InputStays, input_of}
+use Rattle.ss_code_instructions.specs.Reached.{HasTakenBy, HasTakenInput, InputStays, input_of}
 use Rattle.ss_code_instructions.proofs.Moving.{Every}
 use Rattle.ss_code_instructions.proofs.Acting.{act_takes}
 
@@ -27,10 +27,10 @@ module _ (Good : Core → Type 0) where
   due_leads true r zero m h = tt
   due_leads true r (suc t) m h = rest_leads r t m h
 
-at_takes : (o : Option Placed) (code : Code) (s t : MachineState) → step_at o code s ≡ Goes t → TakesInput o (input_of s.core) (input_of t.core)
+at_takes : (o : Option Placed) (code : Code) (s t : MachineState) → step_at o code s ≡ Goes t → HasTakenInput o (input_of s.core) (input_of t.core)
 at_takes None code s t e = tt
 at_takes (Some x) code s t e =
-    let Good : Core → Type 0 = λ d. TakesBy x.instruction (input_of s.core) (input_of d) in
+    let Good : Core → Type 0 = λ d. HasTakenBy x.instruction (input_of s.core) (input_of d) in
     subst (Leads Good) e (due_leads Good (is_due x.instruction) s.report s.ticks (act code x.line x.instruction s.core) (act_takes code x.line x.instruction s.core))
 
 pub input_stays : InputStays

@@ -13,16 +13,16 @@ use Rattle.ss_base.specs.declared.layout.Layout.{Layout}
 use Rattle.ss_base.specs.declared.layout.RankKey.{RankKey}
 use Rattle.ss_base.specs.declared.layout.SetLayout.{SetLayout}
 use Rattle.ss_base.specs.declared.value.Value.{Value}
-use Rattle.ss_world.specs.Lists.{In}
+use Rattle.ss_world.specs.Lists.{IsInList}
 use Rattle.ss_world.specs.State.{Record, Members, State, and_then, kind_of, issued_record, numbered_record, indexed_record, records_in, of_class, entity_of_kind, entity_in, notice, number_in, first_record, record_with_value, with_time, with_indexed, with_entity_of_kind, assigned, timed, with_created, created, LAST_NUMBER, MOST_ENTITIES, is_made_in, is_made, with_made, made_many, created_all, members_of, contains, owner_among, is_filed, with_members, in_a_set, owns_members, let_go, destroyed, first_state}
-use Rattle.ss_world.specs.Sets.{member_in, member_class, joiner, owner, first_in, last_in, put_before, put_after, less, with_list_of, put_in, put_beside, taken_out, filed_first, filed_last, filed_before, filed_after, removed, Apart}
+use Rattle.ss_world.specs.Sets.{member_in, member_class, joiner, owner, first_in, last_in, put_before, put_after, less, with_list_of, put_in, put_beside, taken_out, filed_first, filed_last, filed_before, filed_after, removed, AreMembersApart}
 use Rattle.ss_world.specs.Disciplines.{ranks_after, put_ranked, filed, take, first_removed, last_removed}
-use Rattle.ss_meaning.specs.Fitting.{class_of_record, living, made, IsIndex, LivesAs, Lives}
+use Rattle.ss_meaning.specs.Fitting.{class_of_record, living, made, IsIndex, IsLivingAs, IsLiving}
 use Rattle.ss_meaning.proofs.Fine.{Sane, sane_then}
 use Rattle.ss_meaning.proofs.Heaps.{HasRecord, IsEntityAs, entity_known, entity_lives, notice_known, set_length}
 
 abbrev pub Joined : State → Type 0
-Joined h = (s o x : ℕ) → s < length h.layout.sets → In x (members_of h.lists s o) → Lives h (member_class h.layout s) (pos x)
+Joined h = (s o x : ℕ) → s < length h.layout.sets → IsInList x (members_of h.lists s o) → IsLiving h (member_class h.layout s) (pos x)
 
 -- whatever the first of two operations gives
 each_then : {A B : Type 0} (Q : B → Type 0) (r : Result A FaultKind) (f : A → Result B FaultKind) → ((a : A) → Sane Q (f a)) → Sane Q (and_then r f)
@@ -47,19 +47,19 @@ single_known h c (suc i) q = by (slice_get h.records i) q
         let same : r.class ≡ c = cc in
         (r, ap (λ (b : Bool). if b then Ok r else Err faults.WrongClass) (eq-eqb r.class c same))
 
-kind_known : (k : ClassKind) (h : State) (c x : ℕ) → LivesAs k h c (pos x) → (r : Record) × (entity_of_kind h k c (pos x) ≡ Ok r)
+kind_known : (k : ClassKind) (h : State) (c x : ℕ) → IsLivingAs k h c (pos x) → (r : Record) × (entity_of_kind h k c (pos x) ≡ Ok r)
 kind_known Permanent h c zero q = absurd q
 kind_known Permanent h c (suc i) q = let r = there (records_in (slice_get h.permanents c)) i q in (r.0, ap indexed_record r.1)
 kind_known Temporary h c x q = single_known h c x q
 kind_known Notice h c x q = single_known h c x q
 
-lives_joins : (h : State) (s x : ℕ) → Lives h (member_class h.layout s) (pos x) → joiner h s (pos x) ≡ Ok x
+lives_joins : (h : State) (s x : ℕ) → IsLiving h (member_class h.layout s) (pos x) → joiner h s (pos x) ≡ Ok x
 lives_joins h s x q =
     let e = kind_known (kind_of h.layout (member_class h.layout s)) h (member_class h.layout s) x q in
     ap (λ (r : Result Record FaultKind). and_then r (λ _. Ok x)) e.1
 
 -- each member may be one
-pub joined_joins : (h : State) → Joined h → (s o x : ℕ) → s < length h.layout.sets → In x (members_of h.lists s o) → joiner h s (pos x) ≡ Ok x
+pub joined_joins : (h : State) → Joined h → (s o x : ℕ) → s < length h.layout.sets → IsInList x (members_of h.lists s o) → joiner h s (pos x) ≡ Ok x
 joined_joins h j s o x i m = lives_joins h s x (j s o x i m)
 
 no_negative : (k : ClassKind) (h : State) (c n : ℕ) (r : Record) → IsEntityAs k h c (negsuc n) r → ⊥
@@ -67,17 +67,17 @@ no_negative Permanent h c n r q = q
 no_negative Temporary h c n r q = q.0
 no_negative Notice h c n r q = q.0
 
-joiner_lives : (h : State) (s : ℕ) (x : ℤ) → Sane (λ n. Lives h (member_class h.layout s) (pos n)) (joiner h s x)
+joiner_lives : (h : State) (s : ℕ) (x : ℤ) → Sane (λ n. IsLiving h (member_class h.layout s) (pos n)) (joiner h s x)
 joiner_lives h s (pos n) =
-    sane_then (λ n. Lives h (member_class h.layout s) (pos n)) (entity_in h (member_class h.layout s) (pos n)) (λ r. Ok n) (entity_known h (member_class h.layout s) (pos n)) (λ r q.
+    sane_then (λ n. IsLiving h (member_class h.layout s) (pos n)) (entity_in h (member_class h.layout s) (pos n)) (λ r. Ok n) (entity_known h (member_class h.layout s) (pos n)) (λ r q.
     entity_lives h (member_class h.layout s) (pos n) r q)
 joiner_lives h s (negsuc n) =
-    sane_then (λ n. Lives h (member_class h.layout s) (pos n)) (entity_in h (member_class h.layout s) (negsuc n)) (λ r. Ok 0) (entity_known h (member_class h.layout s) (negsuc n)) (λ r q.
+    sane_then (λ n. IsLiving h (member_class h.layout s) (pos n)) (entity_in h (member_class h.layout s) (negsuc n)) (λ r. Ok 0) (entity_known h (member_class h.layout s) (negsuc n)) (λ r q.
     absurd (no_negative (kind_of h.layout (member_class h.layout s)) h (member_class h.layout s) n r q))
 
 -- so it is where sets are apart
-pub apart_joined : (h : State) → Apart h → Joined h
-apart_joined h a s o x i m = subst (Sane (λ n. Lives h (member_class h.layout s) (pos n))) (a.members s o x i m).1 (joiner_lives h s (pos x))
+pub apart_joined : (h : State) → AreMembersApart h → Joined h
+apart_joined h a s o x i m = subst (Sane (λ n. IsLiving h (member_class h.layout s) (pos n))) (a.members s o x i m).1 (joiner_lives h s (pos x))
 
 -- and where there is no entity
 pub first_joined : (l : Layout) → Joined (first_state l)
@@ -99,7 +99,7 @@ number_is h (pos (suc i)) r q = let one : suc i - 1 ≡ i = omega arith in subst
 number_is h (negsuc k) r q = absurd q
 
 -- other records, in which what lived goes on to live
-lives_by_records : (k : ClassKind) (h : State) (rs : List (Option Record)) (c x : ℕ) → ((i : ℕ) → x ≡ suc i → class_of_record (slice_get h.records i) ≡ Some c → class_of_record (slice_get rs i) ≡ Some c) → LivesAs k h c (pos x) → LivesAs k (record h { records = rs }) c (pos x)
+lives_by_records : (k : ClassKind) (h : State) (rs : List (Option Record)) (c x : ℕ) → ((i : ℕ) → x ≡ suc i → class_of_record (slice_get h.records i) ≡ Some c → class_of_record (slice_get rs i) ≡ Some c) → IsLivingAs k h c (pos x) → IsLivingAs k (record h { records = rs }) c (pos x)
 lives_by_records Permanent h rs c x f q = q
 lives_by_records Temporary h rs c zero f q = absurd cc
 lives_by_records Temporary h rs c (suc i) f q = f i refl q
@@ -123,7 +123,7 @@ rows_set (o ∷ ps) zero i r (suc k) = refl
 rows_set (o ∷ ps) (suc c) i r zero = refl
 rows_set (o ∷ ps) (suc c) i r (suc k) = rows_set ps c i r k
 
-lives_by_rows : (k : ClassKind) (h : State) (ps : List (Option (List Record))) (c x : ℕ) → (k ≡ Permanent → IsIndex (made h c) (pos x) → IsIndex (length (records_in (slice_get ps c))) (pos x)) → LivesAs k h c (pos x) → LivesAs k (record h { permanents = ps }) c (pos x)
+lives_by_rows : (k : ClassKind) (h : State) (ps : List (Option (List Record))) (c x : ℕ) → (k ≡ Permanent → IsIndex (made h c) (pos x) → IsIndex (length (records_in (slice_get ps c))) (pos x)) → IsLivingAs k h c (pos x) → IsLivingAs k (record h { permanents = ps }) c (pos x)
 lives_by_rows Permanent h ps c x f q = f refl q
 lives_by_rows Temporary h ps c zero f q = absurd cc
 lives_by_rows Temporary h ps c (suc i) f q = q
@@ -210,7 +210,7 @@ created_all_joined h c z j = by (is_made h c) refl
 
 -- ## Other members
 
-lives_by_lists : (k : ClassKind) (h : State) (ms : List Members) (c x : ℕ) → LivesAs k h c (pos x) → LivesAs k (record h { lists = ms }) c (pos x)
+lives_by_lists : (k : ClassKind) (h : State) (ms : List Members) (c x : ℕ) → IsLivingAs k h c (pos x) → IsLivingAs k (record h { lists = ms }) c (pos x)
 lives_by_lists Permanent h ms c x q = q
 lives_by_lists Temporary h ms c zero q = absurd cc
 lives_by_lists Temporary h ms c (suc i) q = q
@@ -218,60 +218,60 @@ lives_by_lists Notice h ms c zero q = absurd cc
 lives_by_lists Notice h ms c (suc i) q = q
 
 -- the members of a set once one of the lists is another
-members_with : (ms : List Members) (s o : ℕ) (l : List ℕ) (s' o' x : ℕ) → In x (members_of (with_members ms s o l) s' o') → ((s ≡ s') × In x l) ⊎ In x (members_of ms s' o')
+members_with : (ms : List Members) (s o : ℕ) (l : List ℕ) (s' o' x : ℕ) → IsInList x (members_of (with_members ms s o l) s' o') → ((s ≡ s') × IsInList x l) ⊎ IsInList x (members_of ms s' o')
 members_with [] s o l s' o' x m = by ((s == s') && (o == o')) refl m
   where
-    by : (b : Bool) → ((s == s') && (o == o')) ≡ b → In x (cond b l []) → ((s ≡ s') × In x l) ⊎ In x []
+    by : (b : Bool) → ((s == s') && (o == o')) ≡ b → IsInList x (cond b l []) → ((s ≡ s') × IsInList x l) ⊎ IsInList x []
     by true q m = inl (eqb-true s s' (and_parts (s == s') (o == o') q).0, m)
     by false q m = absurd m
 members_with (y ∷ ms) s o l s' o' x m = by ((y.set == s) && (y.owner == o)) refl m (λ g. members_with ms s o l s' o' x g)
   where
     -- in the place of this list
-    here : ((y.set == s) && (y.owner == o)) ≡ true → (b : Bool) → ((s == s') && (o == o')) ≡ b → In x (cond b l (members_of ms s' o')) → ((s ≡ s') × In x l) ⊎ In x (members_of (y ∷ ms) s' o')
+    here : ((y.set == s) && (y.owner == o)) ≡ true → (b : Bool) → ((s == s') && (o == o')) ≡ b → IsInList x (cond b l (members_of ms s' o')) → ((s ≡ s') × IsInList x l) ⊎ IsInList x (members_of (y ∷ ms) s' o')
     here p true q m = inl (eqb-true s s' (and_parts (s == s') (o == o') q).0, m)
     here p false q m =
         let a = and_parts (y.set == s) (y.owner == o) p in
         let same : ((y.set == s') && (y.owner == o')) ≡ ((s == s') && (o == o')) = ap (λ k. (k == s') && (y.owner == o')) (eqb-true y.set s a.0) ∙ ap (λ k. (s == s') && (k == o')) (eqb-true y.owner o a.1) in
-        inr (subst (λ (b : Bool). In x (cond b y.list (members_of ms s' o'))) (sym (same ∙ q)) m)
+        inr (subst (λ (b : Bool). IsInList x (cond b y.list (members_of ms s' o'))) (sym (same ∙ q)) m)
 
     -- after it
-    later : (b : Bool) → (In x (members_of (with_members ms s o l) s' o') → ((s ≡ s') × In x l) ⊎ In x (members_of ms s' o')) → In x (cond b y.list (members_of (with_members ms s o l) s' o')) → ((s ≡ s') × In x l) ⊎ In x (cond b y.list (members_of ms s' o'))
+    later : (b : Bool) → (IsInList x (members_of (with_members ms s o l) s' o') → ((s ≡ s') × IsInList x l) ⊎ IsInList x (members_of ms s' o')) → IsInList x (cond b y.list (members_of (with_members ms s o l) s' o')) → ((s ≡ s') × IsInList x l) ⊎ IsInList x (cond b y.list (members_of ms s' o'))
     later true f m = inr m
     later false f m = f m
 
-    by : (b : Bool) → ((y.set == s) && (y.owner == o)) ≡ b → In x (members_of (cond b (record { set = s; owner = o; list = l } ∷ ms) (y ∷ with_members ms s o l)) s' o') → (In x (members_of (with_members ms s o l) s' o') → ((s ≡ s') × In x l) ⊎ In x (members_of ms s' o')) → ((s ≡ s') × In x l) ⊎ In x (members_of (y ∷ ms) s' o')
+    by : (b : Bool) → ((y.set == s) && (y.owner == o)) ≡ b → IsInList x (members_of (cond b (record { set = s; owner = o; list = l } ∷ ms) (y ∷ with_members ms s o l)) s' o') → (IsInList x (members_of (with_members ms s o l) s' o') → ((s ≡ s') × IsInList x l) ⊎ IsInList x (members_of ms s' o')) → ((s ≡ s') × IsInList x l) ⊎ IsInList x (members_of (y ∷ ms) s' o')
     by true p m f = here p ((s == s') && (o == o')) refl m
     by false p m f = later ((y.set == s') && (y.owner == o')) f m
 
 -- another list, whose members live
-listed : (h : State) (s o : ℕ) (l : List ℕ) → ((x : ℕ) → s < length h.layout.sets → In x l → Lives h (member_class h.layout s) (pos x)) → Joined h → Joined (with_list_of h s o l)
+listed : (h : State) (s o : ℕ) (l : List ℕ) → ((x : ℕ) → s < length h.layout.sets → IsInList x l → IsLiving h (member_class h.layout s) (pos x)) → Joined h → Joined (with_list_of h s o l)
 listed h s o l f j s' o' x k m =
     lives_by_lists (kind_of h.layout (member_class h.layout s')) h (with_members h.lists s o l) (member_class h.layout s') x (by (members_with h.lists s o l s' o' x m))
   where
-    by : ((s ≡ s') × In x l) ⊎ In x (members_of h.lists s' o') → Lives h (member_class h.layout s') (pos x)
-    by (inl g) = subst (λ d. Lives h (member_class h.layout d) (pos x)) g.0 (f x (subst (λ d. d < length h.layout.sets) (sym g.0) k) g.1)
+    by : ((s ≡ s') × IsInList x l) ⊎ IsInList x (members_of h.lists s' o') → IsLiving h (member_class h.layout s') (pos x)
+    by (inl g) = subst (λ d. IsLiving h (member_class h.layout d) (pos x)) g.0 (f x (subst (λ d. d < length h.layout.sets) (sym g.0) k) g.1)
     by (inr g) = j s' o' x k g
 
 -- ## Filing
 
 abbrev Puts : (ℕ → List ℕ → List ℕ) → Type 0
-Puts put = (x : ℕ) (l : List ℕ) (y : ℕ) → In y (put x l) → (x ≡ y) ⊎ In y l
+Puts put = (x : ℕ) (l : List ℕ) (y : ℕ) → IsInList y (put x l) → (x ≡ y) ⊎ IsInList y l
 
-put_lives : (put : ℕ → List ℕ → List ℕ) → Puts put → (h : State) (s o x : ℕ) → Lives h (member_class h.layout s) (pos x) → Joined h → Joined (with_list_of h s o (put x (members_of h.lists s o)))
+put_lives : (put : ℕ → List ℕ → List ℕ) → Puts put → (h : State) (s o x : ℕ) → IsLiving h (member_class h.layout s) (pos x) → Joined h → Joined (with_list_of h s o (put x (members_of h.lists s o)))
 put_lives put p h s o x lives j = listed h s o (put x (members_of h.lists s o)) (λ y k m. by y k (p x (members_of h.lists s o) y m)) j
   where
-    by : (y : ℕ) → s < length h.layout.sets → (x ≡ y) ⊎ In y (members_of h.lists s o) → Lives h (member_class h.layout s) (pos y)
-    by y k (inl e) = subst (λ z. Lives h (member_class h.layout s) (pos z)) e lives
+    by : (y : ℕ) → s < length h.layout.sets → (x ≡ y) ⊎ IsInList y (members_of h.lists s o) → IsLiving h (member_class h.layout s) (pos y)
+    by y k (inl e) = subst (λ z. IsLiving h (member_class h.layout s) (pos z)) e lives
     by y k (inr m) = j s o y k m
 
-put_joined : (put : ℕ → List ℕ → List ℕ) → Puts put → (h : State) (s o x : ℕ) → Lives h (member_class h.layout s) (pos x) → Joined h → Sane Joined (put_in put h s o x)
+put_joined : (put : ℕ → List ℕ → List ℕ) → Puts put → (h : State) (s o x : ℕ) → IsLiving h (member_class h.layout s) (pos x) → Joined h → Sane Joined (put_in put h s o x)
 put_joined put p h s o x lives j = by (is_filed h.lists s x)
   where
     by : (b : Bool) → Sane Joined (if b then Err faults.FiledTwice else Ok (with_list_of h s o (put x (members_of h.lists s o))))
     by true = tt
     by false = put_lives put p h s o x lives j
 
-beside_joined : (put : ℕ → ℕ → List ℕ → List ℕ) → ((k : ℕ) → Puts (put k)) → (h : State) (s o x k : ℕ) → Lives h (member_class h.layout s) (pos x) → Joined h → Sane Joined (put_beside put h s o x k)
+beside_joined : (put : ℕ → ℕ → List ℕ → List ℕ) → ((k : ℕ) → Puts (put k)) → (h : State) (s o x k : ℕ) → IsLiving h (member_class h.layout s) (pos x) → Joined h → Sane Joined (put_beside put h s o x k)
 beside_joined put p h s o x k lives j = by (is_filed h.lists s x) (contains (members_of h.lists s o) k)
   where
     by : (b c : Bool) → Sane Joined (if b then Err faults.FiledTwice else (if c then Ok (with_list_of h s o (put k x (members_of h.lists s o))) else Err faults.NotFiled))
@@ -287,16 +287,16 @@ puts_last x [] y m = m
 puts_last x (z ∷ zs) y (inl e) = inr (inl e)
 puts_last x (z ∷ zs) y (inr m) = by (puts_last x zs y m)
   where
-    by : (x ≡ y) ⊎ In y zs → (x ≡ y) ⊎ In y (z ∷ zs)
+    by : (x ≡ y) ⊎ IsInList y zs → (x ≡ y) ⊎ IsInList y (z ∷ zs)
     by (inl e) = inl e
     by (inr m) = inr (inr m)
 
 -- after an item that stays
-passed : (x z y : ℕ) (zs : List ℕ) (l : List ℕ) → (In y l → (x ≡ y) ⊎ In y zs) → In y (z ∷ l) → (x ≡ y) ⊎ In y (z ∷ zs)
+passed : (x z y : ℕ) (zs : List ℕ) (l : List ℕ) → (IsInList y l → (x ≡ y) ⊎ IsInList y zs) → IsInList y (z ∷ l) → (x ≡ y) ⊎ IsInList y (z ∷ zs)
 passed x z y zs l f (inl e) = inr (inl e)
 passed x z y zs l f (inr m) = by (f m)
   where
-    by : (x ≡ y) ⊎ In y zs → (x ≡ y) ⊎ In y (z ∷ zs)
+    by : (x ≡ y) ⊎ IsInList y zs → (x ≡ y) ⊎ IsInList y (z ∷ zs)
     by (inl e) = inl e
     by (inr m) = inr (inr m)
 
@@ -304,7 +304,7 @@ puts_before : (k : ℕ) → Puts (put_before k)
 puts_before k x [] y m = m
 puts_before k x (z ∷ zs) y m = by (z == k) (λ g. puts_before k x zs y g) m
   where
-    by : (b : Bool) → (In y (put_before k x zs) → (x ≡ y) ⊎ In y zs) → In y (cond b (x ∷ (z ∷ zs)) (z ∷ put_before k x zs)) → (x ≡ y) ⊎ In y (z ∷ zs)
+    by : (b : Bool) → (IsInList y (put_before k x zs) → (x ≡ y) ⊎ IsInList y zs) → IsInList y (cond b (x ∷ (z ∷ zs)) (z ∷ put_before k x zs)) → (x ≡ y) ⊎ IsInList y (z ∷ zs)
     by true f m = m
     by false f m = passed x z y zs (put_before k x zs) f m
 
@@ -312,7 +312,7 @@ puts_after : (k : ℕ) → Puts (put_after k)
 puts_after k x [] y m = m
 puts_after k x (z ∷ zs) y m = by (z == k) (λ g. puts_after k x zs y g) m
   where
-    by : (b : Bool) → (In y (put_after k x zs) → (x ≡ y) ⊎ In y zs) → In y (cond b (z ∷ (x ∷ zs)) (z ∷ put_after k x zs)) → (x ≡ y) ⊎ In y (z ∷ zs)
+    by : (b : Bool) → (IsInList y (put_after k x zs) → (x ≡ y) ⊎ IsInList y zs) → IsInList y (cond b (z ∷ (x ∷ zs)) (z ∷ put_after k x zs)) → (x ≡ y) ⊎ IsInList y (z ∷ zs)
     by true f m = passed x z y zs (x ∷ zs) (λ g. g) m
     by false f m = passed x z y zs (put_after k x zs) f m
 
@@ -320,12 +320,12 @@ puts_ranked : (h : State) (c : ℕ) (ks : List RankKey) → Puts (put_ranked h c
 puts_ranked h c ks x [] y m = m
 puts_ranked h c ks x (z ∷ zs) y m = by (ranks_after h c ks (pos z) (pos x)) (λ g. puts_ranked h c ks x zs y g) m
   where
-    by : (b : Bool) → (In y (put_ranked h c ks x zs) → (x ≡ y) ⊎ In y zs) → In y (cond b (x ∷ (z ∷ zs)) (z ∷ put_ranked h c ks x zs)) → (x ≡ y) ⊎ In y (z ∷ zs)
+    by : (b : Bool) → (IsInList y (put_ranked h c ks x zs) → (x ≡ y) ⊎ IsInList y zs) → IsInList y (cond b (x ∷ (z ∷ zs)) (z ∷ put_ranked h c ks x zs)) → (x ≡ y) ⊎ IsInList y (z ∷ zs)
     by true f m = m
     by false f m = passed x z y zs (put_ranked h c ks x zs) f m
 
 -- a member that is looked at, and an owner
-with_member : {B : Type 0} (Q : B → Type 0) (h : State) (s : ℕ) (o x : ℤ) (go : ℕ → ℕ → Result B FaultKind) → ((n m : ℕ) → Lives h (member_class h.layout s) (pos n) → Sane Q (go n m)) → Sane Q (and_then (joiner h s x) (λ n. and_then (owner h s o) (λ m. go n m)))
+with_member : {B : Type 0} (Q : B → Type 0) (h : State) (s : ℕ) (o x : ℤ) (go : ℕ → ℕ → Result B FaultKind) → ((n m : ℕ) → IsLiving h (member_class h.layout s) (pos n) → Sane Q (go n m)) → Sane Q (and_then (joiner h s x) (λ n. and_then (owner h s o) (λ m. go n m)))
 with_member Q h s o x go f =
     sane_then Q (joiner h s x) (λ n. and_then (owner h s o) (λ m. go n m)) (joiner_lives h s x) (λ n g. each_then Q (owner h s o) (λ m. go n m) (λ m. f n m g))
 
@@ -353,11 +353,11 @@ filed_joined h (Ranked ks) s o x j =
 
 -- ## Removing
 
-less_in : (x : ℕ) (l : List ℕ) (y : ℕ) → In y (less x l) → In y l
+less_in : (x : ℕ) (l : List ℕ) (y : ℕ) → IsInList y (less x l) → IsInList y l
 less_in x [] y m = m
 less_in x (z ∷ zs) y m = by (z == x) (λ g. less_in x zs y g) m
   where
-    by : (b : Bool) → (In y (less x zs) → In y zs) → In y (cond b zs (z ∷ less x zs)) → In y (z ∷ zs)
+    by : (b : Bool) → (IsInList y (less x zs) → IsInList y zs) → IsInList y (cond b zs (z ∷ less x zs)) → IsInList y (z ∷ zs)
     by true f m = inr m
     by false f (inl e) = inl e
     by false f (inr m) = inr (f m)
@@ -393,7 +393,7 @@ or_second : (a b : Bool) → b ≡ true → (a || b) ≡ true
 or_second true b q = refl
 or_second false b q = q
 
-contains_so : (xs : List ℕ) (x : ℕ) → In x xs → contains xs x ≡ true
+contains_so : (xs : List ℕ) (x : ℕ) → IsInList x xs → contains xs x ≡ true
 contains_so [] x m = absurd m
 contains_so (y ∷ ys) x (inl e) = or_first (y == x) (contains ys x) (eq-eqb y x e)
 contains_so (y ∷ ys) x (inr m) = or_second (y == x) (contains ys x) (contains_so ys x m)
@@ -415,8 +415,8 @@ among_so (y ∷ ms) all s o x c f = by ((y.set == s) && contains (members_of all
     by true q later = refl
     by false q later = later (not_here q ((y.set == s) && (y.owner == o)) refl f)
 
-filed_so : (ms : List Members) (s o x : ℕ) → In x (members_of ms s o) → is_filed ms s x ≡ true
-filed_so ms s o x m = among_so ms ms s o x (contains_so (members_of ms s o) x m) (λ e. subst (In x) e m)
+filed_so : (ms : List Members) (s o x : ℕ) → IsInList x (members_of ms s o) → is_filed ms s x ≡ true
+filed_so ms s o x m = among_so ms ms s o x (contains_so (members_of ms s o) x m) (λ e. subst (IsInList x) e m)
 
 in_set_so : (ts : List SetLayout) (b k d : ℕ) (ms : List Members) (c x : ℕ) (t : SetLayout) → slice_get ts k ≡ Some t → d ≡ b + k → t.member ≡ c → is_filed ms d x ≡ true → in_a_set ts b ms c x ≡ true
 in_set_so [] b k d ms c x t q e g f = absurd cc

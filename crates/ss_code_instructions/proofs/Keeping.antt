@@ -32,7 +32,7 @@ use Rattle.ss_meaning.specs.Statistics.{subject_of_statistic, bearer_number, pre
 use Rattle.ss_meaning.specs.Statements.{with_input, read_value}
 use Rattle.ss_meaning.proofs.Fine.{Sane}
 use Rattle.ss_code_instructions.specs.Machine.{Code, changed_attribute}
-use Rattle.ss_code_instructions.specs.Reached.{TakesIf}
+use Rattle.ss_code_instructions.specs.Reached.{HasTakenIf}
 use Rattle.ss_code_instructions.proofs.Joining.{Joined, assigned_joined, timed_joined, created_joined, created_all_joined, first_filed, last_filed, before_filed, after_filed, filed_joined, removed_joined, first_removed_joined, last_removed_joined, destroyed_joined}
 
 -- what an operation gives, where it gives anything, has a property
@@ -248,7 +248,7 @@ cancelled_same class x s = each (Same s) (entity class x s) _ (λ n. made (Same 
 
 -- a READ takes a word
 abbrev pub TakesWord : (mode : Mode) (s t : Store) → Type 0
-TakesWord mode s t = Lasts s t × TakesIf (Some mode) s.world.input t.world.input
+TakesWord mode s t = Lasts s t × HasTakenIf (Some mode) s.world.input t.world.input
 
 pub read_takes : (mode : Mode) (s : Store) → Only (λ (b : Value × Store). TakesWord mode s b.1) (read_value mode s)
 read_takes mode s = by (value_given mode s.world.input) refl

@@ -16,7 +16,7 @@ use Rattle.ss_program.specs.Item.TheVariants.{Is, Mean}
 use Rattle.ss_base.specs.declared.words.Relation.{Relation}
 use Rattle.ss_base.specs.declared.words.Sign.{Sign}
 use Rattle.ss_program.specs.Program.{Event, Program}
-use Rattle.ss_program.specs.WellTyped.{WellTyped, IsSet, field_mode}
+use Rattle.ss_program.specs.WellTyped.{IsWellTyped, IsSet, field_mode}
 use Rattle.ss_meaning.specs.PendingList.{least_event}
 use Rattle.ss_meaning.specs.Words.{is_ended, value_given}
 use Rattle.ss_meaning.specs.State.{is_made}
@@ -30,7 +30,7 @@ use Rattle.ss_meaning.specs.Statistics.{figure, mean, reset}
 use Rattle.ss_meaning.specs.Expressions.{not_if}
 use Rattle.ss_meaning.specs.Loops.{range_of, indices}
 use Rattle.ss_meaning.specs.Statements.{with_input, read_value}
-use Rattle.ss_meaning.specs.Fitting.{Hold, Fits}
+use Rattle.ss_meaning.specs.Fitting.{AreOfModes, IsFittingStore}
 use Rattle.ss_meaning.proofs.Fine.{Fine, There, Any, fine_then, fine_turned, fine_weaker, any_due, fit_fine, unless_fine}
 use Rattle.ss_meaning.proofs.Kept.{number_fine}
 use Rattle.ss_meaning.proofs.Entities.{permanent_here, entity_fine, attribute_fine, time_of_fine, made_one_fine, made_all_fine, without_fine, variable_fine, attribute_assigned_fine}
@@ -44,7 +44,7 @@ use Rattle.ss_code_instructions.specs.Instructions as i
 use Rattle.ss_code_instructions.specs.States.{Called, ARoutine, AnEvent, Frame, Core, MachineState, Done, Breaks, Moved, To, Sends, Rest, Stuck, TakenOff, did, fit, core_at, onward, take_off, with_block, cell_at, deliver, deliver_with}
 use Rattle.ss_code_instructions.specs.Machine.{Code, changed_attribute, assignable_count, has_item, unsigned, has_next, Walk, walk_at, walk_cells, begin_walk, walk_further, next_item, mean_item, item_before, cells_of_kinds, values_shown, print_lines, enter, leave, take_event, take_next, act, is_due, Stepped, Goes, Over, NoStep, with_rest, when_due, step_at, step}
 use Rattle.ss_code_instructions.specs.Running.{Underway, after_one_step, start, steps}
-use Rattle.ss_code_instructions.specs.Shape.{GivenFit, ItemsFit, IsOfKind, At, DeliversTo, Suits, HasEntryShape, Shaped, FramesFit, FitsCode}
+use Rattle.ss_code_instructions.specs.Shape.{AreGivenModes, AreFitForItems, IsOfKind, AreFoundAt, IsDeliveringTo, IsSuited, HasEntryShape, IsShaped, AreFitFrames, IsFitForCode}
 use Rattle.ss_code_instructions.specs.Translation.{code_of}
 use Rattle.ss_code_instructions.specs.Laws.{ShapeStays, StatesSuit, NeverStuck}
 use Rattle.ss_code_instructions.proofs.ShapingPrograms.{has_shape}
@@ -56,12 +56,12 @@ both_modes : (us vs : List Value) → map mode_of (us ++ vs) ≡ map mode_of us 
 both_modes [] vs = refl
 both_modes (u ∷ us) vs = ap (λ ms. mode_of u ∷ ms) (both_modes us vs)
 
-pub both_hold : (us vs : List Value) (ms ns : List Mode) → Hold us ms → Hold vs ns → Hold (us ++ vs) (ms ++ ns)
+pub both_hold : (us vs : List Value) (ms ns : List Mode) → AreOfModes us ms → AreOfModes vs ns → AreOfModes (us ++ vs) (ms ++ ns)
 both_hold us vs ms ns h g = both_modes us vs ∙ ap (λ l. l ++ map mode_of vs) h ∙ ap (λ l. ms ++ l) g
 
-first_hold : (modes : List Mode) → Hold (first_values modes) modes
+first_hold : (modes : List Mode) → AreOfModes (first_values modes) modes
 first_hold [] = refl
-first_hold (m ∷ ms) = let here : mode_of (first_value m) ≡ m = first_mode m in let rest : Hold (first_values ms) ms = first_hold ms in cc
+first_hold (m ∷ ms) = let here : mode_of (first_value m) ≡ m = first_mode m in let rest : AreOfModes (first_values ms) ms = first_hold ms in cc
   where
     first_mode : (m : Mode) → mode_of (first_value m) ≡ m
     first_mode Integer = refl
@@ -72,64 +72,64 @@ same_self Integer = refl
 same_self Alpha = refl
 
 -- a value before others
-prepended_there : (v : Value) (m : Mode) (ms : List Mode) (o : Option (List Value)) → mode_of v ≡ m → There (λ (us : List Value). Hold us ms) o → There (λ (us : List Value). Hold us (m ∷ ms)) (prepended v o)
+prepended_there : (v : Value) (m : Mode) (ms : List Mode) (o : Option (List Value)) → mode_of v ≡ m → There (λ (us : List Value). AreOfModes us ms) o → There (λ (us : List Value). AreOfModes us (m ∷ ms)) (prepended v o)
 prepended_there v m ms None h f = absurd f
-prepended_there v m ms (Some us) h f = let all : Hold (v ∷ us) (m ∷ ms) = cc in all
+prepended_there v m ms (Some us) h f = let all : AreOfModes (v ∷ us) (m ∷ ms) = cc in all
 
-taken_there : (ms : List Mode) (vs : List Value) → Hold vs ms → There (λ (us : List Value). Hold us ms) (taken_by_modes ms vs)
+taken_there : (ms : List Mode) (vs : List Value) → AreOfModes vs ms → There (λ (us : List Value). AreOfModes us ms) (taken_by_modes ms vs)
 taken_there [] [] q = refl
 taken_there [] (v ∷ vs) q = absurd cc
 taken_there (m ∷ ms) [] q = absurd cc
 taken_there (m ∷ ms) (v ∷ vs) q =
     let here : mode_of v ≡ m = cc in
-    let rest : Hold vs ms = cc in
+    let rest : AreOfModes vs ms = cc in
     let same : same_mode (mode_of v) m ≡ true = ap (λ k. same_mode k m) here ∙ same_self m in
-    subst (λ b. There (λ (us : List Value). Hold us (m ∷ ms)) (if b then prepended v (taken_by_modes ms vs) else None)) (sym same)
+    subst (λ b. There (λ (us : List Value). AreOfModes us (m ∷ ms)) (if b then prepended v (taken_by_modes ms vs) else None)) (sym same)
     (prepended_there v m ms (taken_by_modes ms vs) here (taken_there ms vs rest))
 
 -- the variables of a section that is entered
-opened_there : (given others : List Mode) (vs : List Value) → Hold vs given → There (λ (us : List Value). Hold us (given ++ others)) (opened given others vs)
+opened_there : (given others : List Mode) (vs : List Value) → AreOfModes vs given → There (λ (us : List Value). AreOfModes us (given ++ others)) (opened given others vs)
 opened_there given others vs q = by (taken_by_modes given vs) (taken_there given vs q)
   where
-    by : (o : Option (List Value)) → There (λ (us : List Value). Hold us given) o → There (λ (us : List Value). Hold us (given ++ others)) (appended o (first_values others))
+    by : (o : Option (List Value)) → There (λ (us : List Value). AreOfModes us given) o → There (λ (us : List Value). AreOfModes us (given ++ others)) (appended o (first_values others))
     by None h = absurd h
     by (Some us) h = both_hold us (first_values others) given others h (first_hold others)
 
 -- what a section yields
-front_there : (count : ℕ) (ls : List Value) (ms : List Mode) → Hold ls ms → length (take count ms) ≡ count → There (λ (us : List Value). Hold us (take count ms)) (front count ls)
+front_there : (count : ℕ) (ls : List Value) (ms : List Mode) → AreOfModes ls ms → length (take count ms) ≡ count → There (λ (us : List Value). AreOfModes us (take count ms)) (front count ls)
 front_there zero ls ms q e = refl
 front_there (suc k) [] [] q e = absurd cc
 front_there (suc k) [] (m ∷ ms) q e = absurd cc
 front_there (suc k) (v ∷ ls) [] q e = absurd cc
 front_there (suc k) (v ∷ ls) (m ∷ ms) q e =
     let here : mode_of v ≡ m = cc in
-    let rest : Hold ls ms = cc in
+    let rest : AreOfModes ls ms = cc in
     let fewer : length (take k ms) ≡ k = omega (arith, e) in
     prepended_there v m (take k ms) (front k ls) here (front_there k ls ms rest fewer)
 
-yielded_there : (given others : List Mode) (first count : ℕ) (ls : List Value) → Hold ls (given ++ others) → first ≡ length given → length (take count others) ≡ count → There (λ (us : List Value). Hold us (take count others)) (yielded first count ls)
+yielded_there : (given others : List Mode) (first count : ℕ) (ls : List Value) → AreOfModes ls (given ++ others) → first ≡ length given → length (take count others) ≡ count → There (λ (us : List Value). AreOfModes us (take count others)) (yielded first count ls)
 yielded_there [] others zero count ls h q e = front_there count ls others h e
 yielded_there [] others (suc k) count ls h q e = absurd cc
 yielded_there (g ∷ given) others zero count ls h q e = absurd cc
 yielded_there (g ∷ given) others (suc k) count [] h q e = absurd cc
 yielded_there (g ∷ given) others (suc k) count (l ∷ ls) h q e =
-    let rest : Hold ls (given ++ others) = cc in
+    let rest : AreOfModes ls (given ++ others) = cc in
     let fewer : k ≡ length given = omega (arith, q) in
     yielded_there given others k count ls rest fewer e
 
 -- what lies below cells that are taken off
-off_there : (gone rest : List Mode) (count : ℕ) (cells vs : List Value) → Hold cells (gone ++ rest) → length gone ≡ count → There (λ (b : TakenOff). Hold b.below rest) (take_off count cells vs)
+off_there : (gone rest : List Mode) (count : ℕ) (cells vs : List Value) → AreOfModes cells (gone ++ rest) → length gone ≡ count → There (λ (b : TakenOff). AreOfModes b.below rest) (take_off count cells vs)
 off_there [] rest zero cells vs h q = h
 off_there [] rest (suc k) cells vs h q = absurd cc
 off_there (m ∷ gone) rest zero cells vs h q = absurd cc
 off_there (m ∷ gone) rest (suc k) [] vs h q = absurd cc
 off_there (m ∷ gone) rest (suc k) (v ∷ cells) vs h q =
-    let under : Hold cells (gone ++ rest) = cc in
+    let under : AreOfModes cells (gone ++ rest) = cc in
     let fewer : length gone ≡ k = omega (arith, q) in
     off_there gone rest k cells (v ∷ vs) under fewer
 
 -- items take as many cells as they have modes
-kinds_many : (p : Program) (ks : List ItemKind) (modes : List Mode) → ItemsFit p ks modes → cells_of_kinds ks ≡ length modes
+kinds_many : (p : Program) (ks : List ItemKind) (modes : List Mode) → AreFitForItems p ks modes → cells_of_kinds ks ≡ length modes
 kinds_many p [] [] h = refl
 kinds_many p [] (m ∷ ms) h = absurd h
 kinds_many p (ShowsValue ∷ ks) [] h = absurd h
@@ -174,7 +174,7 @@ before_there k ks None xs h g = absurd h
 before_there k ks (Some x) None h g = absurd g
 before_there k ks (Some x) (Some xs) h g = (h, g)
 
-module _ (p : Program) (typed : WellTyped p) (code : Code) where
+module _ (p : Program) (typed : IsWellTyped p) (code : Code) where
   -- as Valued says it
   abbrev Well : Moved → Type 0
   Well m = GoesWell p typed code m
@@ -185,10 +185,10 @@ module _ (p : Program) (typed : WellTyped p) (code : Code) where
 
   -- ## Out of a section
 
-  leave_well : (ls : List Mode) (frames : List Frame) (c : Core) → Fits p ls c.store → FramesFit p code ls frames → Well (leave frames c)
+  leave_well : (ls : List Mode) (frames : List Frame) (c : Core) → IsFittingStore p ls c.store → AreFitFrames p code ls frames → Well (leave frames c)
   leave_well ls [] c fits k = tt
   leave_well ls (f ∷ fs) c fits k =
-      fit_well p typed code (λ (us : List Value). Hold us (take f.count k.1)) (yielded f.first f.count c.store.locals) (λ vs. To (core_at f.back (vs ++ f.cells) fs (record c.store { locals = f.locals })))
+      fit_well p typed code (λ (us : List Value). AreOfModes us (take f.count k.1)) (yielded f.first f.count c.store.locals) (λ vs. To (core_at f.back (vs ++ f.cells) fs (record c.store { locals = f.locals })))
       (yielded_there k.0 k.1 f.first f.count c.store.locals (fits.locals ∙ k.4) k.5 k.6) (λ vs h.
       goes_to p typed code k.2 f.back (take f.count k.1 ++ k.3) (vs ++ f.cells) fs (record c.store { locals = f.locals }) k.9
       (record { sound = record { globals = fits.sound.globals; world = fits.sound.world }; locals = k.7 })
@@ -197,9 +197,9 @@ module _ (p : Program) (typed : WellTyped p) (code : Code) where
   module _ (ls : List Mode) where
     -- ## Into a section
 
-    enter_well : (e : EntryPoint) (called : Called) (vs below : List Value) (rest : List Mode) (c : Core) (s : Store) → Hold vs e.given → HasEntryShape p code e → Fits p ls s → At p code (c.place + 1) ls (take e.yielding e.others ++ rest) → Hold below rest → FramesFit p code ls c.frames → Well (enter e called vs below c s)
+    enter_well : (e : EntryPoint) (called : Called) (vs below : List Value) (rest : List Mode) (c : Core) (s : Store) → AreOfModes vs e.given → HasEntryShape p code e → IsFittingStore p ls s → AreFoundAt p code (c.place + 1) ls (take e.yielding e.others ++ rest) → AreOfModes below rest → AreFitFrames p code ls c.frames → Well (enter e called vs below c s)
     enter_well e called vs below rest c s given begins fits at h k =
-        fit_well p typed code (λ (us : List Value). Hold us (e.given ++ e.others)) (opened e.given e.others vs) _ (opened_there e.given e.others vs given) (λ variables q.
+        fit_well p typed code (λ (us : List Value). AreOfModes us (e.given ++ e.others)) (opened e.given e.others vs) _ (opened_there e.given e.others vs given) (λ variables q.
         let f : Frame = record { back = c.place + 1; cells = below; locals = s.locals; first = length e.given; count = e.yielding; called = called } in
         goes_to p typed code (e.given ++ e.others) e.place [] [] (f ∷ c.frames) (record s { locals = variables }) begins.0
         (record { sound = record { globals = fits.sound.globals; world = fits.sound.world }; locals = q }) refl
@@ -208,32 +208,32 @@ module _ (p : Program) (typed : WellTyped p) (code : Code) where
     -- ## What several instructions do
 
     -- a look, after which the store is the same
-    look_on : {A : Type 0} (l : Line) (r : OkOr A Failure) (rest : List Mode) (cells : List Value) (c : Core) → Fine Any r → At p code (c.place + 1) ls rest → Fits p ls c.store → Hold cells rest → FramesFit p code ls c.frames → Well (did l r (λ u. onward cells c c.store))
+    look_on : {A : Type 0} (l : Line) (r : OkOr A Failure) (rest : List Mode) (cells : List Value) (c : Core) → Fine Any r → AreFoundAt p code (c.place + 1) ls rest → IsFittingStore p ls c.store → AreOfModes cells rest → AreFitFrames p code ls c.frames → Well (did l r (λ u. onward cells c c.store))
     look_on l r rest cells c fine at fits h k = did_well p typed code Any l r (λ u. onward cells c c.store) fine (λ u e. goes_to p typed code ls (c.place + 1) rest cells c.frames c.store at fits h k)
 
     -- another store
-    change_on : (l : Line) (r : OkOr Store Failure) (rest : List Mode) (cells : List Value) (c : Core) → Fine (Fits p ls) r → At p code (c.place + 1) ls rest → Hold cells rest → FramesFit p code ls c.frames → Well (did l r (λ s. onward cells c s))
+    change_on : (l : Line) (r : OkOr Store Failure) (rest : List Mode) (cells : List Value) (c : Core) → Fine (IsFittingStore p ls) r → AreFoundAt p code (c.place + 1) ls rest → AreOfModes cells rest → AreFitFrames p code ls c.frames → Well (did l r (λ s. onward cells c s))
     change_on l r rest cells c fine at h k =
-        did_well p typed code (Fits p ls) l r (λ s. onward cells c s) fine (λ s fits. goes_to p typed code ls (c.place + 1) rest cells c.frames s at fits h k)
+        did_well p typed code (IsFittingStore p ls) l r (λ s. onward cells c s) fine (λ s fits. goes_to p typed code ls (c.place + 1) rest cells c.frames s at fits h k)
 
     -- a value for a target
-    give_on : (l : Line) (to : Target) (m : Mode) (ms rest : List Mode) (r : OkOr Value Failure) (cells : List Value) (c : Core) → DeliversTo p code c.place ls ms to m rest → Fine (λ v. mode_of v ≡ m) r → Fits p ls c.store → Hold cells rest → FramesFit p code ls c.frames → Well (deliver l to r cells c)
+    give_on : (l : Line) (to : Target) (m : Mode) (ms rest : List Mode) (r : OkOr Value Failure) (cells : List Value) (c : Core) → IsDeliveringTo p code c.place ls ms to m rest → Fine (λ v. mode_of v ≡ m) r → IsFittingStore p ls c.store → AreOfModes cells rest → AreFitFrames p code ls c.frames → Well (deliver l to r cells c)
     give_on l to m ms rest r cells c d fine fits h k = deliver_well p typed code ls l to m rest d.0 r cells c fine d.1 d.2 fits h k
 
-    give_with : (l : Line) (to : Target) (m : Mode) (ms rest : List Mode) (r : OkOr (Value × Store) Failure) (cells : List Value) (c : Core) → DeliversTo p code c.place ls ms to m rest → Fine (λ (b : Value × Store). (mode_of b.0 ≡ m) × Fits p ls b.1) r → Hold cells rest → FramesFit p code ls c.frames → Well (deliver_with l to r cells c)
+    give_with : (l : Line) (to : Target) (m : Mode) (ms rest : List Mode) (r : OkOr (Value × Store) Failure) (cells : List Value) (c : Core) → IsDeliveringTo p code c.place ls ms to m rest → Fine (λ (b : Value × Store). (mode_of b.0 ≡ m) × IsFittingStore p ls b.1) r → AreOfModes cells rest → AreFitFrames p code ls c.frames → Well (deliver_with l to r cells c)
     give_with l to m ms rest r cells c d fine h k = delivered_well p typed code ls l to m rest d.0 r cells c fine d.1 d.2 h k
 
     -- a time to schedule for
-    time_well : (l : Line) (to : Target) (ms rest : List Mode) (r : OkOr ℤ Failure) (cells : List Value) (c : Core) → DeliversTo p code c.place ls ms to Integer rest → Fine (λ z. Unit {0}) r → Fits p ls c.store → Hold cells rest → FramesFit p code ls c.frames → Well (deliver l to (turned Whole r) cells c)
+    time_well : (l : Line) (to : Target) (ms rest : List Mode) (r : OkOr ℤ Failure) (cells : List Value) (c : Core) → IsDeliveringTo p code c.place ls ms to Integer rest → Fine (λ z. Unit {0}) r → IsFittingStore p ls c.store → AreOfModes cells rest → AreFitFrames p code ls c.frames → Well (deliver l to (turned Whole r) cells c)
     time_well l to ms rest r cells c d fine fits h k = give_on l to Integer ms rest (turned Whole r) cells c d (fine_turned (λ v. mode_of v ≡ Integer) Whole r fine (λ z u. refl)) fits h k
 
     -- a walk begins
-    begin_well : (l : Line) (skip : ℕ) (r : OkOr Walk Failure) (rest : List Mode) (cells : List Value) (c : Core) → Fine Any r → At p code (c.place + 1) ls (Integer ∷ Integer ∷ rest) × At p code (c.place + 1 + skip) ls (Integer ∷ Integer ∷ rest) → Fits p ls c.store → Hold cells rest → FramesFit p code ls c.frames → Well (begin_walk l skip r cells c)
+    begin_well : (l : Line) (skip : ℕ) (r : OkOr Walk Failure) (rest : List Mode) (cells : List Value) (c : Core) → Fine Any r → AreFoundAt p code (c.place + 1) ls (Integer ∷ Integer ∷ rest) × AreFoundAt p code (c.place + 1 + skip) ls (Integer ∷ Integer ∷ rest) → IsFittingStore p ls c.store → AreOfModes cells rest → AreFitFrames p code ls c.frames → Well (begin_walk l skip r cells c)
     begin_well l skip r rest cells c fine at fits h k =
         did_well p typed code Any l r _ fine (λ w e. ways_well p typed code ls skip (not (is_none w.member)) (Integer ∷ Integer ∷ rest) (walk_cells w cells) c at fits (ap (λ l. Integer ∷ Integer ∷ l) h) k)
 
     -- where it gets to
-    walk_fine : (reverse : Bool) (set : ℕ) (x : ℤ) (s : Store) → IsSet p set → Fits p ls s → Fine Any (walk_at reverse set x s)
+    walk_fine : (reverse : Bool) (set : ℕ) (x : ℤ) (s : Store) → IsSet p set → IsFittingStore p ls s → Fine Any (walk_at reverse set x s)
     walk_fine reverse set x s q fits = by (is_none x)
       where
         walked : ℤ → Walk
@@ -243,43 +243,43 @@ module _ (p : Program) (typed : WellTyped p) (code : Code) where
         by true = tt
         by false = fine_turned {B = Walk} Any walked (coming_in reverse set x s) (coming_fine p typed ls reverse set x s q fits) (λ a u. tt)
 
-    begun_walk_fine : (reverse : Bool) (set : ℕ) (r : OkOr ℤ Failure) (s : Store) → Fine Any r → IsSet p set → Fits p ls s → Fine Any (if_ok r (λ x. walk_at reverse set x s))
+    begun_walk_fine : (reverse : Bool) (set : ℕ) (r : OkOr ℤ Failure) (s : Store) → Fine Any r → IsSet p set → IsFittingStore p ls s → Fine Any (if_ok r (λ x. walk_at reverse set x s))
     begun_walk_fine reverse set r s fine q fits = fine_then Any r (λ x. walk_at reverse set x s) fine (λ x u. walk_fine reverse set x s q fits)
 
     -- a walk goes on, or stays where it is
-    further_well : (back : ℕ) (old new : Walk) (rest : List Mode) (cells : List Value) (c : Core) → At p code (c.place + 1) ls (Integer ∷ Integer ∷ rest) → At p code (c.place - back) ls (Integer ∷ Integer ∷ rest) → Fits p ls c.store → Hold cells rest → FramesFit p code ls c.frames → Well (walk_further back old new cells c)
+    further_well : (back : ℕ) (old new : Walk) (rest : List Mode) (cells : List Value) (c : Core) → AreFoundAt p code (c.place + 1) ls (Integer ∷ Integer ∷ rest) → AreFoundAt p code (c.place - back) ls (Integer ∷ Integer ∷ rest) → IsFittingStore p ls c.store → AreOfModes cells rest → AreFitFrames p code ls c.frames → Well (walk_further back old new cells c)
     further_well back old new rest cells c on at fits h k =
         choose_well (is_none new.member) _ _
         (back_well p typed code ls back false (Integer ∷ Integer ∷ rest) (walk_cells old cells) c on at fits (ap (λ l. Integer ∷ Integer ∷ l) h) k)
         (back_well p typed code ls back true (Integer ∷ Integer ∷ rest) (walk_cells new cells) c on at fits (ap (λ l. Integer ∷ Integer ∷ l) h) k)
 
     -- the next item of a loop, or none
-    next_well : (back : ℕ) (item limit step : ℤ) (ms rest : List Mode) (cells : List Value) (c : Core) → ms ≡ Integer ∷ Integer ∷ Integer ∷ rest → At p code (c.place + 1) ls ms → At p code (c.place - back) ls ms → Fits p ls c.store → Hold cells rest → FramesFit p code ls c.frames → Well (next_item back item limit step cells c)
+    next_well : (back : ℕ) (item limit step : ℤ) (ms rest : List Mode) (cells : List Value) (c : Core) → ms ≡ Integer ∷ Integer ∷ Integer ∷ rest → AreFoundAt p code (c.place + 1) ls ms → AreFoundAt p code (c.place - back) ls ms → IsFittingStore p ls c.store → AreOfModes cells rest → AreFitFrames p code ls c.frames → Well (next_item back item limit step cells c)
     next_well back item limit step ms rest cells c e on at fits h k =
         choose_well (has_next item limit step) _ _
         (back_well p typed code ls back true ms (Whole step ∷ Whole limit ∷ Whole (item +ℤ unsigned step) ∷ cells) c on at fits (ap (λ l. Integer ∷ Integer ∷ Integer ∷ l) h ∙ sym e) k)
         (back_well p typed code ls back false ms (Whole step ∷ Whole limit ∷ Whole item ∷ cells) c on at fits (ap (λ l. Integer ∷ Integer ∷ Integer ∷ l) h ∙ sym e) k)
 
     -- an attribute that is increased or reduced
-    changed_fine : (sign : Sign) (class field : ℕ) (x y : Value) (s : Store) → field_mode p class field ≡ Some Integer → mode_of x ≡ Integer → mode_of y ≡ Integer → Fits p ls s → Fine (Fits p ls) (changed_attribute sign class field x y s)
+    changed_fine : (sign : Sign) (class field : ℕ) (x y : Value) (s : Store) → field_mode p class field ≡ Some Integer → mode_of x ≡ Integer → mode_of y ≡ Integer → IsFittingStore p ls s → Fine (IsFittingStore p ls) (changed_attribute sign class field x y s)
     changed_fine sign class field x y s g hx hy fits =
-        fine_then (Fits p ls) (attribute class field x s) (λ v. if_ok (calculated (operator_of sign) v y) (λ w. assigned_attribute class field x w s)) (attribute_fine p typed ls class field Integer x s g hx fits) (λ v hv.
-        fine_then (Fits p ls) (calculated (operator_of sign) v y) (λ w. assigned_attribute class field x w s) (calculated_fine (operator_of sign) v y hv hy) (λ w hw.
+        fine_then (IsFittingStore p ls) (attribute class field x s) (λ v. if_ok (calculated (operator_of sign) v y) (λ w. assigned_attribute class field x w s)) (attribute_fine p typed ls class field Integer x s g hx fits) (λ v hv.
+        fine_then (IsFittingStore p ls) (calculated (operator_of sign) v y) (λ w. assigned_attribute class field x w s) (calculated_fine (operator_of sign) v y hv hy) (λ w hw.
         attribute_assigned_fine p typed ls class field Integer x w s g hx hw fits))
 
     -- the modes of what is given to a notice are those of its first attributes
-    fields_given : (class : ℕ) (modes : List Mode) → GivenFit p class modes → FieldsAre p typed ls class 0 modes
+    fields_given : (class : ℕ) (modes : List Mode) → AreGivenModes p class modes → FieldsAre p typed ls class 0 modes
     fields_given class modes g = subst (FieldsAre p typed ls class 0) (sym g.1.2) (fields_are p typed ls class (length modes) g.1.0 g.1.1)
 
     -- what the items of a PRINT show
-    shown_there : (ks : List ItemKind) (ms : List Mode) (vs : List Value) (s : Store) → ItemsFit p ks ms → Hold vs ms → Fits p ls s → There (AllZip IsOfKind ks) (values_shown ks vs s)
+    shown_there : (ks : List ItemKind) (ms : List Mode) (vs : List Value) (s : Store) → AreFitForItems p ks ms → AreOfModes vs ms → IsFittingStore p ls s → There (AllZip IsOfKind ks) (values_shown ks vs s)
     shown_there [] [] [] s h q fits = tt
     shown_there [] [] (v ∷ vs) s h q fits = absurd cc
     shown_there [] (m ∷ ms) vs s h q fits = absurd h
     shown_there (ShowsValue ∷ ks) [] vs s h q fits = absurd h
     shown_there (ShowsValue ∷ ks) (m ∷ ms) [] s h q fits = absurd cc
     shown_there (ShowsValue ∷ ks) (m ∷ ms) (v ∷ vs) s h q fits =
-        let rest : Hold vs ms = cc in
+        let rest : AreOfModes vs ms = cc in
         before_there ShowsValue ks (Some (Is v)) (values_shown ks vs s) tt (shown_there ks ms vs s h rest fits)
     shown_there (ShowsMean j ∷ ks) ms [] s h q fits =
         before_there (ShowsMean j) ks (mean_item (mean j None s)) (values_shown ks [] s) (mean_there (ShowsMean j) (λ x y. tt) (mean j None s) (mean_fine p typed ls j None s (asked_alone p typed ls true j h.0) fits)) (shown_there ks ms [] s h.1 q fits)
@@ -289,39 +289,39 @@ module _ (p : Program) (typed : WellTyped p) (code : Code) where
     shown_there (ShowsMeanOf j ∷ ks) (m ∷ ms) [] s h q fits = absurd cc
     shown_there (ShowsMeanOf j ∷ ks) (m ∷ ms) (x ∷ vs) s h q fits =
         let here : mode_of x ≡ m = cc in
-        let rest : Hold vs ms = cc in
+        let rest : AreOfModes vs ms = cc in
         before_there (ShowsMeanOf j) ks (mean_item (mean j (Some x) s)) (values_shown ks vs s) (mean_there (ShowsMeanOf j) (λ y z. tt) (mean j (Some x) s) (mean_fine p typed ls j (Some x) s (asked_of p typed ls true j x h.1 (here ∙ h.0)) fits)) (shown_there ks ms vs s h.2 rest fits)
 
     -- the event that comes next
-    coming : (s : Store) (n : Coming) → next_event s ≡ Some n → Fits p ls s → ComingAs p typed ls n
+    coming : (s : Store) (n : Coming) → next_event s ≡ Some n → IsFittingStore p ls s → ComingAs p typed ls n
     coming s n e fits = by (least_event s.world.pending) refl e
       where
         by : (o : Option (ℤ × ℤ)) → least_event s.world.pending ≡ o → coming_with o s ≡ Some n → ComingAs p typed ls n
         by None q f = absurd cc
         by (Some k) q f = subst (There (ComingAs p typed ls)) e (next_event_there p typed ls s (ap is_some q) fits)
 
-    module _ (shaped : Shaped p code) where
+    module _ (shaped : IsShaped p code) where
       -- the entry point of an event
       abbrev IsEntryOf : (rank : ℕ) → Event → EntryPoint → Type 0
       IsEntryOf rank v e = (slice_get code.events rank ≡ Some e) × (e.given ≡ v.given)
 
-      event_well : (h : ℕ) (n : Coming) (ms : List Mode) (c : Core) → ComingAs p typed ls n → length ms ≡ h → At p code (c.place + 1) ls ms → Hold c.cells ms → FramesFit p code ls c.frames → Well (take_event code h n c)
+      event_well : (h : ℕ) (n : Coming) (ms : List Mode) (c : Core) → ComingAs p typed ls n → length ms ≡ h → AreFoundAt p code (c.place + 1) ls ms → AreOfModes c.cells ms → AreFitFrames p code ls c.frames → Well (take_event code h n c)
       event_well h n ms c comes high at q k =
           did_well p typed code (BegunAs p typed ls) n.ranked.said.line (event_begun n) _ (begun_fine p typed ls n comes) (λ b begun.
           let served = shaped.served b.rank begun.event begun.there in
           fit_well p typed code (IsEntryOf b.rank begun.event) (slice_get code.events b.rank) _ (subst (There (IsEntryOf b.rank begun.event)) (sym served.1) (served.1, served.2)) (λ e there.
           let begins = shaped.events b.rank e there.0 in
           height_well p typed code h c.cells (enter e (AnEvent b.rank) b.given c.cells c b.store) (held_length c.cells ms q ∙ high)
-          (enter_well e (AnEvent b.rank) b.given c.cells ms c b.store (begun.given ∙ sym there.1) begins.0 begun.fits (subst (λ n. At p code (c.place + 1) ls (take n e.others ++ ms)) (sym begins.1) at) q k)))
+          (enter_well e (AnEvent b.rank) b.given c.cells ms c b.store (begun.given ∙ sym there.1) begins.0 begun.fits (subst (λ n. AreFoundAt p code (c.place + 1) ls (take n e.others ++ ms)) (sym begins.1) at) q k)))
 
       -- or none
-      next_event_well : (h : ℕ) (ms : List Mode) (c : Core) → Fits p ls c.store → length ms ≡ h → At p code (c.place + 1) ls ms → Hold c.cells ms → FramesFit p code ls c.frames → (o : Option Coming) → next_event c.store ≡ o → Well (take_next code h o c)
+      next_event_well : (h : ℕ) (ms : List Mode) (c : Core) → IsFittingStore p ls c.store → length ms ≡ h → AreFoundAt p code (c.place + 1) ls ms → AreOfModes c.cells ms → AreFitFrames p code ls c.frames → (o : Option Coming) → next_event c.store ≡ o → Well (take_next code h o c)
       next_event_well h ms c fits high at q k None e = goes_to p typed code ls (c.place + 1) ms c.cells c.frames c.store at fits q k
       next_event_well h ms c fits high at q k (Some n) e = event_well h n ms c (coming c.store n e fits) high at q k
 
       -- ## Instructions
 
-      act_well : (l : Line) (x : Instruction) (c : Core) (ms : List Mode) → Suits p code c.place ls ms x → Fits p ls c.store → Hold c.cells ms → FramesFit p code ls c.frames → Well (act code l x c)
+      act_well : (l : Line) (x : Instruction) (c : Core) (ms : List Mode) → IsSuited p code c.place ls ms x → IsFittingStore p ls c.store → AreOfModes c.cells ms → AreFitFrames p code ls c.frames → Well (act code l x c)
       act_well l (i.Move from to) c ms g fits q k =
           value_well p typed code ls from g.0 ms g.1.0 c.store c.cells _ g.1.1 fits q (λ v below e h. give_on l to g.0 ms g.1.0 (Ok v) below c g.1.2 e fits h k)
       act_well l (i.Keep from x) c ms g fits q k =
@@ -410,7 +410,7 @@ module _ (p : Program) (typed : WellTyped p) (code : Code) where
           did_well p typed code Any l (if_ok (goes_on set w.next o c.store) (λ u. walk_at reverse set w.next c.store)) _
           (fine_then Any (goes_on set w.next o c.store) (λ u. walk_at reverse set w.next c.store) (goes_on_fine p typed ls set w.next o c.store ok fits) (λ u v. walk_fine reverse set w.next c.store (set_of p typed ls set o ok) fits)) (λ n u. further_well back w n g.1.2.0 below c g.1.2.2.0 g.1.2.2.1.at fits b k)))
       act_well l (i.Forget count) c ms g fits q k =
-          fit_well p typed code (λ (b : TakenOff). Hold b.below g.1) (take_off count c.cells []) _ (off_there g.0 g.1 count c.cells [] (q ∙ g.2) g.3) (λ b e.
+          fit_well p typed code (λ (b : TakenOff). AreOfModes b.below g.1) (take_off count c.cells []) _ (off_there g.0 g.1 count c.cells [] (q ∙ g.2) g.3) (λ b e.
           goes_to p typed code ls (c.place + 1) g.1 b.below c.frames c.store g.4 fits e k)
       act_well l (i.Call routine h) c ms g fits q k =
           subst (λ o. Well (fit o (λ (e : EntryPoint). with_block (length e.given) h c.cells (λ vs below. enter e (ARoutine routine) vs below c c.store)))) (sym g.1)
@@ -446,7 +446,7 @@ module _ (p : Program) (typed : WellTyped p) (code : Code) where
       act_well l (i.FileNotice class x time) c ms g fits q k =
           both_well p typed code ls x time Integer Integer ms g.1.0 c.store c.cells _ g.1.1 fits q (λ v t below hv ht h.
           change_on l (if_ok (number_of t) (λ t. filed_notice class v t c.store)) g.1.0 below c
-          (fine_then (Fits p ls) (number_of t) (λ t. filed_notice class v t c.store) (number_fine t ht) (λ z u. filed_notice_fine p typed ls class v z c.store g.0 hv fits)) g.1.2 h k)
+          (fine_then (IsFittingStore p ls) (number_of t) (λ t. filed_notice class v t c.store) (number_fine t ht) (λ z u. filed_notice_fine p typed ls class v z c.store g.0 hv fits)) g.1.2 h k)
       act_well l (i.Reschedule class x h given) c ms g fits q k =
           number_well p typed code ms g.0 c.cells _ g.2 q (λ time over a.
           block_well p typed code given h g.1 g.0 g.5.0 over _ g.5.1 (sym g.3) a (λ vs above hv b.
@@ -461,7 +461,7 @@ module _ (p : Program) (typed : WellTyped p) (code : Code) where
       act_well l (i.NextEvent back) c ms g fits q k = back_well p typed code ls back (is_awaited c.store) ms c.cells c g.0 g.1.at fits q k
       act_well l (i.Read m to) c ms g fits q k =
           give_with l to m ms ms (read_value m c.store) c.cells c g
-          (fine_turned (λ (b : Value × Store). (mode_of b.0 ≡ m) × Fits p ls b.1) (with_input c.store) (due (value_given m c.store.world.input)) (word_fine m c.store) (λ r e. (e, input_fits p typed ls true c.store r.rest fits))) q k
+          (fine_turned (λ (b : Value × Store). (mode_of b.0 ≡ m) × IsFittingStore p ls b.1) (with_input c.store) (due (value_given m c.store.world.input)) (word_fine m c.store) (λ r e. (e, input_fits p typed ls true c.store r.rest fits))) q k
       act_well l (i.Print lines h) c ms g fits q k =
           subst (λ o. Well (fit o (λ x. print_lines x h c))) (sym g.1)
           (block_well p typed code (cells_of_kinds g.0.items) h g.2.0 ms g.2.2.0 c.cells _ g.2.2.1 (kinds_many p g.0.items g.2.0 g.2.1) q (λ vs below hv b.
@@ -474,7 +474,7 @@ module _ (p : Program) (typed : WellTyped p) (code : Code) where
   -- ## Steps
 
   abbrev StepWell : Stepped → Type 0
-  StepWell (Goes t) = FitsCode p code t.core
+  StepWell (Goes t) = IsFitForCode p code t.core
   StepWell (Over e t) = Unit {0}
   StepWell NoStep = ⊥
 
@@ -490,7 +490,7 @@ module _ (p : Program) (typed : WellTyped p) (code : Code) where
   due_well true r zero m h = tt
   due_well true r (suc t) m h = rest_well r t m h
 
-  step_well : Shaped p code → (s : MachineState) → FitsCode p code s.core → StepWell (step code s)
+  step_well : IsShaped p code → (s : MachineState) → IsFitForCode p code s.core → StepWell (step code s)
   step_well shaped s d =
       let x : Placed = d.placed in
       subst (λ o. StepWell (step_at o code s)) (sym d.fits.there)
@@ -498,11 +498,11 @@ module _ (p : Program) (typed : WellTyped p) (code : Code) where
       (act_well x.locals shaped x.line x.instruction s.core x.cells (shaped.each s.core.place x d.fits.there) d.fits.store d.fits.cells d.fits.frames))
 
   -- and so does each state that is reached from one that suits its place
-  steps_well : Shaped p code → (m : ℕ) (s x : MachineState) → FitsCode p code s.core → steps code m s ≡ Underway x → FitsCode p code x.core
-  steps_well shaped zero s x d e = let same : s ≡ x = cc in subst (λ (t : MachineState). FitsCode p code t.core) same d
+  steps_well : IsShaped p code → (m : ℕ) (s x : MachineState) → IsFitForCode p code s.core → steps code m s ≡ Underway x → IsFitForCode p code x.core
+  steps_well shaped zero s x d e = let same : s ≡ x = cc in subst (λ (t : MachineState). IsFitForCode p code t.core) same d
   steps_well shaped (suc m) s x d e = by (step code s) (step_well shaped s d) (λ t h f. steps_well shaped m t x h f) e
     where
-      by : (r : Stepped) → StepWell r → ((t : MachineState) → FitsCode p code t.core → steps code m t ≡ Underway x → FitsCode p code x.core) → after_one_step r s (steps code m) ≡ Underway x → FitsCode p code x.core
+      by : (r : Stepped) → StepWell r → ((t : MachineState) → IsFitForCode p code t.core → steps code m t ≡ Underway x → IsFitForCode p code x.core) → after_one_step r s (steps code m) ≡ Underway x → IsFitForCode p code x.core
       by (Goes t) h again f = again t h f
       by (Over j t) h again f = absurd cc
       by NoStep h again f = absurd cc
@@ -513,12 +513,12 @@ shape_stays p typed s t d e = subst (StepWell p typed (code_of p)) e (step_well 
 pub states_suit : StatesSuit
 states_suit p typed input n m x e =
     let code : Code = code_of p in
-    let shaped : Shaped p code = has_shape p typed in
-    let first : FitsCode p code (start code input n).core = goes_to p typed code p.locals 0 [] [] [] (start code input n).core.store shaped.first (first_fits p input) refl tt in
+    let shaped : IsShaped p code = has_shape p typed in
+    let first : IsFitForCode p code (start code input n).core = goes_to p typed code p.locals 0 [] [] [] (start code input n).core.store shaped.first (first_fits p input) refl tt in
     steps_well p typed code shaped m (start code input n) x first e
 
 -- the machine is stuck in no state that suits its place
-pub fits_goes : (p : Program) → WellTyped p → (s : MachineState) → FitsCode p (code_of p) s.core → step (code_of p) s ≡ NoStep → ⊥
+pub fits_goes : (p : Program) → IsWellTyped p → (s : MachineState) → IsFitForCode p (code_of p) s.core → step (code_of p) s ≡ NoStep → ⊥
 fits_goes p typed s d e = subst (StepWell p typed (code_of p)) e (step_well p typed (code_of p) (has_shape p typed) s d)
 
 pub never_stuck : NeverStuck

@@ -16,7 +16,7 @@ use Rattle.ss_program.specs.declared.expression.Variable.TheVariants.{Global, Lo
 use Rattle.ss_base.specs.declared.words.GuardKind.{GuardKind}
 use Rattle.ss_base.specs.declared.words.GuardKind.TheVariants as guards
 use Rattle.ss_program.specs.Program.{Expression, Constant, Fetch, Attribute, OfSystemSet, OfSet, OfMember, Clock, TimeOf, Figure, FigureOf, Signed, Unary, Calculate, SetOwner, TheSystem, Entity, Test, Compare, DataEnded, Empty, Member, Condition, Guard, Program}
-use Rattle.ss_program.specs.WellTyped.{TypedScope, mode_at, field_mode, fields_of, owner_of_set, IsSet, HasMode, HaveModes, OwnerFits, GoodTest, GoodCondition}
+use Rattle.ss_program.specs.WellTyped.{TypedScope, mode_at, field_mode, fields_of, owner_of_set, IsSet, HasMode, HaveModes, IsTypedOwner, IsTypedTest, IsTypedCondition}
 use Rattle.ss_meaning.specs.Values.{operator_of}
 use Rattle.ss_meaning.proofs.Entities.{field_said}
 use Rattle.ss_code_instructions.specs.Instructions.{Operand, Taken, Bearer, Instruction, Placed}
@@ -25,7 +25,7 @@ use Rattle.ss_code_instructions.specs.Instructions as i
 use Rattle.ss_code_instructions.specs.Machine.{Code}
 use Rattle.ss_code_instructions.specs.States.{lies_above}
 use Rattle.ss_code_instructions.specs.Facts.{expression_of, may_fault}
-use Rattle.ss_code_instructions.specs.Shape.{GivesMode, GivesBy, GivesBoth, GivesBearer, Accepts, modes_onto, SetFits as BearerFits, At, Suits}
+use Rattle.ss_code_instructions.specs.Shape.{IsGivingMode, AreGivingBy, AreGivingBoth, IsGivingBearer, IsAccepting, modes_onto, IsSetBearer as BearerFits, AreFoundAt, IsSuited}
 use Rattle.ss_code_instructions.specs.Translation.{Site, place, next, leaf, or_cell, or_in_cell, expression_mode, or_integer, operand, operand_cells, after, unless_leaf, stay, expression_code, operand_code, with_operand, values_code, values_cells, looked_code, entity_code, member_code, with_owner, test_code, tests_code, alternatives_code, condition_code, negated_code, guard_code, guards_code}
 use Rattle.ss_code_instructions.proofs.Operands.{leaf_low, not_above}
 use Rattle.ss_code_instructions.proofs.Changing.{next_above, under_none}
@@ -48,7 +48,7 @@ owned_set p set o q = by (slice_get p.layout.sets set) refl q
     by None g h = absurd cc
     by (Some t) g h = (t, g)
 
-pub set_there : (s : TypedScope) (set : ℕ) (o : SetOwner) → OwnerFits s set o → IsSet s.program set
+pub set_there : (s : TypedScope) (set : ℕ) (o : SetOwner) → IsTypedOwner s set o → IsSet s.program set
 set_there s set TheSystem g = owned_set s.program set System g
 set_there s set (Entity e) g = owned_set s.program set (Class g.0.0) g.0.1
 
@@ -98,10 +98,10 @@ module _ (p : Program) (code : Code) (ls : List Mode) (b : Bool) where
 
   -- there is a place with these cells; and another one that is so many instructions on
   abbrev pub Onward : List Mode → ℕ → Type 0
-  Onward ms q = At p code q ls ms
+  Onward ms q = AreFoundAt p code q ls ms
 
   abbrev pub Fork : (skip : ℕ) → List Mode → ℕ → Type 0
-  Fork skip ms q = At p code q ls ms × At p code (q + skip) ls ms
+  Fork skip ms q = AreFoundAt p code q ls ms × AreFoundAt p code (q + skip) ls ms
 
   pub same_mode_at : (x : Variable) → mode_at view x ≡ mode_at here x
   same_mode_at (Global k) = refl
@@ -110,10 +110,10 @@ module _ (p : Program) (code : Code) (ls : List Mode) (b : Bool) where
   -- ## Operands
 
   -- a value in the topmost cell
-  pub cell_gives : (k m : Mode) (ms : List Mode) → k ≡ m → GivesMode view (Taken (length ms)) m (k ∷ ms) ms
+  pub cell_gives : (k m : Mode) (ms : List Mode) → k ≡ m → IsGivingMode view (Taken (length ms)) m (k ∷ ms) ms
   cell_gives k m ms e = (ap (λ n. n ∷ ms) e, refl)
 
-  pub gives : (l : Line) (e : Expression) (m : Mode) (ms : List Mode) → HasMode here e m → GivesMode view (operand (site l ms) e) m (operand_cells (site l ms) e) ms
+  pub gives : (l : Line) (e : Expression) (m : Mode) (ms : List Mode) → HasMode here e m → IsGivingMode view (operand (site l ms) e) m (operand_cells (site l ms) e) ms
   gives l (Constant v) m ms h = (h, refl)
   gives l (Fetch x) m ms h = (same_mode_at x ∙ h, refl)
   gives l (Attribute class field e) m ms h = cell_gives (expression_mode here (Attribute class field e)) m ms (mode_so here (Attribute class field e) m h)
@@ -129,12 +129,12 @@ module _ (p : Program) (code : Code) (ls : List Mode) (b : Bool) where
   gives l (Calculate op a c) m ms h = cell_gives Integer m ms (sym h.0)
 
   -- a constant and a variable are read where they are
-  pub leaf_gives : (l : Line) (e : Expression) (x : Operand) (m : Mode) (ms : List Mode) → leaf e ≡ Some x → HasMode here e m → GivesMode view x m ms ms
+  pub leaf_gives : (l : Line) (e : Expression) (x : Operand) (m : Mode) (ms : List Mode) → leaf e ≡ Some x → HasMode here e m → IsGivingMode view x m ms ms
   leaf_gives l e x m ms q h =
-      subst (λ o. GivesMode view (or_cell (length ms) o) m (or_in_cell o (expression_mode here e) ms) ms) q (gives l e m ms h)
+      subst (λ o. IsGivingMode view (or_cell (length ms) o) m (or_in_cell o (expression_mode here e) ms) ms) q (gives l e m ms h)
 
   -- an operand that stays, under further cells
-  pub stays : (l : Line) (e : Expression) (m : Mode) (more ms : List Mode) → HasMode here e m → GivesMode view (stay (operand (site l ms) e)) m (more ++ operand_cells (site l ms) e) (more ++ operand_cells (site l ms) e)
+  pub stays : (l : Line) (e : Expression) (m : Mode) (more ms : List Mode) → HasMode here e m → IsGivingMode view (stay (operand (site l ms) e)) m (more ++ operand_cells (site l ms) e) (more ++ operand_cells (site l ms) e)
   stays l (Constant v) m more ms h = (h, refl)
   stays l (Fetch x) m more ms h = (same_mode_at x ∙ h, refl)
   stays l (Attribute class field e) m more ms h = (under_cell more (length ms) (expression_mode here (Attribute class field e)) ms refl ∙ ap Some (mode_so here (Attribute class field e) m h), refl)
@@ -150,33 +150,33 @@ module _ (p : Program) (code : Code) (ls : List Mode) (b : Bool) where
   stays l (Calculate op a c) m more ms h = (under_cell more (length ms) Integer ms refl ∙ ap Some (sym h.0), refl)
 
   -- two operands that are read the second first, and the first first
-  pub second_first : (x y : Operand) (m n : Mode) (ms mid rest : List Mode) → lies_above x y ≡ false → GivesMode view y n ms mid → GivesMode view x m mid rest → GivesBoth view x y m n ms rest
-  second_first x y m n ms mid rest low gy gx = subst (λ z. GivesBy z view x y m n ms rest) (sym low) (mid, gy, gx)
+  pub second_first : (x y : Operand) (m n : Mode) (ms mid rest : List Mode) → lies_above x y ≡ false → IsGivingMode view y n ms mid → IsGivingMode view x m mid rest → AreGivingBoth view x y m n ms rest
+  second_first x y m n ms mid rest low gy gx = subst (λ z. AreGivingBy z view x y m n ms rest) (sym low) (mid, gy, gx)
 
-  pub first_first : (x y : Operand) (m n : Mode) (ms mid rest : List Mode) → lies_above x y ≡ true → GivesMode view x m ms mid → GivesMode view y n mid rest → GivesBoth view x y m n ms rest
-  first_first x y m n ms mid rest high gx gy = subst (λ z. GivesBy z view x y m n ms rest) (sym high) (mid, gx, gy)
+  pub first_first : (x y : Operand) (m n : Mode) (ms mid rest : List Mode) → lies_above x y ≡ true → IsGivingMode view x m ms mid → IsGivingMode view y n mid rest → AreGivingBoth view x y m n ms rest
+  first_first x y m n ms mid rest high gx gy = subst (λ z. AreGivingBy z view x y m n ms rest) (sym high) (mid, gx, gy)
 
   -- two expressions, and the instruction has them in their order
-  pub both_gives : (l : Line) (a c : Expression) (m n : Mode) (ms : List Mode) → HasMode here a m → HasMode here c n → GivesBoth view (operand (site l ms) a) (operand (site l (operand_cells (site l ms) a)) c) m n (operand_cells (site l (operand_cells (site l ms) a)) c) ms
+  pub both_gives : (l : Line) (a c : Expression) (m n : Mode) (ms : List Mode) → HasMode here a m → HasMode here c n → AreGivingBoth view (operand (site l ms) a) (operand (site l (operand_cells (site l ms) a)) c) m n (operand_cells (site l (operand_cells (site l ms) a)) c) ms
   both_gives l a c m n ms ha hc =
       second_first (operand (site l ms) a) (operand (site l (operand_cells (site l ms) a)) c) m n (operand_cells (site l (operand_cells (site l ms) a)) c) (operand_cells (site l ms) a) ms (not_above (site l ms) a c)
       (gives l c n (operand_cells (site l ms) a) hc) (gives l a m ms ha)
 
   -- an expression over a value in a cell, which the instruction has after it
-  pub over_cell : (l : Line) (r : Expression) (k m n : Mode) (ms : List Mode) → k ≡ n → HasMode here r m → GivesBoth view (operand (site l (k ∷ ms)) r) (Taken (length ms)) m n (operand_cells (site l (k ∷ ms)) r) ms
+  pub over_cell : (l : Line) (r : Expression) (k m n : Mode) (ms : List Mode) → k ≡ n → HasMode here r m → AreGivingBoth view (operand (site l (k ∷ ms)) r) (Taken (length ms)) m n (operand_cells (site l (k ∷ ms)) r) ms
   over_cell l r k m n ms e h = by (leaf r) refl
     where
-      by : (o : Option Operand) → leaf r ≡ o → GivesBoth view (or_cell (length (k ∷ ms)) o) (Taken (length ms)) m n (or_in_cell o (expression_mode here r) (k ∷ ms)) ms
+      by : (o : Option Operand) → leaf r ≡ o → AreGivingBoth view (or_cell (length (k ∷ ms)) o) (Taken (length ms)) m n (or_in_cell o (expression_mode here r) (k ∷ ms)) ms
       by (Some x) q = second_first x (Taken (length ms)) m n (k ∷ ms) ms ms (leaf_low r x (Taken (length ms)) q) (cell_gives k n ms e) (leaf_gives l r x m ms q h)
       by None q =
           first_first (Taken (length (k ∷ ms))) (Taken (length ms)) m n (expression_mode here r ∷ (k ∷ ms)) (k ∷ ms) ms (next_above (length ms))
           (cell_gives (expression_mode here r) m (k ∷ ms) (mode_so here r m h)) (cell_gives k n ms e)
 
   -- two expressions, and the instruction has the later one first
-  pub turned_gives : (l : Line) (e r : Expression) (m n : Mode) (ms : List Mode) → HasMode here e n → HasMode here r m → GivesBoth view (operand (site l (operand_cells (site l ms) e)) r) (operand (site l ms) e) m n (operand_cells (site l (operand_cells (site l ms) e)) r) ms
+  pub turned_gives : (l : Line) (e r : Expression) (m n : Mode) (ms : List Mode) → HasMode here e n → HasMode here r m → AreGivingBoth view (operand (site l (operand_cells (site l ms) e)) r) (operand (site l ms) e) m n (operand_cells (site l (operand_cells (site l ms) e)) r) ms
   turned_gives l e r m n ms he hr = by (leaf e) refl
     where
-      by : (o : Option Operand) → leaf e ≡ o → GivesBoth view (operand (site l (or_in_cell o (expression_mode here e) ms)) r) (or_cell (length ms) o) m n (operand_cells (site l (or_in_cell o (expression_mode here e) ms)) r) ms
+      by : (o : Option Operand) → leaf e ≡ o → AreGivingBoth view (operand (site l (or_in_cell o (expression_mode here e) ms)) r) (or_cell (length ms) o) m n (operand_cells (site l (or_in_cell o (expression_mode here e) ms)) r) ms
       by (Some y) q =
           second_first (operand (site l ms) r) y m n (operand_cells (site l ms) r) (operand_cells (site l ms) r) ms (under_none e (operand (site l ms) r) y q)
           (leaf_gives l e y n (operand_cells (site l ms) r) q he) (gives l r m ms hr)
@@ -196,17 +196,17 @@ module _ (p : Program) (code : Code) (ls : List Mode) (b : Bool) where
       by None = r
 
   -- and an instruction that reads it
-  leaf_then : (to : ℕ → Type 0) (l : Line) (e : Expression) (ms : List Mode) (make : Operand → Instruction) → InCell l e ms → ((q : ℕ) → to (q + 1) → Suits p code q ls (operand_cells (site l ms) e) (make (operand (site l ms) e))) → Shapes p code (Onward ms) (with_operand (site l ms) e make) to
+  leaf_then : (to : ℕ → Type 0) (l : Line) (e : Expression) (ms : List Mode) (make : Operand → Instruction) → InCell l e ms → ((q : ℕ) → to (q + 1) → IsSuited p code q ls (operand_cells (site l ms) e) (make (operand (site l ms) e))) → Shapes p code (Onward ms) (with_operand (site l ms) e make) to
   leaf_then to l e ms make r f = seq (leaf_shapes l e ms r) (one p code to (place (after (site l ms) e) (make (operand (site l ms) e))) f)
 
   -- a value of an expression's mode may go in a new cell
   in_cell : (e : Expression) (m : Mode) (ms : List Mode) → HasMode here e m → (expression_mode here e ∷ ms ≡ m ∷ ms) × (length ms ≡ length ms)
   in_cell e m ms h = (ap (λ n. n ∷ ms) (mode_so here e m h), refl)
 
-  takes_number : (to : To) (m : Mode) (ms rest : List Mode) → m ≡ Integer → Accepts view to m ms rest → Accepts view to Integer ms rest
-  takes_number to m ms rest e a = subst (λ n. Accepts view to n ms rest) e a
+  takes_number : (to : To) (m : Mode) (ms rest : List Mode) → m ≡ Integer → IsAccepting view to m ms rest → IsAccepting view to Integer ms rest
+  takes_number to m ms rest e a = subst (λ n. IsAccepting view to n ms rest) e a
 
-  pub expression_shapes : (l : Line) (e : Expression) (m : Mode) (ms rest : List Mode) (to : To) → HasMode here e m → Accepts view to m ms rest → Shapes p code (Onward ms) (expression_code (site l ms) to e) (Onward rest)
+  pub expression_shapes : (l : Line) (e : Expression) (m : Mode) (ms rest : List Mode) (to : To) → HasMode here e m → IsAccepting view to m ms rest → Shapes p code (Onward ms) (expression_code (site l ms) to e) (Onward rest)
   expression_shapes l (Constant v) m ms rest to h a =
       one p code (Onward rest) (place (site l ms) (i.Move (i.Constant v) to)) (λ q end. (m, (ms, (h, refl), (rest, a, end))))
   expression_shapes l (Fetch x) m ms rest to h a =
@@ -255,7 +255,7 @@ module _ (p : Program) (code : Code) (ls : List Mode) (b : Bool) where
   operand_shapes l e m ms h = leaf_shapes l e ms (at_own_mode l e m ms h)
 
   -- an operand, and an instruction that reads it
-  pub operand_then : (to : ℕ → Type 0) (l : Line) (e : Expression) (m : Mode) (ms : List Mode) (make : Operand → Instruction) → HasMode here e m → ((q : ℕ) → to (q + 1) → Suits p code q ls (operand_cells (site l ms) e) (make (operand (site l ms) e))) → Shapes p code (Onward ms) (with_operand (site l ms) e make) to
+  pub operand_then : (to : ℕ → Type 0) (l : Line) (e : Expression) (m : Mode) (ms : List Mode) (make : Operand → Instruction) → HasMode here e m → ((q : ℕ) → to (q + 1) → IsSuited p code q ls (operand_cells (site l ms) e) (make (operand (site l ms) e))) → Shapes p code (Onward ms) (with_operand (site l ms) e make) to
   operand_then to l e m ms make h f = leaf_then to l e ms make (at_own_mode l e m ms h) f
 
   -- values in cells, one above the other
@@ -268,7 +268,7 @@ module _ (p : Program) (code : Code) (ls : List Mode) (b : Bool) where
   -- ## References
 
   -- a reference that may be looked at
-  looked_shapes : (l : Line) (looked : Bool) (e : Expression) (ms : List Mode) (look : Operand → Instruction) → HasMode here e Integer → ((q : ℕ) → At p code (q + 1) ls (operand_cells (site l ms) e) → Suits p code q ls (operand_cells (site l ms) e) (look (stay (operand (site l ms) e)))) → Shapes p code (Onward ms) (looked_code (site l ms) looked e look) (Onward (operand_cells (site l ms) e))
+  looked_shapes : (l : Line) (looked : Bool) (e : Expression) (ms : List Mode) (look : Operand → Instruction) → HasMode here e Integer → ((q : ℕ) → AreFoundAt p code (q + 1) ls (operand_cells (site l ms) e) → IsSuited p code q ls (operand_cells (site l ms) e) (look (stay (operand (site l ms) e)))) → Shapes p code (Onward ms) (looked_code (site l ms) looked e look) (Onward (operand_cells (site l ms) e))
   looked_shapes l false e ms look h f = operand_shapes l e Integer ms h
   looked_shapes l true e ms look h f = operand_then (Onward (operand_cells (site l ms) e)) l e Integer ms (λ x. look (stay x)) h f
 
@@ -281,7 +281,7 @@ module _ (p : Program) (code : Code) (ls : List Mode) (b : Bool) where
       looked_shapes l looked e ms (i.LookMember set) h (λ q end. (known, (operand_cells (site l ms) e, stays l e Integer [] ms h, end)))
 
   -- an owner, and an instruction that reads it
-  pub owner_then : (to : ℕ → Type 0) (l : Line) (set : ℕ) (o : SetOwner) (ms : List Mode) (make : Bearer → Instruction) → OwnerFits here set o → ((x : Bearer) (cells : List Mode) (q : ℕ) → BearerFits p set x → GivesBearer view x cells ms → to (q + 1) → Suits p code q ls cells (make x)) → Shapes p code (Onward ms) (with_owner (site l ms) o make) to
+  pub owner_then : (to : ℕ → Type 0) (l : Line) (set : ℕ) (o : SetOwner) (ms : List Mode) (make : Bearer → Instruction) → IsTypedOwner here set o → ((x : Bearer) (cells : List Mode) (q : ℕ) → BearerFits p set x → IsGivingBearer view x cells ms → to (q + 1) → IsSuited p code q ls cells (make x)) → Shapes p code (Onward ms) (with_owner (site l ms) o make) to
   owner_then to l set TheSystem ms make g f = one p code to (place (site l ms) (make None)) (λ q end. f None ms q g refl end)
   owner_then to l set (Entity e) ms make g f =
       operand_then to l e Integer ms (λ x. make (Some x)) g.1 (λ q end. f (Some (operand (site l ms) e)) (operand_cells (site l ms) e) q g.0 (gives l e Integer ms g.1) end)
@@ -294,7 +294,7 @@ module _ (p : Program) (code : Code) (ls : List Mode) (b : Bool) where
       lead p code (Onward ms) (Fork (length c + skip) ms) (Fork skip ms) c (λ q at end.
       let e : q + length c + skip ≡ q + (length c + skip) = omega arith in (at, moved p code e end.1)) r
 
-  pub test_shapes : (l : Line) (ms : List Mode) (skip : ℕ) (t : Test) → GoodTest here t → Shapes p code (Onward ms) (test_code (site l ms) skip t) (Fork skip ms)
+  pub test_shapes : (l : Line) (ms : List Mode) (skip : ℕ) (t : Test) → IsTypedTest here t → Shapes p code (Onward ms) (test_code (site l ms) skip t) (Fork skip ms)
   test_shapes l ms skip (Compare relation a c) g =
       let mid : List Mode = operand_cells (site l ms) a in
       seq (operand_shapes l a g.0 ms g.1) (operand_then (Fork skip ms) l c g.0 mid (λ y. i.Unless relation (operand (site l ms) a) y skip) g.2 (λ q end. (g.0, (ms, both_gives l a c g.0 g.0 ms g.1 g.2, end))))
@@ -306,37 +306,37 @@ module _ (p : Program) (code : Code) (ls : List Mode) (b : Bool) where
       seq (member_shapes l (may_fault (expression_of o)) set e ms (set_there here set o g.1) g.0) (owner_then (Fork skip ms) l set o mid (λ x. i.UnlessMember negated set (operand (site l ms) e) x skip) g.1 (λ x cells q fits reads end.
       (fits, (mid, reads, (ms, gives l e Integer ms g.0, end)))))
 
-  pub tests_shapes : (l : Line) (ms : List Mode) (skip : ℕ) (xs : List Test) → Every (GoodTest here) xs → Shapes p code (Onward ms) (tests_code (site l ms) skip xs) (Fork skip ms)
+  pub tests_shapes : (l : Line) (ms : List Mode) (skip : ℕ) (xs : List Test) → Every (IsTypedTest here) xs → Shapes p code (Onward ms) (tests_code (site l ms) skip xs) (Fork skip ms)
   tests_shapes l ms skip [] g = lead p code (Fork skip ms) (Onward ms) (Fork skip ms) [] (λ q at end. at.0) (none p code (Fork skip ms))
   tests_shapes l ms skip (x ∷ xs) g =
       let later : List Placed = tests_code (site l ms) skip xs in
       seq (test_shapes l ms (length later + skip) x g.0) (forked skip ms later (tests_shapes l ms skip xs g.1))
 
-  pub alternatives_shapes : (l : Line) (ms : List Mode) (skip : ℕ) (xs : List Test) (others : List (List Test)) → Every (GoodTest here) xs → GoodCondition here others → Shapes p code (Onward ms) (alternatives_code (site l ms) skip xs others) (Fork skip ms)
+  pub alternatives_shapes : (l : Line) (ms : List Mode) (skip : ℕ) (xs : List Test) (others : List (List Test)) → Every (IsTypedTest here) xs → IsTypedCondition here others → Shapes p code (Onward ms) (alternatives_code (site l ms) skip xs others) (Fork skip ms)
   alternatives_shapes l ms skip xs [] g h = tests_shapes l ms skip xs g
   alternatives_shapes l ms skip xs (ys ∷ others) g h =
       let later : List Placed = alternatives_code (site l ms) skip ys others in
       seq (tests_shapes l ms 1 xs g)
       (put_before p code (Onward ms) (Fork skip ms) (place (site l ms) (i.Jump (length later))) later (λ q at end. end.0) (alternatives_shapes l ms skip ys others h.0 h.1))
 
-  pub condition_shapes : (l : Line) (ms : List Mode) (skip : ℕ) (c : Condition) → GoodCondition here c → Shapes p code (Onward ms) (condition_code (site l ms) skip c) (Fork skip ms)
+  pub condition_shapes : (l : Line) (ms : List Mode) (skip : ℕ) (c : Condition) → IsTypedCondition here c → Shapes p code (Onward ms) (condition_code (site l ms) skip c) (Fork skip ms)
   condition_shapes l ms skip [] g = one p code (Fork skip ms) (place (site l ms) (i.Jump skip)) (λ q end. end.1)
   condition_shapes l ms skip (xs ∷ others) g = alternatives_shapes l ms skip xs others g.0 g.1
 
   -- a jump at which a condition holds that must not
   away : (l : Line) (ms : List Mode) (skip : ℕ) → Shapes p code (Fork 1 ms) (place (site l ms) (i.Jump skip) ∷ []) (Fork skip ms)
   away l ms skip =
-      lead p code (λ q. At p code q ls ms × Fork skip ms (q + 1)) (Fork 1 ms) (Fork skip ms) (place (site l ms) (i.Jump skip) ∷ []) (λ q at end. (at.0, at.1.0))
+      lead p code (λ q. AreFoundAt p code q ls ms × Fork skip ms (q + 1)) (Fork 1 ms) (Fork skip ms) (place (site l ms) (i.Jump skip) ∷ []) (λ q at end. (at.0, at.1.0))
       (put_before p code (Fork skip ms) (Fork skip ms) (place (site l ms) (i.Jump skip)) [] (λ q at end. at.1) (none p code (Fork skip ms)))
 
-  pub negated_shapes : (l : Line) (ms : List Mode) (skip : ℕ) (c : Condition) → GoodCondition here c → Shapes p code (Onward ms) (negated_code (site l ms) skip c) (Fork skip ms)
+  pub negated_shapes : (l : Line) (ms : List Mode) (skip : ℕ) (c : Condition) → IsTypedCondition here c → Shapes p code (Onward ms) (negated_code (site l ms) skip c) (Fork skip ms)
   negated_shapes l ms skip c g = seq (condition_shapes l ms 1 c g) (away l ms skip)
 
-  guard_shapes : (l : Line) (ms : List Mode) (skip : ℕ) (kind : GuardKind) (c : Condition) → GoodCondition here c → Shapes p code (Onward ms) (guard_code (site l ms) skip kind c) (Fork skip ms)
+  guard_shapes : (l : Line) (ms : List Mode) (skip : ℕ) (kind : GuardKind) (c : Condition) → IsTypedCondition here c → Shapes p code (Onward ms) (guard_code (site l ms) skip kind c) (Fork skip ms)
   guard_shapes l ms skip guards.While c g = condition_shapes l ms skip c g
   guard_shapes l ms skip guards.Until c g = negated_shapes l ms skip c g
 
-  pub guards_shapes : (l : Line) (ms : List Mode) (skip : ℕ) (gs : List Guard) → Every (λ (g : Guard). GoodCondition here g.condition) gs → Shapes p code (Onward ms) (guards_code (site l ms) skip gs) (Fork skip ms)
+  pub guards_shapes : (l : Line) (ms : List Mode) (skip : ℕ) (gs : List Guard) → Every (λ (g : Guard). IsTypedCondition here g.condition) gs → Shapes p code (Onward ms) (guards_code (site l ms) skip gs) (Fork skip ms)
   guards_shapes l ms skip [] h = lead p code (Fork skip ms) (Onward ms) (Fork skip ms) [] (λ q at end. at.0) (none p code (Fork skip ms))
   guards_shapes l ms skip (g ∷ gs) h =
       let later : List Placed = guards_code (site l ms) skip gs in

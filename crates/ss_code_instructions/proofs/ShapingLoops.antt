@@ -11,13 +11,13 @@ use Rattle.ss_program.specs.declared.expression.Variable.{Variable}
 use Rattle.ss_base.specs.declared.words.PhraseKind.{PhraseKind}
 use Rattle.ss_base.specs.declared.words.PhraseKind.TheVariants as kinds
 use Rattle.ss_program.specs.Program.{Expression, SetOwner, TheSystem, Entity, Condition, Head, Numbers, Members, Each, Start, AtEnd, From, After, Phrase, Guard, Program}
-use Rattle.ss_program.specs.WellTyped.{TypedScope, WellTyped, mode_at, HasMode, OwnerFits, GoodCondition, GoodStart, GoodHead, GoodPhrase}
+use Rattle.ss_program.specs.WellTyped.{TypedScope, IsWellTyped, mode_at, HasMode, IsTypedOwner, IsTypedCondition, IsTypedStart, IsTypedHead, IsTypedPhrase}
 use Rattle.ss_code_instructions.specs.Instructions.{Bearer, Instruction, Placed}
 use Rattle.ss_code_instructions.specs.Instructions as i
 use Rattle.ss_code_instructions.specs.Machine.{Code}
 use Rattle.ss_code_instructions.specs.States.{cell_at}
 use Rattle.ss_code_instructions.specs.Facts.{is_watched}
-use Rattle.ss_code_instructions.specs.Shape.{GivesBearer, HasOnTop, loop_modes, walk_modes, SetFits as BearerFits, DueAt, Suits}
+use Rattle.ss_code_instructions.specs.Shape.{IsGivingBearer, HasOnTop, loop_modes, walk_modes, IsSetBearer as BearerFits, IsDueAt, IsSuited}
 use Rattle.ss_code_instructions.specs.Translation.{Site, place, next, expression_code, forget, forget_to, guards_code, if_code, loop_code, phrase_code, phrases_code, owner_cells, owner_kept, walk_loop, loop_cells, in_loop, turns_code, step_code, range_code, owner_code, start_code, begin_code, for_code, find_code}
 use Rattle.ss_code_instructions.proofs.Forgetting.{two_more, three_more}
 use Rattle.ss_code_instructions.proofs.Stacked.{under_cell}
@@ -25,7 +25,7 @@ use Rattle.ss_code_instructions.proofs.Suiting.{Shapes, seq, none, one, put_befo
 use Rattle.ss_code_instructions.proofs.Shaping.{here, view, site, Onward, Fork, cell_shapes, condition_shapes, negated_shapes, guards_shapes}
 use Rattle.ss_code_instructions.proofs.ShapingPlaces.{plain_mode}
 
-module _ (p : Program) (typed : WellTyped p) (code : Code) (ls : List Mode) (b : Bool) where
+module _ (p : Program) (typed : IsWellTyped p) (code : Code) (ls : List Mode) (b : Bool) where
   -- the section's variables, and how Shape sees them; sites in the section; and places with such cells
   abbrev section_scope : TypedScope
   section_scope = here p code ls b
@@ -50,14 +50,14 @@ module _ (p : Program) (typed : WellTyped p) (code : Code) (ls : List Mode) (b :
   Later more q = more (q + 1)
 
   abbrev Backed : (ℕ → Type 0) → (k : ℕ) → List Mode → ℕ → Type 0
-  Backed to k ms q = to q × DueAt p code (q - (k + 1)) ls ms
+  Backed to k ms q = to q × IsDueAt p code (q - (k + 1)) ls ms
 
-  one_back : (k q : ℕ) (ms : List Mode) → DueAt p code ((q + 1) - (k + 1)) ls ms → DueAt p code (q - k) ls ms
-  one_back k q ms due = let e : (q + 1) - (k + 1) ≡ q - k = omega arith in subst (λ j. DueAt p code j ls ms) e due
+  one_back : (k q : ℕ) (ms : List Mode) → IsDueAt p code ((q + 1) - (k + 1)) ls ms → IsDueAt p code (q - k) ls ms
+  one_back k q ms due = let e : (q + 1) - (k + 1) ≡ q - k = omega arith in subst (λ j. IsDueAt p code j ls ms) e due
 
   -- ## IF
 
-  pub if_shapes : (l : Line) (ms : List Mode) (c : Condition) (holds_side other_side : List Placed) → GoodCondition section_scope c → Shapes p code (Comes ms) holds_side (Comes ms) → Shapes p code (Comes ms) other_side (Comes ms) → Shapes p code (Comes ms) (if_code (at_site l ms) c holds_side other_side) (Comes ms)
+  pub if_shapes : (l : Line) (ms : List Mode) (c : Condition) (holds_side other_side : List Placed) → IsTypedCondition section_scope c → Shapes p code (Comes ms) holds_side (Comes ms) → Shapes p code (Comes ms) other_side (Comes ms) → Shapes p code (Comes ms) (if_code (at_site l ms) c holds_side other_side) (Comes ms)
   if_shapes l ms c holds_side [] g r t =
       seq (condition_shapes p code ls b l ms (length holds_side) c g) (lead p code (Comes ms) (Ways (length holds_side) ms) (Comes ms) holds_side (λ q at end. (at, end)) r)
   if_shapes l ms c holds_side (x ∷ other_side) g r t =
@@ -69,7 +69,7 @@ module _ (p : Program) (typed : WellTyped p) (code : Code) (ls : List Mode) (b :
 
   -- ## Loops led by WHILE and UNTIL
 
-  pub loop_shapes : (l : Line) (ms : List Mode) (gs : List Guard) (body : List Placed) → Every (λ (g : Guard). GoodCondition section_scope g.condition) gs → Shapes p code (Comes ms) body (Comes ms) → Shapes p code (Comes ms) (loop_code (at_site l ms) gs body) (Comes ms)
+  pub loop_shapes : (l : Line) (ms : List Mode) (gs : List Guard) (body : List Placed) → Every (λ (g : Guard). IsTypedCondition section_scope g.condition) gs → Shapes p code (Comes ms) body (Comes ms) → Shapes p code (Comes ms) (loop_code (at_site l ms) gs body) (Comes ms)
   loop_shapes l ms gs body g r =
       let again : List Placed = guards_code (at_site l ms) 1 gs in
       let back : ℕ = length body + length again + 1 in
@@ -92,7 +92,7 @@ module _ (p : Program) (typed : WellTyped p) (code : Code) (ls : List Mode) (b :
   abbrev Three : (rest : ℕ) → List Mode → ℕ → Type 0
   Three rest ms q = Ways rest ms q × Comes ms (q + (rest + 1))
 
-  phrase_shapes : (l : Line) (ms : List Mode) (rest : ℕ) (kind : PhraseKind) (c : Condition) → GoodCondition section_scope c → Shapes p code (Comes ms) (phrase_code (at_site l ms) rest kind c) (Three rest ms)
+  phrase_shapes : (l : Line) (ms : List Mode) (rest : ℕ) (kind : PhraseKind) (c : Condition) → IsTypedCondition section_scope c → Shapes p code (Comes ms) (phrase_code (at_site l ms) rest kind c) (Three rest ms)
   phrase_shapes l ms rest kinds.With c g =
       ending p code (Comes ms) (Ways rest ms) (Three rest ms) (phrase_code (at_site l ms) rest kinds.With c) (λ q end. end.0) (condition_shapes p code ls b l ms rest c g)
   phrase_shapes l ms rest kinds.Unless c g =
@@ -102,7 +102,7 @@ module _ (p : Program) (typed : WellTyped p) (code : Code) (ls : List Mode) (b :
   phrase_shapes l ms rest kinds.Until c g =
       ending p code (Comes ms) (Ways (rest + 1) ms) (Three rest ms) (phrase_code (at_site l ms) rest kinds.Until c) (λ q end. (end.0.0, end.1)) (negated_shapes p code ls b l ms (rest + 1) c g)
 
-  pub phrases_shapes : (l : Line) (ms : List Mode) (to : ℕ → Type 0) (ps : List Phrase) (turn : List Placed) → Every (GoodPhrase section_scope) ps → ((q : ℕ) → to q → Ways 1 ms q) → Shapes p code (Comes ms) turn to → Shapes p code (Comes ms) (phrases_code (at_site l ms) ps turn) to
+  pub phrases_shapes : (l : Line) (ms : List Mode) (to : ℕ → Type 0) (ps : List Phrase) (turn : List Placed) → Every (IsTypedPhrase section_scope) ps → ((q : ℕ) → to q → Ways 1 ms q) → Shapes p code (Comes ms) turn to → Shapes p code (Comes ms) (phrases_code (at_site l ms) ps turn) to
   phrases_shapes l ms to [] turn g ends r = r
   phrases_shapes l ms to (x ∷ ps) turn g ends r =
       let later : List Placed = phrases_code (at_site l ms) ps turn in
@@ -128,14 +128,14 @@ module _ (p : Program) (typed : WellTyped p) (code : Code) (ls : List Mode) (b :
       keep p code (Comes ((m ∷ gone) ++ ms)) (Comes ms) more (forget (at_site l ((m ∷ gone) ++ ms)) (suc k)) (forgets l m gone ms (suc k) e)
 
   -- an instruction that goes on with the next turn, after this one
-  goes_on : (l : Line) (ms : List Mode) (turn : List Placed) (again : ℕ → Instruction) (to : ℕ → Type 0) (k : ℕ) → ((k q : ℕ) → DueAt p code (q - k) ls ms → to (q + 1) → Suits p code q ls ms (again k)) → Shapes p code (Comes ms) turn (And ms (Later to)) → Shapes p code (Comes ms) (turn ++ (place (at_site l ms) (again k) ∷ [])) (Backed to k ms)
+  goes_on : (l : Line) (ms : List Mode) (turn : List Placed) (again : ℕ → Instruction) (to : ℕ → Type 0) (k : ℕ) → ((k q : ℕ) → IsDueAt p code (q - k) ls ms → to (q + 1) → IsSuited p code q ls ms (again k)) → Shapes p code (Comes ms) turn (And ms (Later to)) → Shapes p code (Comes ms) (turn ++ (place (at_site l ms) (again k) ∷ [])) (Backed to k ms)
   goes_on l ms turn again to k suits r =
       seq r
       (lead p code (Comes ms) (And ms (Later to)) (Backed to k ms) (place (at_site l ms) (again k) ∷ []) (λ q at end. (at, end.0))
       (one p code (Backed to k ms) (place (at_site l ms) (again k)) (λ q end. suits k q (one_back k q ms end.1) end.0)))
 
   -- the tick of an item or a member, the turn, and on to the next one
-  turns_shapes : (l : Line) (ms : List Mode) (h : ℕ) (x : Variable) (turn : List Placed) (again : ℕ → Instruction) (to : ℕ → Type 0) → cell_at h ms ≡ Some Integer → mode_at shape_scope x ≡ Some Integer → ((k q : ℕ) → DueAt p code (q - k) ls ms → to (q + 1) → Suits p code q ls ms (again k)) → Shapes p code (Comes ms) turn (And ms (Later to)) → Shapes p code (Comes ms) (turns_code (at_site l ms) h x turn again) to
+  turns_shapes : (l : Line) (ms : List Mode) (h : ℕ) (x : Variable) (turn : List Placed) (again : ℕ → Instruction) (to : ℕ → Type 0) → cell_at h ms ≡ Some Integer → mode_at shape_scope x ≡ Some Integer → ((k q : ℕ) → IsDueAt p code (q - k) ls ms → to (q + 1) → IsSuited p code q ls ms (again k)) → Shapes p code (Comes ms) turn (And ms (Later to)) → Shapes p code (Comes ms) (turns_code (at_site l ms) h x turn again) to
   turns_shapes l ms h x turn again to cell mode suits r = by (is_watched p.statistics x) refl
     where
       taken : is_watched p.statistics x ≡ false → Shapes p code (Comes ms) (place (at_site l ms) (i.Take h x) ∷ (turn ++ (place (at_site l ms) (again (1 + length turn)) ∷ []))) to
@@ -164,7 +164,7 @@ module _ (p : Program) (typed : WellTyped p) (code : Code) (ls : List Mode) (b :
   TurnEnds ms more q = Comes ms q × (Comes ms (q + 1) × more (q + 2))
 
   -- the turns, and what is forgotten after them: it is known where both begin
-  rounds : (l : Line) (m : Mode) (gone ms : List Mode) (count h : ℕ) (x : Variable) (turn : List Placed) (again : ℕ → Instruction) (more : ℕ → Type 0) → count ≡ suc (length gone) → cell_at h ((m ∷ gone) ++ ms) ≡ Some Integer → mode_at shape_scope x ≡ Some Integer → ((k q : ℕ) → DueAt p code (q - k) ls ((m ∷ gone) ++ ms) → Comes ((m ∷ gone) ++ ms) (q + 1) → Suits p code q ls ((m ∷ gone) ++ ms) (again k)) → Shapes p code (Comes ((m ∷ gone) ++ ms)) turn (TurnEnds ((m ∷ gone) ++ ms) more) → Shapes p code (Ways (length (turns_code (at_site l ((m ∷ gone) ++ ms)) h x turn again)) ((m ∷ gone) ++ ms)) (turns_code (at_site l ((m ∷ gone) ++ ms)) h x turn again ++ forget (at_site l ((m ∷ gone) ++ ms)) count) (And ms more)
+  rounds : (l : Line) (m : Mode) (gone ms : List Mode) (count h : ℕ) (x : Variable) (turn : List Placed) (again : ℕ → Instruction) (more : ℕ → Type 0) → count ≡ suc (length gone) → cell_at h ((m ∷ gone) ++ ms) ≡ Some Integer → mode_at shape_scope x ≡ Some Integer → ((k q : ℕ) → IsDueAt p code (q - k) ls ((m ∷ gone) ++ ms) → Comes ((m ∷ gone) ++ ms) (q + 1) → IsSuited p code q ls ((m ∷ gone) ++ ms) (again k)) → Shapes p code (Comes ((m ∷ gone) ++ ms)) turn (TurnEnds ((m ∷ gone) ++ ms) more) → Shapes p code (Ways (length (turns_code (at_site l ((m ∷ gone) ++ ms)) h x turn again)) ((m ∷ gone) ++ ms)) (turns_code (at_site l ((m ∷ gone) ++ ms)) h x turn again ++ forget (at_site l ((m ∷ gone) ++ ms)) count) (And ms more)
   rounds l m gone ms count h x turn again more e cell mode suits r =
       let all : List Mode = (m ∷ gone) ++ ms in
       let turns : List Placed = turns_code (at_site l all) h x turn again in
@@ -188,7 +188,7 @@ module _ (p : Program) (typed : WellTyped p) (code : Code) (ls : List Mode) (b :
       (λ k q due end. (ms, number_block ms, (end, due))) r
 
   -- an instruction that begins a loop, before its turns and what comes after them
-  begun : (l : Line) (cells inner : List Mode) (x : Instruction) (skip : ℕ) (c : List Placed) (to : ℕ → Type 0) → ((q : ℕ) → Ways skip inner (q + 1) → Suits p code q ls cells x) → Shapes p code (Ways skip inner) c to → Shapes p code (Comes cells) (place (at_site l cells) x ∷ c) to
+  begun : (l : Line) (cells inner : List Mode) (x : Instruction) (skip : ℕ) (c : List Placed) (to : ℕ → Type 0) → ((q : ℕ) → Ways skip inner (q + 1) → IsSuited p code q ls cells x) → Shapes p code (Ways skip inner) c to → Shapes p code (Comes cells) (place (at_site l cells) x ∷ c) to
   begun l cells inner x skip c to suits r =
       lead p code (λ q. Comes cells q × Ways skip inner (q + 1)) (Comes cells) to (place (at_site l cells) x ∷ c) (λ q at end. at.0)
       (put_before p code (Ways skip inner) to (place (at_site l cells) x) c (λ q at end. suits q at) r)
@@ -213,13 +213,13 @@ module _ (p : Program) (typed : WellTyped p) (code : Code) (ls : List Mode) (b :
   -- an owner that stays in its cell, if it has one
   record Keeps (set : ℕ) (o : Bearer) (cells : List Mode) : Type 0 where
     fits : BearerFits p set o
-    reads : GivesBearer shape_scope o cells cells
+    reads : IsGivingBearer shape_scope o cells cells
 
-  owner_keeps : (l : Line) (set : ℕ) (o : SetOwner) (ms : List Mode) → OwnerFits section_scope set o → Keeps set (owner_kept (at_site l ms) o) (owner_cells (at_site l ms) o)
+  owner_keeps : (l : Line) (set : ℕ) (o : SetOwner) (ms : List Mode) → IsTypedOwner section_scope set o → Keeps set (owner_kept (at_site l ms) o) (owner_cells (at_site l ms) o)
   owner_keeps l set TheSystem ms g = record { fits = g; reads = refl }
   owner_keeps l set (Entity e) ms g = record { fits = g.0; reads = (under_cell [] (length ms) Integer ms refl, refl) }
 
-  owner_shapes : (l : Line) (set : ℕ) (o : SetOwner) (ms : List Mode) → OwnerFits section_scope set o → Shapes p code (Comes ms) (owner_code (at_site l ms) o) (Comes (owner_cells (at_site l ms) o))
+  owner_shapes : (l : Line) (set : ℕ) (o : SetOwner) (ms : List Mode) → IsTypedOwner section_scope set o → Shapes p code (Comes ms) (owner_code (at_site l ms) o) (Comes (owner_cells (at_site l ms) o))
   owner_shapes l set TheSystem ms g = none p code (Comes ms)
   owner_shapes l set (Entity e) ms g = cell_shapes p code ls b l e Integer ms g.1
 
@@ -237,7 +237,7 @@ module _ (p : Program) (typed : WellTyped p) (code : Code) (ls : List Mode) (b :
       lead p code (And cells (Later (Comes cells))) (Comes cells) (Comes (Integer ∷ cells)) (look ∷ value) (λ q at end. at.0)
       (put_before p code (Comes cells) (Comes (Integer ∷ cells)) look value (λ q at end. (k.fits, (cells, k.reads, at))) (cell_shapes p code ls b l e Integer cells h))
 
-  start_shapes : (l : Line) (set : ℕ) (o : Bearer) (start : Start) (cells : List Mode) → Keeps set o cells → GoodStart section_scope start → Shapes p code (Comes cells) (start_code (at_site l cells) set o start) (Comes (begun_cells start cells))
+  start_shapes : (l : Line) (set : ℕ) (o : Bearer) (start : Start) (cells : List Mode) → Keeps set o cells → IsTypedStart section_scope start → Shapes p code (Comes cells) (start_code (at_site l cells) set o start) (Comes (begun_cells start cells))
   start_shapes l set o AtEnd cells k g = none p code (Comes cells)
   start_shapes l set o (From e) cells k g = member_cell_shapes l set o e cells k g
   start_shapes l set o (After e) cells k g = member_cell_shapes l set o e cells k g
@@ -267,7 +267,7 @@ module _ (p : Program) (typed : WellTyped p) (code : Code) (ls : List Mode) (b :
 
   -- ## FOR
 
-  pub for_shapes : (l : Line) (ms : List Mode) (head : Head) (turn : List Placed) (more : ℕ → Type 0) → GoodHead section_scope head → Shapes p code (Comes (loop_cells (at_site l ms) head)) turn (TurnEnds (loop_cells (at_site l ms) head) more) → Shapes p code (Comes ms) (for_code (at_site l ms) head turn) (And ms more)
+  pub for_shapes : (l : Line) (ms : List Mode) (head : Head) (turn : List Placed) (more : ℕ → Type 0) → IsTypedHead section_scope head → Shapes p code (Comes (loop_cells (at_site l ms) head)) turn (TurnEnds (loop_cells (at_site l ms) head) more) → Shapes p code (Comes ms) (for_code (at_site l ms) head turn) (And ms more)
   for_shapes l ms (Numbers x y z c) turn more g r =
       let turns : List Placed = turns_code (at_site l (numbers ms)) (length ms) x turn (i.Next (length ms)) in
       seq (range_shapes l y z c ms g.1 g.2 g.3)
@@ -291,7 +291,7 @@ module _ (p : Program) (typed : WellTyped p) (code : Code) (ls : List Mode) (b :
   abbrev Nothing : ℕ → Type 0
   Nothing q = Unit {0}
 
-  pub for_each_shapes : (l : Line) (ms : List Mode) (head : Head) (ps : List Phrase) (body : List Placed) → GoodHead section_scope head → Every (GoodPhrase section_scope) ps → Shapes p code (Comes (loop_cells (at_site l ms) head)) body (Comes (loop_cells (at_site l ms) head)) → Shapes p code (Comes ms) (for_code (at_site l ms) head (phrases_code (in_loop (at_site l ms) head) ps body)) (Comes ms)
+  pub for_each_shapes : (l : Line) (ms : List Mode) (head : Head) (ps : List Phrase) (body : List Placed) → IsTypedHead section_scope head → Every (IsTypedPhrase section_scope) ps → Shapes p code (Comes (loop_cells (at_site l ms) head)) body (Comes (loop_cells (at_site l ms) head)) → Shapes p code (Comes ms) (for_code (at_site l ms) head (phrases_code (in_loop (at_site l ms) head) ps body)) (Comes ms)
   for_each_shapes l ms head ps body g h r =
       let inner : List Mode = loop_cells (at_site l ms) head in
       ending p code (Comes ms) (And ms Nothing) (Comes ms) (for_code (at_site l ms) head (phrases_code (in_loop (at_site l ms) head) ps body)) (λ q end. (end, tt))
@@ -329,7 +329,7 @@ module _ (p : Program) (typed : WellTyped p) (code : Code) (ls : List Mode) (b :
       let e : q + 1 + length (forgotten ++ found) ≡ q + 1 + (length found + 1) = omega (arith, length-append forgotten found, forgets_once l ms head) in moved p code e end)
       (seq (loop_forgets l ms head) r))
 
-  pub find_shapes : (l : Line) (ms : List Mode) (head : Head) (ps : List Phrase) (found other : List Placed) → GoodHead section_scope head → Every (GoodPhrase section_scope) ps → Shapes p code (Comes ms) found (Comes ms) → Shapes p code (Comes ms) other (Comes ms) → Shapes p code (Comes ms) (find_code (at_site l ms) head ps found other) (Comes ms)
+  pub find_shapes : (l : Line) (ms : List Mode) (head : Head) (ps : List Phrase) (found other : List Placed) → IsTypedHead section_scope head → Every (IsTypedPhrase section_scope) ps → Shapes p code (Comes ms) found (Comes ms) → Shapes p code (Comes ms) other (Comes ms) → Shapes p code (Comes ms) (find_code (at_site l ms) head ps found other) (Comes ms)
   find_shapes l ms head ps found other g h r t =
       let inner : List Mode = loop_cells (at_site l ms) head in
       let jump : Placed = place (in_loop (at_site l ms) head) (i.Jump (length other + 3)) in

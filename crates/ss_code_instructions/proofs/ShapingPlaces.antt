@@ -13,7 +13,7 @@ use Rattle.ss_program.specs.declared.sections.Subject.{Subject}
 use Rattle.ss_program.specs.declared.sections.Subject.TheVariants.{OfVariable}
 use Rattle.ss_program.specs.declared.sections.Statistic.{Statistic}
 use Rattle.ss_program.specs.Program.{Expression, Clock, Place, ToVariable, ToAttribute, ToCount, InputTarget, Program}
-use Rattle.ss_program.specs.WellTyped.{TypedScope, WellTyped, mode_at, HasMode, TakesMode, GoodSubject, GoodCount}
+use Rattle.ss_program.specs.WellTyped.{TypedScope, IsWellTyped, mode_at, HasMode, CanTakeMode, IsTypedSubject, IsTypedCount}
 use Rattle.ss_meaning.specs.Values.{operator_of}
 use Rattle.ss_meaning.specs.Histories.{same_subject}
 use Rattle.ss_meaning.proofs.Kept.{same_subject_is}
@@ -23,7 +23,7 @@ use Rattle.ss_code_instructions.specs.Instructions.{Target as To}
 use Rattle.ss_code_instructions.specs.Instructions as i
 use Rattle.ss_code_instructions.specs.Machine.{Code}
 use Rattle.ss_code_instructions.specs.Facts.{watch, is_watched, must_look}
-use Rattle.ss_code_instructions.specs.Shape.{GivesMode, Accepts, At, Suits}
+use Rattle.ss_code_instructions.specs.Shape.{IsGivingMode, IsAccepting, AreFoundAt, IsSuited}
 use Rattle.ss_code_instructions.specs.Translation.{Site, place, next, or_integer, place_mode, operand, operand_cells, with_operand, expression_code, variable_code, assignment, count_code, let_code, change_code, to_place_code, reads_code, results_cells, give_code, gives_code}
 use Rattle.ss_code_instructions.proofs.Operands.{not_above}
 use Rattle.ss_code_instructions.proofs.Suiting.{Shapes, seq, none, one, put_before, lead}
@@ -31,29 +31,29 @@ use Rattle.ss_code_instructions.proofs.Shaping.{class_known, here, view, site, O
 
 -- ## Variables that statistics watch
 
-watched_good : (p : Program) (ss : List Statistic) (subject : Subject) → Every (λ (s : Statistic). GoodSubject p s.subject) ss → watch ss subject ≡ true → GoodSubject p subject
+watched_good : (p : Program) (ss : List Statistic) (subject : Subject) → Every (λ (s : Statistic). IsTypedSubject p s.subject) ss → watch ss subject ≡ true → IsTypedSubject p subject
 watched_good p [] subject h q = absurd cc
 watched_good p (s ∷ ss) subject h q = by (same_subject s.subject subject) refl q (watched_good p ss subject h.1)
   where
-    by : (k : Bool) → same_subject s.subject subject ≡ k → (if k then true else watch ss subject) ≡ true → (watch ss subject ≡ true → GoodSubject p subject) → GoodSubject p subject
-    by true e g later = subst (GoodSubject p) (same_subject_is s.subject subject e) h.0
+    by : (k : Bool) → same_subject s.subject subject ≡ k → (if k then true else watch ss subject) ≡ true → (watch ss subject ≡ true → IsTypedSubject p subject) → IsTypedSubject p subject
+    by true e g later = subst (IsTypedSubject p) (same_subject_is s.subject subject e) h.0
     by false e g later = later g
 
 -- a variable that a statistic watches is a number
-watched_number : (p : Program) → WellTyped p → (ls : List Mode) (x : Variable) (m : Mode) → mode_at (record { program = p; locals = ls; is_main = true }) x ≡ Some m → is_watched p.statistics x ≡ true → m ≡ Integer
+watched_number : (p : Program) → IsWellTyped p → (ls : List Mode) (x : Variable) (m : Mode) → mode_at (record { program = p; locals = ls; is_main = true }) x ≡ Some m → is_watched p.statistics x ≡ true → m ≡ Integer
 watched_number p typed ls (Global k) m h q =
-    let good : GoodSubject p (OfVariable k) = watched_good p p.statistics (OfVariable k) typed.statistics q in
+    let good : IsTypedSubject p (OfVariable k) = watched_good p p.statistics (OfVariable k) typed.statistics q in
     let both : Some m ≡ Some Integer = sym h ∙ good.0 in
     cc
 watched_number p typed ls (Local k) m h q = absurd cc
 
 -- the mode that a place takes
-place_so : (s : TypedScope) (x : Place) (m : Mode) → TakesMode s x m → place_mode s x ≡ m
+place_so : (s : TypedScope) (x : Place) (m : Mode) → CanTakeMode s x m → place_mode s x ≡ m
 place_so s (ToVariable x) m h = ap or_integer h.0
 place_so s (ToAttribute class field r) m h = ap or_integer h.0
 place_so s (ToCount c) m h = sym h.0
 
-module _ (p : Program) (typed : WellTyped p) (code : Code) (ls : List Mode) (b : Bool) where
+module _ (p : Program) (typed : IsWellTyped p) (code : Code) (ls : List Mode) (b : Bool) where
   -- the section's variables, and how Shape sees them; sites in the section; and places with such cells
   abbrev section_scope : TypedScope
   section_scope = here p code ls b
@@ -70,7 +70,7 @@ module _ (p : Program) (typed : WellTyped p) (code : Code) (ls : List Mode) (b :
   -- ## Variables
 
   -- a value goes to a variable, from code that may begin with other cells
-  pub variable_shapes : (l : Line) (x : Variable) (m : Mode) (ms : List Mode) (start : ℕ → Type 0) (source : To → List Placed) → mode_at shape_scope x ≡ Some m → ((to : To) (rest : List Mode) → Accepts shape_scope to m ms rest → Shapes p code start (source to) (Comes rest)) → Shapes p code start (variable_code (at_site l ms) x source) (Comes ms)
+  pub variable_shapes : (l : Line) (x : Variable) (m : Mode) (ms : List Mode) (start : ℕ → Type 0) (source : To → List Placed) → mode_at shape_scope x ≡ Some m → ((to : To) (rest : List Mode) → IsAccepting shape_scope to m ms rest → Shapes p code start (source to) (Comes rest)) → Shapes p code start (variable_code (at_site l ms) x source) (Comes ms)
   variable_shapes l x m ms start source h r = by (is_watched p.statistics x) refl
     where
       kept : m ≡ Integer → Shapes p code start (source (i.Onto (length ms)) ++ place (at_site l (Integer ∷ ms)) (i.Keep (i.Taken (length ms)) x) ∷ []) (Comes ms)
@@ -83,30 +83,30 @@ module _ (p : Program) (typed : WellTyped p) (code : Code) (ls : List Mode) (b :
       by false e = r (i.Into x) ms ((h, e), refl)
 
   -- a variable takes an operand
-  assigns : (q : ℕ) (x : Variable) (m : Mode) (from : Operand) (ms rest : List Mode) → mode_at shape_scope x ≡ Some m → GivesMode shape_scope from m ms rest → At p code (q + 1) ls rest → Suits p code q ls ms (if is_watched p.statistics x then i.Keep from x else i.Move from (i.Into x))
+  assigns : (q : ℕ) (x : Variable) (m : Mode) (from : Operand) (ms rest : List Mode) → mode_at shape_scope x ≡ Some m → IsGivingMode shape_scope from m ms rest → AreFoundAt p code (q + 1) ls rest → IsSuited p code q ls ms (if is_watched p.statistics x then i.Keep from x else i.Move from (i.Into x))
   assigns q x m from ms rest h g end = by (is_watched p.statistics x) refl
     where
-      by : (k : Bool) → is_watched p.statistics x ≡ k → Suits p code q ls ms (if k then i.Keep from x else i.Move from (i.Into x))
+      by : (k : Bool) → is_watched p.statistics x ≡ k → IsSuited p code q ls ms (if k then i.Keep from x else i.Move from (i.Into x))
       by true e =
           let number : m ≡ Integer = watched_number p typed ls x m h e in
-          (h ∙ ap Some number, (rest, subst (λ n. GivesMode shape_scope from n ms rest) number g, end))
+          (h ∙ ap Some number, (rest, subst (λ n. IsGivingMode shape_scope from n ms rest) number g, end))
       by false e = (m, (rest, g, (rest, ((h, e), refl), end)))
 
   -- N. of a permanent class takes an operand
-  pub count_shapes : (l : Line) (c : CountedClass) (from : Operand) (ms rest : List Mode) → Contains p.counts c → GivesMode shape_scope from Integer ms rest → Shapes p code (Comes ms) (count_code (at_site l ms) c from) (Comes rest)
+  pub count_shapes : (l : Line) (c : CountedClass) (from : Operand) (ms rest : List Mode) → Contains p.counts c → IsGivingMode shape_scope from Integer ms rest → Shapes p code (Comes ms) (count_code (at_site l ms) c from) (Comes rest)
   count_shapes l c from ms rest known g =
-      let good : GoodCount p c = count_said p typed ls c known in
+      let good : IsTypedCount p c = count_said p typed ls c known in
       let take : Placed = place (at_site l ms) (assignment (at_site l ms) (Global c.variable) from) in
-      lead p code (λ q. At p code q ls ms × Comes ms (q + 1)) (Comes ms) (Comes rest) (place (at_site l ms) (i.LookCount c.class) ∷ (take ∷ [])) (λ q at end. at.0)
+      lead p code (λ q. AreFoundAt p code q ls ms × Comes ms (q + 1)) (Comes ms) (Comes rest) (place (at_site l ms) (i.LookCount c.class) ∷ (take ∷ [])) (λ q at end. at.0)
       (put_before p code (Comes ms) (Comes rest) (place (at_site l ms) (i.LookCount c.class)) (take ∷ []) (λ q at end. (good.0, at))
       (one p code (Comes rest) take (λ q end. assigns q (Global c.variable) Integer from ms rest good.1 g end)))
 
-  pub plain_mode : (x : Variable) (m : Mode) → TakesMode section_scope (ToVariable x) m → mode_at shape_scope x ≡ Some m
+  pub plain_mode : (x : Variable) (m : Mode) → CanTakeMode section_scope (ToVariable x) m → mode_at shape_scope x ≡ Some m
   plain_mode x m h = same_mode_at p code ls b x ∙ h.0
 
   -- ## LET, ADD and SUBTRACT
 
-  pub let_shapes : (l : Line) (x : Place) (e : Expression) (m : Mode) (ms : List Mode) → TakesMode section_scope x m → HasMode section_scope e m → Shapes p code (Comes ms) (let_code (at_site l ms) x e) (Comes ms)
+  pub let_shapes : (l : Line) (x : Place) (e : Expression) (m : Mode) (ms : List Mode) → CanTakeMode section_scope x m → HasMode section_scope e m → Shapes p code (Comes ms) (let_code (at_site l ms) x e) (Comes ms)
   let_shapes l (ToVariable x) e m ms h g = by (is_watched p.statistics x) refl
     where
       kept : m ≡ Integer → Shapes p code (Comes ms) (with_operand (at_site l ms) e (λ y. i.Keep y x)) (Comes ms)
@@ -125,7 +125,7 @@ module _ (p : Program) (typed : WellTyped p) (code : Code) (ls : List Mode) (b :
       let number : HasMode section_scope e Integer = subst (HasMode section_scope e) h.0 g in
       seq (operand_shapes p code ls b l e Integer ms number) (count_shapes l c (operand (at_site l ms) e) (operand_cells (at_site l ms) e) ms h.1 (gives p code ls b l e Integer ms number))
 
-  pub change_shapes : (l : Line) (sign : Sign) (x : Place) (e : Expression) (ms : List Mode) → TakesMode section_scope x Integer → HasMode section_scope e Integer → Shapes p code (Comes ms) (change_code (at_site l ms) sign x e) (Comes ms)
+  pub change_shapes : (l : Line) (sign : Sign) (x : Place) (e : Expression) (ms : List Mode) → CanTakeMode section_scope x Integer → HasMode section_scope e Integer → Shapes p code (Comes ms) (change_code (at_site l ms) sign x e) (Comes ms)
   change_shapes l sign (ToVariable x) e ms h g =
       variable_shapes l x Integer ms (Comes ms) (λ to. with_operand (at_site l ms) e (λ y. i.Calculate (operator_of sign) (i.Held x) y to)) (plain_mode x Integer h) (λ to rest a.
       operand_then p code ls b (Comes rest) l e Integer ms (λ y. i.Calculate (operator_of sign) (i.Held x) y to) g (λ q end.
@@ -135,7 +135,7 @@ module _ (p : Program) (typed : WellTyped p) (code : Code) (ls : List Mode) (b :
       seq (operand_shapes p code ls b l e Integer ms g)
       (operand_then p code ls b (Comes ms) l r Integer mid (λ x. i.ChangeAttribute sign class field x (operand (at_site l ms) e)) h.1 (λ q end. (h.0, (ms, turned_gives p code ls b l e r Integer Integer ms g h.1, end))))
   change_shapes l sign (ToCount c) e ms h g =
-      let good : GoodCount p c = count_said p typed ls c h.1 in
+      let good : IsTypedCount p c = count_said p typed ls c h.1 in
       seq
       (operand_then p code ls b (Comes (Integer ∷ ms)) l e Integer ms (λ y. i.Calculate (operator_of sign) (i.Held (Global c.variable)) y (next (at_site l ms))) g (λ q end.
       (ms, (ms, gives p code ls b l e Integer ms g, (good.1, refl)), (Integer ∷ ms, (refl, refl), end))))
@@ -143,7 +143,7 @@ module _ (p : Program) (typed : WellTyped p) (code : Code) (ls : List Mode) (b :
 
   -- ## A place that takes what some code gives
 
-  pub to_place_shapes : (l : Line) (x : Place) (m : Mode) (ms : List Mode) (source : Site → To → List Placed) → TakesMode section_scope x m → ((cells rest : List Mode) (to : To) → Accepts shape_scope to m cells rest → Shapes p code (Comes cells) (source (at_site l cells) to) (Comes rest)) → Shapes p code (Comes ms) (to_place_code (at_site l ms) x m source) (Comes ms)
+  pub to_place_shapes : (l : Line) (x : Place) (m : Mode) (ms : List Mode) (source : Site → To → List Placed) → CanTakeMode section_scope x m → ((cells rest : List Mode) (to : To) → IsAccepting shape_scope to m cells rest → Shapes p code (Comes cells) (source (at_site l cells) to) (Comes rest)) → Shapes p code (Comes ms) (to_place_code (at_site l ms) x m source) (Comes ms)
   to_place_shapes l (ToVariable x) m ms source h r = variable_shapes l x m ms (Comes ms) (source (at_site l ms)) (plain_mode x m h) (λ to rest a. r ms rest to a)
   to_place_shapes l (ToAttribute class field e) m ms source h r =
       let mid : List Mode = operand_cells (at_site l ms) e in
@@ -154,7 +154,7 @@ module _ (p : Program) (typed : WellTyped p) (code : Code) (ls : List Mode) (b :
   to_place_shapes l (ToCount c) m ms source h r =
       seq (r ms (m ∷ ms) (next (at_site l ms)) (refl, refl)) (count_shapes l c (i.Taken (length ms)) (m ∷ ms) ms h.1 (cell_gives p code ls b m Integer ms h.0))
 
-  pub reads_shapes : (l : Line) (xs : List InputTarget) (ms : List Mode) → Every (λ (x : InputTarget). TakesMode section_scope x.place x.mode) xs → Shapes p code (Comes ms) (reads_code (at_site l ms) xs) (Comes ms)
+  pub reads_shapes : (l : Line) (xs : List InputTarget) (ms : List Mode) → Every (λ (x : InputTarget). CanTakeMode section_scope x.place x.mode) xs → Shapes p code (Comes ms) (reads_code (at_site l ms) xs) (Comes ms)
   reads_shapes l [] ms h = none p code (Comes ms)
   reads_shapes l (x ∷ xs) ms h =
       seq
@@ -165,14 +165,14 @@ module _ (p : Program) (typed : WellTyped p) (code : Code) (ls : List Mode) (b :
   -- ## Places that take what a routine yields
 
   -- what a routine yields, the first on top
-  pub results_so : (l : Line) (ps : List Place) (ws ms : List Mode) → AllZip (TakesMode section_scope) ps ws → results_cells (at_site l ms) ps ≡ ws ++ ms
+  pub results_so : (l : Line) (ps : List Place) (ws ms : List Mode) → AllZip (CanTakeMode section_scope) ps ws → results_cells (at_site l ms) ps ≡ ws ++ ms
   results_so l [] [] ms h = refl
   results_so l [] (w ∷ ws) ms h = absurd h
   results_so l (x ∷ ps) [] ms h = absurd h
   results_so l (x ∷ ps) (w ∷ ws) ms h =
       ap (λ m. m ∷ results_cells (at_site l ms) ps) (place_so section_scope x w h.0) ∙ ap (λ ns. w ∷ ns) (results_so l ps ws ms h.1)
 
-  give_shapes : (l : Line) (x : Place) (m : Mode) (ms : List Mode) → TakesMode section_scope x m → Shapes p code (Comes (place_mode section_scope x ∷ ms)) (give_code (at_site l ms) x) (Comes ms)
+  give_shapes : (l : Line) (x : Place) (m : Mode) (ms : List Mode) → CanTakeMode section_scope x m → Shapes p code (Comes (place_mode section_scope x ∷ ms)) (give_code (at_site l ms) x) (Comes ms)
   give_shapes l (ToVariable x) m ms h =
       let k : Mode = place_mode section_scope (ToVariable x) in
       one p code (Comes ms) (place (at_site l (k ∷ ms)) (assignment (at_site l ms) x (i.Taken (length ms)))) (λ q end.
@@ -183,7 +183,7 @@ module _ (p : Program) (typed : WellTyped p) (code : Code) (ls : List Mode) (b :
       (m, h.0, (ms, over_cell p code ls b l r k Integer m ms (place_so section_scope (ToAttribute class field r) m h) h.1, end)))
   give_shapes l (ToCount c) m ms h = count_shapes l c (i.Taken (length ms)) (Integer ∷ ms) ms h.1 (refl, refl)
 
-  pub gives_shapes : (l : Line) (ps : List Place) (ws ms : List Mode) → AllZip (TakesMode section_scope) ps ws → Shapes p code (Comes (results_cells (at_site l ms) ps)) (gives_code (at_site l ms) ps) (Comes ms)
+  pub gives_shapes : (l : Line) (ps : List Place) (ws ms : List Mode) → AllZip (CanTakeMode section_scope) ps ws → Shapes p code (Comes (results_cells (at_site l ms) ps)) (gives_code (at_site l ms) ps) (Comes ms)
   gives_shapes l [] [] ms h = none p code (Comes ms)
   gives_shapes l [] (w ∷ ws) ms h = absurd h
   gives_shapes l (x ∷ ps) [] ms h = absurd h

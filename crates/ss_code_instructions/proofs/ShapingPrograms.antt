@@ -4,11 +4,11 @@ use Rattle.std.specs.Prelude.{slice_get}
 use Rattle.std.specs.List.{AllByRecursion as Every}
 use Rattle.ss_base.specs.declared.layout.Mode.{Mode}
 use Rattle.ss_program.specs.Program.{Block, Routine, Event, Program}
-use Rattle.ss_program.specs.WellTyped.{WellTyped, GoodBlock, GoodRoutine, GoodEvent}
+use Rattle.ss_program.specs.WellTyped.{IsWellTyped, IsTypedBlock, IsTypedRoutine, IsTypedEvent}
 use Rattle.ss_meaning.proofs.Lists.{every_get}
 use Rattle.ss_code_instructions.specs.Instructions.{Placed, EntryPoint}
 use Rattle.ss_code_instructions.specs.Machine.{Code}
-use Rattle.ss_code_instructions.specs.Shape.{At, Suits, HasEntryShape, IsServed, Shaped}
+use Rattle.ss_code_instructions.specs.Shape.{AreFoundAt, IsSuited, HasEntryShape, IsServed, IsShaped}
 use Rattle.ss_code_instructions.specs.Laws.{HasShape}
 use Rattle.ss_code_instructions.specs.Translation.{block_prints, section_code, routine_code, event_code, routines_code, events_code, routines_prints, events_prints, routine_entry, event_entry, main_prints, prints_before_events, main_code, all_routines, all_events, code_of}
 use Rattle.ss_code_instructions.proofs.Steps.{HasAt, has_front, has_back}
@@ -18,7 +18,7 @@ use Rattle.ss_code_instructions.proofs.Suiting.{AllSuit, all_both, all_at}
 use Rattle.ss_code_instructions.proofs.Shaping.{here}
 use Rattle.ss_code_instructions.proofs.ShapingStatements.{front_of, section_shapes}
 
-module _ (p : Program) (typed : WellTyped p) where
+module _ (p : Program) (typed : IsWellTyped p) where
   abbrev code : Code
   code = code_of p
 
@@ -28,10 +28,10 @@ module _ (p : Program) (typed : WellTyped p) where
   -- ## Sections
 
   -- a section that lies in the code: its instructions suit their places, and it finds its variables and no cells
-  section_suits : (ls : List Mode) (b : Bool) (q first : ℕ) (body : Block) → GoodBlock (here p code ls b) body → HasAt code.places q (section_code (here p code ls b) first body) → HasAt code.prints first (block_prints body) → AllSuit p code q (section_code (here p code ls b) first body) × At p code q ls []
+  section_suits : (ls : List Mode) (b : Bool) (q first : ℕ) (body : Block) → IsTypedBlock (here p code ls b) body → HasAt code.places q (section_code (here p code ls b) first body) → HasAt code.prints first (block_prints body) → AllSuit p code q (section_code (here p code ls b) first body) × AreFoundAt p code q ls []
   section_suits ls b q first body good lies prints = (section_shapes p typed code linked ls b first body good prints).by q lies tt
 
-  routines_suit : (rs : List Routine) (q first : ℕ) → Every (GoodRoutine p) rs → HasAt code.places q (routines_code p first rs) → HasAt code.prints first (routines_prints rs) → AllSuit p code q (routines_code p first rs)
+  routines_suit : (rs : List Routine) (q first : ℕ) → Every (IsTypedRoutine p) rs → HasAt code.places q (routines_code p first rs) → HasAt code.prints first (routines_prints rs) → AllSuit p code q (routines_code p first rs)
   routines_suit [] q first good lies prints = tt
   routines_suit (r ∷ rs) q first good lies prints =
       let c : List Placed = routine_code p first r in
@@ -41,7 +41,7 @@ module _ (p : Program) (typed : WellTyped p) where
       (section_suits (r.given ++ (r.yielding ++ r.others)) false q first r.body good.0 (has_front code.places q c d lies) (has_front code.prints first (block_prints r.body) (routines_prints rs) prints)).0
       (routines_suit rs (q + length c) next good.1 (has_back code.places q c d lies) (has_back code.prints first (block_prints r.body) (routines_prints rs) prints))
 
-  events_suit : (es : List Event) (q first : ℕ) → Every (GoodEvent p) es → HasAt code.places q (events_code p first es) → HasAt code.prints first (events_prints es) → AllSuit p code q (events_code p first es)
+  events_suit : (es : List Event) (q first : ℕ) → Every (IsTypedEvent p) es → HasAt code.places q (events_code p first es) → HasAt code.prints first (events_prints es) → AllSuit p code q (events_code p first es)
   events_suit [] q first good lies prints = tt
   events_suit (v ∷ es) q first good lies prints =
       let c : List Placed = event_code p first v in
@@ -60,7 +60,7 @@ module _ (p : Program) (typed : WellTyped p) where
       by : (o : Option Routine) → slice_get p.routines k ≡ o → RoutineAt code p o (Some e) → HasEntryShape p code e
       by None g at = absurd at
       by (Some r) g at =
-          let good : GoodRoutine p r = every_get (GoodRoutine p) p.routines k r typed.routines g in
+          let good : IsTypedRoutine p r = every_get (IsTypedRoutine p) p.routines k r typed.routines g in
           let found : HasEntryShape p code (routine_entry at.begins r) = (
             (section_suits (r.given ++ (r.yielding ++ r.others)) false at.begins at.first r.body good at.lies at.prints).1,
             ap length (front_of r.yielding r.others),
@@ -74,7 +74,7 @@ module _ (p : Program) (typed : WellTyped p) where
       by : (o : Option Event) → slice_get p.events k ≡ o → EventAt code p o (Some e) → HasEntryShape p code e × (e.yielding ≡ 0)
       by None g at = absurd at
       by (Some v) g at =
-          let good : GoodEvent p v = every_get (GoodEvent p) p.events k v typed.events g in
+          let good : IsTypedEvent p v = every_get (IsTypedEvent p) p.events k v typed.events g in
           let found : HasEntryShape p code (event_entry at.begins v) × ((event_entry at.begins v).yielding ≡ 0) = (
             ((section_suits (v.given ++ v.others) false at.begins at.first v.body good.body at.lies at.prints).1, refl),
             refl,
@@ -90,7 +90,7 @@ module _ (p : Program) (typed : WellTyped p) where
 
   -- ## The whole
 
-  main_suits : AllSuit p code 0 (main_code p) × At p code 0 p.locals []
+  main_suits : AllSuit p code 0 (main_code p) × AreFoundAt p code 0 p.locals []
   main_suits = section_suits p.locals true 0 0 p.main typed.main (main_here p) (has_front code.prints 0 (block_prints p.main) (later_prints p) (all_prints p))
 
   sections_suit : AllSuit p code (length (main_code p)) (sections p)
@@ -107,11 +107,11 @@ module _ (p : Program) (typed : WellTyped p) where
       let e : length (main_code p) ≡ 0 + length (main_code p) = omega arith in
       all_both p code 0 (main_code p) (sections p) main_suits.0 (subst (λ j. AllSuit p code j (sections p)) e sections_suit)
 
-  pub program_shaped : Shaped p code
+  pub program_shaped : IsShaped p code
   program_shaped = record {
     each = λ place x there.
         let e : 0 + place ≡ place = omega arith in
-        subst (λ j. Suits p code j x.locals x.cells x.instruction) e (all_at p code 0 (main_code p ++ sections p) all_suit place x there);
+        subst (λ j. IsSuited p code j x.locals x.cells x.instruction) e (all_at p code 0 (main_code p ++ sections p) all_suit place x there);
     first = main_suits.1;
     routines = routine_begins;
     events = event_begins;

@@ -6,11 +6,11 @@ use Rattle.ss_base.specs.declared.line.Line.{Line}
 use Rattle.ss_base.specs.declared.layout.Mode.{Mode}
 use Rattle.ss_base.specs.declared.layout.Mode.TheVariants.{Integer}
 use Rattle.ss_program.specs.Program.{Expression, TheSystem, Entity, Head, Numbers, Members, Each, Place, PrintItem, Statement, Let, Change, Call, Return, Stop, Read, Simulate, If, Loop, For, Find, Create, CreateEvery, Destroy, File, RemoveEnd, Remove, ScheduleNew, Schedule, Cancel, Reset, Print, Skip, Block, Done, Then, Routine, Program}
-use Rattle.ss_program.specs.WellTyped.{TypedScope, WellTyped, HaveModes, TakesMode, GoodCall, Good, GoodBlock}
+use Rattle.ss_program.specs.WellTyped.{TypedScope, IsWellTyped, HaveModes, CanTakeMode, IsTypedCall, IsTypedStatement, IsTypedBlock}
 use Rattle.ss_code_instructions.specs.Instructions.{Placed, EntryPoint}
 use Rattle.ss_code_instructions.specs.Instructions as i
 use Rattle.ss_code_instructions.specs.Machine.{Code}
-use Rattle.ss_code_instructions.specs.Shape.{HasOnTop as CellBlock, FieldsTake, At, DueAt, Suits}
+use Rattle.ss_code_instructions.specs.Shape.{HasOnTop as CellBlock, CanBePrinted, AreFoundAt, IsDueAt, IsSuited}
 use Rattle.ss_code_instructions.specs.Translation.{Site, place, loop_cells, values_code, values_cells, results_cells, gives_code, items_code, items_cells, lines_of_items, statement_prints, block_prints, no_line, statement_code, block_code, section_code, routine_entry}
 use Rattle.ss_code_instructions.proofs.Steps.{HasAt, has_front, has_back}
 use Rattle.ss_code_instructions.proofs.Entering.{RoutineAt, Linked}
@@ -37,7 +37,7 @@ entry_there code p linked k r q = by (slice_get code.routines k) refl (subst (λ
     by None e at = absurd at
     by (Some x) e at = record { begins = at.begins; there = e ∙ ap Some at.is }
 
-module _ (p : Program) (typed : WellTyped p) (code : Code) (linked : Linked code p) (ls : List Mode) (b : Bool) where
+module _ (p : Program) (typed : IsWellTyped p) (code : Code) (linked : Linked code p) (ls : List Mode) (b : Bool) where
   -- the section's variables; sites in the section; and places with such cells
   abbrev section_scope : TypedScope
   section_scope = here p code ls b
@@ -50,16 +50,16 @@ module _ (p : Program) (typed : WellTyped p) (code : Code) (linked : Linked code
 
   -- ## Calls
 
-  call_suits : (q : ℕ) (k : ℕ) (r : Routine) (given : List Expression) (yielding : List Place) (l : Line) (ms : List Mode) → slice_get p.routines k ≡ Some r → HaveModes section_scope given r.given → AllZip (TakesMode section_scope) yielding r.yielding → At p code (q + 1) ls (results_cells (at_site l ms) yielding) → Suits p code q ls (values_cells section_scope given ms) (i.Call k (length ms))
+  call_suits : (q : ℕ) (k : ℕ) (r : Routine) (given : List Expression) (yielding : List Place) (l : Line) (ms : List Mode) → slice_get p.routines k ≡ Some r → HaveModes section_scope given r.given → AllZip (CanTakeMode section_scope) yielding r.yielding → AreFoundAt p code (q + 1) ls (results_cells (at_site l ms) yielding) → IsSuited p code q ls (values_cells section_scope given ms) (i.Call k (length ms))
   call_suits q k r given yielding l ms there h g end =
       let at = entry_there code p linked k r there in
       let e : EntryPoint = routine_entry at.begins r in
       let block : CellBlock (length ms) r.given (values_cells section_scope given ms) ms = record { is = values_so section_scope given r.given ms h; height = refl } in
       let left : results_cells (at_site l ms) yielding ≡ take (length r.yielding) (r.yielding ++ r.others) ++ ms =
       results_so p typed code ls b l yielding r.yielding ms g ∙ ap (λ ws. ws ++ ms) (sym (front_of r.yielding r.others)) in
-      (e, at.there, (ms, block, subst (λ cells. At p code (q + 1) ls cells) left end))
+      (e, at.there, (ms, block, subst (λ cells. AreFoundAt p code (q + 1) ls cells) left end))
 
-  call_shapes : (l : Line) (k : ℕ) (given : List Expression) (yielding : List Place) (ms : List Mode) → GoodCall section_scope k given yielding → Shapes p code (Comes ms) (values_code (at_site l ms) given ++ (place (at_site l (values_cells section_scope given ms)) (i.Call k (length ms)) ∷ gives_code (at_site l ms) yielding)) (Comes ms)
+  call_shapes : (l : Line) (k : ℕ) (given : List Expression) (yielding : List Place) (ms : List Mode) → IsTypedCall section_scope k given yielding → Shapes p code (Comes ms) (values_code (at_site l ms) given ++ (place (at_site l (values_cells section_scope given ms)) (i.Call k (length ms)) ∷ gives_code (at_site l ms) yielding)) (Comes ms)
   call_shapes l k given yielding ms g =
       seq (values_shapes p code ls b l given g.0.given ms g.2)
       (seq
@@ -68,7 +68,7 @@ module _ (p : Program) (typed : WellTyped p) (code : Code) (linked : Linked code
 
   -- ## PRINT, START SIMULATION
 
-  print_shapes : (l : Line) (first : ℕ) (items : List PrintItem) (pictures : List (List ℕ)) (ms : List Mode) → slice_get code.prints first ≡ Some (lines_of_items items pictures) → Every (GoodItem section_scope) items → FieldsTake (lines_of_items items pictures) → Shapes p code (Comes ms) (items_code (at_site l ms) items ++ place (at_site l (items_cells section_scope items ms)) (i.Print first (length ms)) ∷ []) (Comes ms)
+  print_shapes : (l : Line) (first : ℕ) (items : List PrintItem) (pictures : List (List ℕ)) (ms : List Mode) → slice_get code.prints first ≡ Some (lines_of_items items pictures) → Every (GoodItem section_scope) items → CanBePrinted (lines_of_items items pictures) → Shapes p code (Comes ms) (items_code (at_site l ms) items ++ place (at_site l (items_cells section_scope items ms)) (i.Print first (length ms)) ∷ []) (Comes ms)
   print_shapes l first items pictures ms there g take =
       let block : CellBlock (length ms) (shown_modes section_scope items) (items_cells section_scope items ms) ms = record { is = items_so section_scope items ms; height = refl } in
       seq (items_shapes p typed code ls b l items ms g)
@@ -76,7 +76,7 @@ module _ (p : Program) (typed : WellTyped p) (code : Code) (linked : Linked code
       (lines_of_items items pictures, there, (shown_modes section_scope items, items_fit section_scope items g, (ms, block, end)), take)))
 
   abbrev BackToEvent : List Mode → ℕ → Type 0
-  BackToEvent ms q = Comes ms q × DueAt p code (q - (1 + 1)) ls ms
+  BackToEvent ms q = Comes ms q × IsDueAt p code (q - (1 + 1)) ls ms
 
   simulate_shapes : (l : Line) (ms : List Mode) → Shapes p code (Comes ms) (place (at_site l ms) (i.Await 2) ∷ (place (at_site l ms) (i.TakeEvent (length ms)) ∷ (place (at_site l ms) (i.NextEvent 1) ∷ []))) (Comes ms)
   simulate_shapes l ms =
@@ -85,7 +85,7 @@ module _ (p : Program) (typed : WellTyped p) (code : Code) (linked : Linked code
       lead p code (λ q. Comes ms q × Comes ms (q + 1)) (Comes ms) (Comes ms) (place (at_site l ms) (i.Await 2) ∷ (event ∷ (next ∷ []))) (λ q at end. at.0)
       (put_before p code (Comes ms) (Comes ms) (place (at_site l ms) (i.Await 2)) (event ∷ (next ∷ [])) (λ q at end. (at, end))
       (looped p code (Comes ms) (Comes ms) event (next ∷ []) 1 refl refl (λ q at. (refl, at))
-      (one p code (BackToEvent ms) next (λ q end. let e : (q + 1) - (1 + 1) ≡ q - 1 = omega arith in (end.0, subst (λ j. DueAt p code j ls ms) e end.1)))))
+      (one p code (BackToEvent ms) next (λ q end. let e : (q + 1) - (1 + 1) ≡ q - 1 = omega arith in (end.0, subst (λ j. IsDueAt p code j ls ms) e end.1)))))
 
   -- ## Statements
 
@@ -97,7 +97,7 @@ module _ (p : Program) (typed : WellTyped p) (code : Code) (linked : Linked code
   same_cells k l ms (Members x set (Entity e) start reverse) = refl
 
   mutual
-    pub statement_shapes : (k : Line) (ms : List Mode) (first : ℕ) (x : Statement) → Good section_scope x → HasAt code.prints first (statement_prints x) → Shapes p code (Comes ms) (statement_code (at_site k ms) first x) (Comes ms)
+    pub statement_shapes : (k : Line) (ms : List Mode) (first : ℕ) (x : Statement) → IsTypedStatement section_scope x → HasAt code.prints first (statement_prints x) → Shapes p code (Comes ms) (statement_code (at_site k ms) first x) (Comes ms)
     statement_shapes k ms first (Let l x e) g has = let_shapes p typed code ls b l x e g.0 ms g.1 g.2
     statement_shapes k ms first (Change l sign x e) g has = change_shapes p typed code ls b l sign x e ms g.0 g.1
     statement_shapes k ms first (Call l routine given yielding) g has = call_shapes l routine given yielding ms g
@@ -138,7 +138,7 @@ module _ (p : Program) (typed : WellTyped p) (code : Code) (linked : Linked code
     statement_shapes k ms first (Skip l e) g has =
         operand_then p code ls b (Comes ms) l e Integer ms i.Skip g (λ q end. (ms, gives p code ls b l e Integer ms g, end))
 
-    pub block_shapes : (k : Line) (ms : List Mode) (first : ℕ) (x : Block) → GoodBlock section_scope x → HasAt code.prints first (block_prints x) → Shapes p code (Comes ms) (block_code (at_site k ms) first x) (Comes ms)
+    pub block_shapes : (k : Line) (ms : List Mode) (first : ℕ) (x : Block) → IsTypedBlock section_scope x → HasAt code.prints first (block_prints x) → Shapes p code (Comes ms) (block_code (at_site k ms) first x) (Comes ms)
     block_shapes k ms first Done g has = none p code (Comes ms)
     block_shapes k ms first (Then x rest) g has =
         seq (statement_shapes k ms first x g.0 (has_front code.prints first (statement_prints x) (block_prints rest) has))
@@ -150,5 +150,5 @@ module _ (p : Program) (typed : WellTyped p) (code : Code) (linked : Linked code
   abbrev pub Ended : ℕ → Type 0
   Ended q = Unit {0}
 
-  pub section_shapes : (first : ℕ) (body : Block) → GoodBlock section_scope body → HasAt code.prints first (block_prints body) → Shapes p code (Comes []) (section_code section_scope first body) Ended
+  pub section_shapes : (first : ℕ) (body : Block) → IsTypedBlock section_scope body → HasAt code.prints first (block_prints body) → Shapes p code (Comes []) (section_code section_scope first body) Ended
   section_shapes first body g has = seq (block_shapes no_line [] first body g has) (one p code Ended (place (at_site no_line []) i.Leave) (λ q end. tt))

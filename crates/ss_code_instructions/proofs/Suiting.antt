@@ -5,7 +5,7 @@ use Rattle.ss_base.specs.declared.layout.Mode.{Mode}
 use Rattle.ss_program.specs.Program.{Program}
 use Rattle.ss_code_instructions.specs.Instructions.{Placed}
 use Rattle.ss_code_instructions.specs.Machine.{Code, is_due}
-use Rattle.ss_code_instructions.specs.Shape.{At, DueAt, Suits}
+use Rattle.ss_code_instructions.specs.Shape.{AreFoundAt, IsDueAt, IsSuited}
 use Rattle.ss_code_instructions.proofs.Steps.{HasAt, has_front, has_back}
 
 module _ (p : Program) (code : Code) where
@@ -14,7 +14,7 @@ module _ (p : Program) (code : Code) where
   -- each instruction of a piece that begins here suits its place
   abbrev pub AllSuit : ℕ → List Placed → Type 0
   AllSuit q [] = Unit {0}
-  AllSuit q (x ∷ c) = Suits p code q x.locals x.cells x.instruction × AllSuit (q + 1) c
+  AllSuit q (x ∷ c) = IsSuited p code q x.locals x.cells x.instruction × AllSuit (q + 1) c
 
   pub all_both : (q : ℕ) (c d : List Placed) → AllSuit q c → AllSuit (q + length c) d → AllSuit q (c ++ d)
   all_both q [] d h k = let e : q + 0 ≡ q = omega arith in subst (λ j. AllSuit j d) e k
@@ -22,22 +22,22 @@ module _ (p : Program) (code : Code) where
       let e : q + length (x ∷ c) ≡ q + 1 + length c = omega arith in
       (h.0, all_both (q + 1) c d h.1 (subst (λ j. AllSuit j d) e k))
 
-  pub all_at : (q : ℕ) (c : List Placed) → AllSuit q c → (k : ℕ) (x : Placed) → slice_get c k ≡ Some x → Suits p code (q + k) x.locals x.cells x.instruction
+  pub all_at : (q : ℕ) (c : List Placed) → AllSuit q c → (k : ℕ) (x : Placed) → slice_get c k ≡ Some x → IsSuited p code (q + k) x.locals x.cells x.instruction
   all_at q [] h k x e = absurd cc
   all_at q (y ∷ c) h zero x e =
       let same : y ≡ x = cc in
       let j : q ≡ q + 0 = omega arith in
-      subst (λ (z : Placed). Suits p code (q + 0) z.locals z.cells z.instruction) same (subst (λ j. Suits p code j y.locals y.cells y.instruction) j h.0)
+      subst (λ (z : Placed). IsSuited p code (q + 0) z.locals z.cells z.instruction) same (subst (λ j. IsSuited p code j y.locals y.cells y.instruction) j h.0)
   all_at q (y ∷ c) h (suc k) x e =
       let j : q + 1 + k ≡ q + suc k = omega arith in
-      subst (λ j. Suits p code j x.locals x.cells x.instruction) j (all_at (q + 1) c h.1 k x e)
+      subst (λ j. IsSuited p code j x.locals x.cells x.instruction) j (all_at (q + 1) c h.1 k x e)
 
   -- what an instruction finds is found at its place
-  pub own : {q : ℕ} {x : Placed} → slice_get code.places q ≡ Some x → At p code q x.locals x.cells
+  pub own : {q : ℕ} {x : Placed} → slice_get code.places q ≡ Some x → AreFoundAt p code q x.locals x.cells
   own {x = x} e = record { placed = x; there = e; locals = refl; cells = refl }
 
-  pub moved : {q r : ℕ} {ls ms : List Mode} → q ≡ r → At p code q ls ms → At p code r ls ms
-  moved {ls = ls} {ms = ms} e a = subst (λ j. At p code j ls ms) e a
+  pub moved : {q r : ℕ} {ls ms : List Mode} → q ≡ r → AreFoundAt p code q ls ms → AreFoundAt p code r ls ms
+  moved {ls = ls} {ms = ms} e a = subst (λ j. AreFoundAt p code j ls ms) e a
 
   -- ## Pieces
 
@@ -50,11 +50,11 @@ module _ (p : Program) (code : Code) where
   none after = record { by = λ q has end. let e : q + 0 ≡ q = omega arith in (tt, subst after e end) }
 
   -- one instruction
-  pub one : (after : ℕ → Type 0) (x : Placed) → ((q : ℕ) → after (q + 1) → Suits p code q x.locals x.cells x.instruction) → Shapes (λ q. At p code q x.locals x.cells) (x ∷ []) after
+  pub one : (after : ℕ → Type 0) (x : Placed) → ((q : ℕ) → after (q + 1) → IsSuited p code q x.locals x.cells x.instruction) → Shapes (λ q. AreFoundAt p code q x.locals x.cells) (x ∷ []) after
   one after x suits = record { by = λ q has end. ((suits q end, tt), own has.0) }
 
   -- an instruction before a piece
-  pub put_before : (start after : ℕ → Type 0) (x : Placed) (c : List Placed) → ((q : ℕ) → start (q + 1) → after (q + 1 + length c) → Suits p code q x.locals x.cells x.instruction) → Shapes start c after → Shapes (λ q. At p code q x.locals x.cells × start (q + 1)) (x ∷ c) after
+  pub put_before : (start after : ℕ → Type 0) (x : Placed) (c : List Placed) → ((q : ℕ) → start (q + 1) → after (q + 1 + length c) → IsSuited p code q x.locals x.cells x.instruction) → Shapes start c after → Shapes (λ q. AreFoundAt p code q x.locals x.cells × start (q + 1)) (x ∷ c) after
   put_before start after x c suits r = record {
     by = λ q has end.
         let len : q + length (x ∷ c) ≡ q + 1 + length c = omega arith in
@@ -76,13 +76,13 @@ module _ (p : Program) (code : Code) where
   keep before after more c r = record { by = λ q has end. let b = r.by q has end.0 in (b.0, (b.1, end.1)) }
 
   -- an instruction that takes a tick, before a piece that jumps back to it
-  pub looped : (start after : ℕ → Type 0) (x : Placed) (c : List Placed) (k : ℕ) → k ≡ length c → is_due x.instruction ≡ true → ((q : ℕ) → start (q + 1) → Suits p code q x.locals x.cells x.instruction) → Shapes start c (λ q. after q × DueAt p code (q - (k + 1)) x.locals x.cells) → Shapes (λ q. At p code q x.locals x.cells) (x ∷ c) after
+  pub looped : (start after : ℕ → Type 0) (x : Placed) (c : List Placed) (k : ℕ) → k ≡ length c → is_due x.instruction ≡ true → ((q : ℕ) → start (q + 1) → IsSuited p code q x.locals x.cells x.instruction) → Shapes start c (λ q. after q × IsDueAt p code (q - (k + 1)) x.locals x.cells) → Shapes (λ q. AreFoundAt p code q x.locals x.cells) (x ∷ c) after
   looped start after x c k long ticks suits r = record {
     by = λ q has end.
         let len : q + length (x ∷ c) ≡ q + 1 + length c = omega arith in
         let back : q ≡ (q + 1 + length c) - (k + 1) = omega (arith, long) in
-        let due : DueAt p code q x.locals x.cells = record { at = record { placed = x; there = has.0; locals = refl; cells = refl }; due = ticks } in
-        let b = r.by (q + 1) has.1 (subst after len end, subst (λ j. DueAt p code j x.locals x.cells) back due) in
+        let due : IsDueAt p code q x.locals x.cells = record { at = record { placed = x; there = has.0; locals = refl; cells = refl }; due = ticks } in
+        let b = r.by (q + 1) has.1 (subst after len end, subst (λ j. IsDueAt p code j x.locals x.cells) back due) in
         ((suits q b.1, b.0), own has.0);
   }
 

@@ -9,7 +9,7 @@ use Rattle.ss_base.specs.declared.layout.SetLayout.{SetLayout}
 use Rattle.ss_base.specs.declared.line.Line.{Line}
 use Rattle.ss_base.specs.declared.value.Value.{Value}
 use Rattle.ss_base.specs.declared.value.Value.TheVariants.{Whole, Text}
-use Rattle.ss_world.specs.Lists.{head0, last_or, In}
+use Rattle.ss_world.specs.Lists.{head0, last_or, IsInList}
 use Rattle.ss_world.specs.State.{State, Members as Row, and_then, members_of, owner_of}
 use Rattle.ss_world.specs.Sets.{joiner, owner as owner_there, follower, precursor, members_by, companions, next_in, previous_in}
 use Rattle.ss_program.specs.declared.expression.Variable.{Variable}
@@ -57,44 +57,44 @@ some_number : (n : ℕ) → is_none (pos n) ≡ false → n ≡ 0 → ⊥
 some_number zero q e = absurd cc
 some_number (suc n) q e = omega (arith, e)
 
-head_in : (xs : List ℕ) → (head0 xs ≡ 0 → ⊥) → In (head0 xs) xs
+head_in : (xs : List ℕ) → (head0 xs ≡ 0 → ⊥) → IsInList (head0 xs) xs
 head_in [] h = absurd (h refl)
 head_in (x ∷ xs) h = inl refl
 
-last_among : (x : ℕ) (xs : List ℕ) → In (last_or x xs) (x ∷ xs)
+last_among : (x : ℕ) (xs : List ℕ) → IsInList (last_or x xs) (x ∷ xs)
 last_among x [] = inl refl
 last_among x (y ∷ ys) = inr (last_among y ys)
 
-last_in_list : (xs : List ℕ) → (last_or 0 xs ≡ 0 → ⊥) → In (last_or 0 xs) xs
+last_in_list : (xs : List ℕ) → (last_or 0 xs ≡ 0 → ⊥) → IsInList (last_or 0 xs) xs
 last_in_list [] h = absurd (h refl)
 last_in_list (x ∷ xs) h = last_among x xs
 
-follower_in : (y : ℕ) (xs : List ℕ) → (follower y xs ≡ 0 → ⊥) → In (follower y xs) xs
+follower_in : (y : ℕ) (xs : List ℕ) → (follower y xs ≡ 0 → ⊥) → IsInList (follower y xs) xs
 follower_in y [] h = absurd (h refl)
 follower_in y (x ∷ xs) h = by (x == y) (λ g. follower_in y xs g) h
   where
-    by : (b : Bool) → ((follower y xs ≡ 0 → ⊥) → In (follower y xs) xs) → (cond b (head0 xs) (follower y xs) ≡ 0 → ⊥) → In (cond b (head0 xs) (follower y xs)) (x ∷ xs)
+    by : (b : Bool) → ((follower y xs ≡ 0 → ⊥) → IsInList (follower y xs) xs) → (cond b (head0 xs) (follower y xs) ≡ 0 → ⊥) → IsInList (cond b (head0 xs) (follower y xs)) (x ∷ xs)
     by true later h = inr (head_in xs h)
     by false later h = inr (later h)
 
-precursor_among : (p y : ℕ) (xs : List ℕ) → (precursor p y xs ≡ 0 → ⊥) → In (precursor p y xs) (p ∷ xs)
+precursor_among : (p y : ℕ) (xs : List ℕ) → (precursor p y xs ≡ 0 → ⊥) → IsInList (precursor p y xs) (p ∷ xs)
 precursor_among p y [] h = absurd (h refl)
 precursor_among p y (x ∷ xs) h = by (x == y) (λ g. precursor_among x y xs g) h
   where
-    by : (b : Bool) → ((precursor x y xs ≡ 0 → ⊥) → In (precursor x y xs) (x ∷ xs)) → (cond b p (precursor x y xs) ≡ 0 → ⊥) → In (cond b p (precursor x y xs)) (p ∷ (x ∷ xs))
+    by : (b : Bool) → ((precursor x y xs ≡ 0 → ⊥) → IsInList (precursor x y xs) (x ∷ xs)) → (cond b p (precursor x y xs) ≡ 0 → ⊥) → IsInList (cond b p (precursor x y xs)) (p ∷ (x ∷ xs))
     by true later h = inl refl
     by false later h = inr (later h)
 
-precursor_in : (y : ℕ) (xs : List ℕ) → (precursor 0 y xs ≡ 0 → ⊥) → In (precursor 0 y xs) xs
+precursor_in : (y : ℕ) (xs : List ℕ) → (precursor 0 y xs ≡ 0 → ⊥) → IsInList (precursor 0 y xs) xs
 precursor_in y xs h = by (precursor_among 0 y xs h)
   where
-    by : In (precursor 0 y xs) (0 ∷ xs) → In (precursor 0 y xs) xs
+    by : IsInList (precursor 0 y xs) (0 ∷ xs) → IsInList (precursor 0 y xs) xs
     by (inl e) = absurd (h (sym e))
     by (inr m) = m
 
 -- a number is that of a member of a set of this name
 abbrev IsMember : State → ℕ → ℤ → Type 0
-IsMember h set x = (o : ℕ) × (k : ℕ) × (pos k ≡ x) × In k (members_of h.lists set o)
+IsMember h set x = (o : ℕ) × (k : ℕ) × (pos k ≡ x) × IsInList k (members_of h.lists set o)
 
 due_is : {A : Type 0} (r : OkOr A FaultKind) (a : A) → due r ≡ Ok a → r ≡ Ok a
 due_is (Ok b) a e = let p : b ≡ a = cc in ap Ok p
@@ -118,11 +118,11 @@ outset_member true h set m x e some = by (owner_there h set m) e
     by (Err kind) e = absurd cc
 
 -- what follows a member, and what precedes one
-follower_member : (ms : List Row) (set n : ℕ) (o : Option ℕ) → (follower n (members_by ms set o) ≡ 0 → ⊥) → (p : ℕ) × In (follower n (members_by ms set o)) (members_of ms set p)
+follower_member : (ms : List Row) (set n : ℕ) (o : Option ℕ) → (follower n (members_by ms set o) ≡ 0 → ⊥) → (p : ℕ) × IsInList (follower n (members_by ms set o)) (members_of ms set p)
 follower_member ms set n None h = absurd (h refl)
 follower_member ms set n (Some p) h = (p, follower_in n (members_of ms set p) h)
 
-precursor_member : (ms : List Row) (set n : ℕ) (o : Option ℕ) → (precursor 0 n (members_by ms set o) ≡ 0 → ⊥) → (p : ℕ) × In (precursor 0 n (members_by ms set o)) (members_of ms set p)
+precursor_member : (ms : List Row) (set n : ℕ) (o : Option ℕ) → (precursor 0 n (members_by ms set o) ≡ 0 → ⊥) → (p : ℕ) × IsInList (precursor 0 n (members_by ms set o)) (members_of ms set p)
 precursor_member ms set n None h = absurd (h refl)
 precursor_member ms set n (Some p) h = (p, precursor_in n (members_of ms set p) h)
 

@@ -9,7 +9,7 @@ use Rattle.ss_code_instructions.specs.Instructions.{Placed, Lines}
 use Rattle.ss_code_instructions.specs.Instructions as i
 use Rattle.ss_code_instructions.specs.States.{MachineState, core_at}
 use Rattle.ss_code_instructions.specs.Machine.{Code}
-use Rattle.ss_code_instructions.specs.Running.{start, GoesRight, Behaves}
+use Rattle.ss_code_instructions.specs.Running.{start, HasGoneRight, IsFaithful}
 use Rattle.ss_code_instructions.specs.Laws.{CodeBehaves}
 use Rattle.ss_code_instructions.specs.Translation.{Site, place, block_code, block_prints, main_scope, first_site, routine_code, event_code, routines_code, events_code, routines_prints, events_prints, routine_entries, event_entries, main_prints, prints_before_events, main_code, all_routines, all_events, code_of}
 use Rattle.ss_code_instructions.proofs.Joining.{Joined, first_joined}
@@ -111,7 +111,7 @@ module _ (p : Program) where
   main_end u q s (Left Wrong w) has right g = absurd (right refl)
 
   -- the simulation, for each program that does not go wrong, well typed or not
-  pub program_runs : (input : List ℕ) (n : ℕ) → GoesRight p input n → Reaches code (start code input n) (Finishes (meaning p input n))
+  pub program_runs : (input : List ℕ) (n : ℕ) → HasGoneRight p input n → Reaches code (start code input n) (Finishes (meaning p input n))
   program_runs input n right =
       let t : Site = first_site (main_scope p) in
       let b : List Placed = block_code t 0 p.main in
@@ -119,7 +119,7 @@ module _ (p : Program) where
       main_end t (0 + length b) (start code input n) (effects (calls p n) n p.main (first_run_state p input n)) (has_back code.places 0 b last main_here).0 right
       ((block_runs code n (calls p n) (calls_run code p program_linked n) t refl 0 p.main (has_front code.prints 0 (block_prints p.main) later_prints all_prints)).by 0 [] [] (first_run_state p input n) refl (has_front code.places 0 b last main_here) (first_within input n))
 
-  pub behaves : Behaves p code
+  pub behaves : IsFaithful p code
   behaves = record {
     ends = λ input n right. in_steps (program_runs input n right);
     only = λ input n m r right e. subst (Agrees (meaning p input n)) e (agrees (program_runs input n right) m);

@@ -1,7 +1,7 @@
 -- Where the runs of a session were cut as memory, its reader or its writer failed.
 use Rattle.std.proofs.Common.{◌≡◌, ℕ, ◌+◌, false, List, [], inl, Option, Some, None, refl, arith}
 use Rattle.std.proofs.KnownBytes.{Appends-nil, Consumes-nil}
-use Rattle.ss_input.specs.Blocks.{KnowsEnd}
+use Rattle.ss_input.specs.Blocks.{IsEndKnown}
 use Rattle.ss_input.specs.declared.source.Source.{Source}
 use Rattle.ss_input.specs.Inputs.{IsFresh, source_block, source_reader}
 use Rattle.ss_program.specs.Program.{Program}
@@ -13,42 +13,42 @@ use Rattle.ss_machine.specs.Situations.{Situation, IsCodeOf}
 use Rattle.ss_machine.specs.declared.stop.Stop.{Stop}
 use Rattle.ss_machine.specs.declared.stop.Stop.TheVariants.{Ended, Fault, Paused, Memory, Output, Input, Failed}
 use Rattle.ss_machine.specs.Start.{IsAtStart}
-use Rattle.ss_machine.specs.Runs.{Comes, TookLast, does_read, does_write}
+use Rattle.ss_machine.specs.Runs.{HasCome, HasTakenLast, does_read, does_write}
 use Rattle.ss_engine.specs.Accepting.{IsProgramOf}
-use Rattle.ss_engine.specs.Sessions.{CameTo, last_stop}
-use Rattle.ss_engine.specs.Cuts.{CutBy, WasCut}
+use Rattle.ss_engine.specs.Sessions.{HasComeTo, last_stop}
+use Rattle.ss_engine.specs.Cuts.{IsCutBy, HasBeenCut}
 use Rattle.ss_engine.proofs.Inputs.{fresh_gave, reads_find}
 use Rattle.ss_engine.proofs.Pieces.{Saying, EachSays, EachLed, finishing, cutting, cutting_at}
 use Rattle.ss_engine.proofs.Headline.{compiled_of, at_first}
 
 module _ {R W : Type 0} (remaining : R → Option (List ℕ)) (contents : W → Option (List ℕ)) (reader last_reader : R) (writer last_writer : W) (text : List ℕ) (p : Program) (is_program : IsProgramOf text p) (code : Generated) (first new : Situation) (source last : Source R) (used made : ℕ)
-    (of : IsCodeOf code (compiled_of p code)) (starts : IsAtStart code first) (fresh : IsFresh reader source) (at_last : source_reader last ≡ last_reader) (knows : KnowsEnd remaining (source_block last)) where
+    (of : IsCodeOf code (compiled_of p code)) (starts : IsAtStart code first) (fresh : IsFresh reader source) (at_last : source_reader last ≡ last_reader) (knows : IsEndKnown remaining (source_block last)) where
   -- a run after which no more is read
-  took_last : (stop : Stop) (Q : Saying) → ((bytes input : List ℕ) → ((more : ℕ) → Q (code_of p) made (start (code_of p) input (used + more)) bytes more) → CutBy stop (code_of p) used made bytes input)
-      → TookLast remaining source last (contents writer) (contents last_writer) (EachSays Q code first used made) → WasCut remaining contents text stop used reader last_reader writer last_writer
+  took_last : (stop : Stop) (Q : Saying) → ((bytes input : List ℕ) → ((more : ℕ) → Q (code_of p) made (start (code_of p) input (used + more)) bytes more) → IsCutBy stop (code_of p) used made bytes input)
+      → HasTakenLast remaining source last (contents writer) (contents last_writer) (EachSays Q code first used made) → HasBeenCut remaining contents text stop used reader last_reader writer last_writer
   took_last stop Q to h = record {
     program = p;
     is_program = is_program;
     made = made;
     bytes = h.bytes;
     took = h.took;
-    place = fresh_gave remaining source last reader last_reader fresh at_last knows (EachSays Q code first used made h.bytes) (CutBy stop (code_of p) used made h.bytes)
+    place = fresh_gave remaining source last reader last_reader fresh at_last knows (EachSays Q code first used made h.bytes) (IsCutBy stop (code_of p) used made h.bytes)
         (λ input s. to h.bytes input (at_first Q p code first of starts used made h.bytes input s)) h.says;
   }
 
   -- a run that goes on isn't cut: its meaning pauses
-  goes : Comes remaining code first new source last (contents writer) (contents last_writer) used made → WasCut remaining contents text Paused used reader last_reader writer last_writer
+  goes : HasCome remaining code first new source last (contents writer) (contents last_writer) used made → HasBeenCut remaining contents text Paused used reader last_reader writer last_writer
   goes h = record {
     program = p;
     is_program = is_program;
     made = made;
     bytes = h.bytes;
     took = h.took;
-    place = fresh_gave remaining source last reader last_reader fresh at_last knows (λ input. (rest : List ℕ) × EachLed code first new used made h.bytes input rest) (CutBy Paused (code_of p) used made h.bytes)
+    place = fresh_gave remaining source last reader last_reader fresh at_last knows (λ input. (rest : List ℕ) × EachLed code first new used made h.bytes input rest) (IsCutBy Paused (code_of p) used made h.bytes)
         (λ input s. tt) (reads_find remaining source last (EachLed code first new used made h.bytes) h.says);
   }
 
-  pub came_cut : (stopped : Option Stop) → CameTo remaining stopped code first new source last (contents writer) (contents last_writer) used made → WasCut remaining contents text (last_stop stopped) used reader last_reader writer last_writer
+  pub came_cut : (stopped : Option Stop) → HasComeTo remaining stopped code first new source last (contents writer) (contents last_writer) used made → HasBeenCut remaining contents text (last_stop stopped) used reader last_reader writer last_writer
   came_cut None h = goes h
   came_cut (Some Ended) h = took_last Ended (finishing EndedThere) (λ bytes input s. tt) h
   came_cut (Some (Fault kind line)) h = took_last (Fault kind line) (finishing (FaultThere kind line)) (λ bytes input s. tt) h
@@ -59,7 +59,7 @@ module _ {R W : Type 0} (remaining : R → Option (List ℕ)) (contents : W → 
   came_cut (Some Failed) h = absurd h
 
 -- nothing was run, read or written
-pub nothing_cut : {R W : Type 0} (remaining : R → Option (List ℕ)) (contents : W → Option (List ℕ)) (text : List ℕ) (p : Program) → IsProgramOf text p → (reader : R) (writer : W) → WasCut remaining contents text Memory 0 reader reader writer writer
+pub nothing_cut : {R W : Type 0} (remaining : R → Option (List ℕ)) (contents : W → Option (List ℕ)) (text : List ℕ) (p : Program) → IsProgramOf text p → (reader : R) (writer : W) → HasBeenCut remaining contents text Memory 0 reader reader writer writer
 nothing_cut remaining contents text p is_program reader writer = record {
   program = p;
   is_program = is_program;

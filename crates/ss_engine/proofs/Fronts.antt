@@ -15,10 +15,10 @@ use Rattle.ss_tree.specs.Nodes as tree
 use Rattle.ss_tables_rules.specs.Broken.{refusal_of_declarations as declaration_refusal}
 use Rattle.ss_tables_rules.specs.declared.error.TableError.{TableError}
 use Rattle.ss_tables_rules.specs.declared.error.TableError.TheVariants as declaring
-use Rattle.ss_tables.specs.Tables.{ReportsTableError}
+use Rattle.ss_tables.specs.Tables.{IsReportedError}
 use Rattle.ss_check_rules.specs.declared.error.CheckError.{CheckError}
 use Rattle.ss_check_rules.specs.declared.error.CheckError.TheVariants as using
-use Rattle.ss_check.specs.Checking.{ReportsCheckError, refusal_of as use_refusal}
+use Rattle.ss_check.specs.Checking.{IsReportedBreach, refusal_of as use_refusal}
 use Rattle.ss_program.specs.Program.{Program}
 use Rattle.ss_program.specs.Nodes as resolved
 use Rattle.ss_code.specs.declared.error.CodeError.{CodeError}
@@ -59,11 +59,11 @@ pub parser_refused : (text : List ℕ) (ts : List Token) → AreTokens text ts �
 parser_refused text ts are parsing.Memory h l = tt
 parser_refused text ts are e h l = record { tokens = ts; are = are; refused = h; other = λ q. cc; line = l }
 
-pub tables_refused : (text : List ℕ) (tree : ProgramTree) → IsTreeOf text tree → (e : TableError) → ReportsTableError e (declaration_refusal tree) → IsRefusedWith text (table_refusal e)
+pub tables_refused : (text : List ℕ) (tree : ProgramTree) → IsTreeOf text tree → (e : TableError) → IsReportedError e (declaration_refusal tree) → IsRefusedWith text (table_refusal e)
 tables_refused text tree r declaring.Memory h = tt
 tables_refused text tree r e h = record { tree = tree; read = r; broken = h }
 
-pub checker_refused : (text : List ℕ) (tree : ProgramTree) → IsTreeOf text tree → declaration_refusal tree ≡ None → (e : CheckError) → ReportsCheckError e (use_refusal tree) → IsRefusedWith text (used e)
+pub checker_refused : (text : List ℕ) (tree : ProgramTree) → IsTreeOf text tree → declaration_refusal tree ≡ None → (e : CheckError) → IsReportedBreach e (use_refusal tree) → IsRefusedWith text (used e)
 checker_refused text tree r d using.Memory h = tt
 checker_refused text tree r d e h = record { tree = tree; read = r; declared = d; broken = h }
 

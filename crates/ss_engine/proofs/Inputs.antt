@@ -1,19 +1,19 @@
 -- One call of a source after another.
 use Rattle.std.proofs.Common.{◌≡◌, ℕ, Bool, true, false, List, [], ◌++◌, refl, sym, ap, subst, ◌∙◌, append_assoc}
 use Rattle.std.proofs.KnownBytes.{Consumes-trans}
-use Rattle.ss_input.specs.Blocks.{KnowsEnd}
+use Rattle.ss_input.specs.Blocks.{IsEndKnown}
 use Rattle.ss_input.specs.declared.source.Source.{Source}
 use Rattle.std.specs.declared.option.Option.{Option}
 use Rattle.std.specs.Io.KnownBytes.{Consumes, IsAtEnd}
-use Rattle.ss_input.specs.Inputs.{source_block, source_reader, IsAhead, Reads, Finds, IsFresh}
-use Rattle.ss_engine.specs.Headline.{Gave}
+use Rattle.ss_input.specs.Inputs.{source_block, source_reader, IsAhead, HasReadInput, HasFound, IsFresh}
+use Rattle.ss_engine.specs.Headline.{HasGivenInput}
 
 none_more : (xs more : List ℕ) → xs ≡ [] → more ≡ [] → xs ++ more ≡ []
 none_more xs more e f = ap (λ l. l ++ more) e ∙ f
 
 module _ {R : Type 0} (remaining : R → Option (List ℕ)) (a b c : Source R) where
   -- a call that read, and one after which no more is read
-  pub reads_then_finds : (S : (input rest : List ℕ) → Type 0) (T : List ℕ → Type 0) (U : List ℕ → Type 0) → ((input rest : List ℕ) → S input rest → T rest → U input) → Reads remaining a b S → Finds remaining b c T → Finds remaining a c U
+  pub reads_then_finds : (S : (input rest : List ℕ) → Type 0) (T : List ℕ → Type 0) (U : List ℕ → Type 0) → ((input rest : List ℕ) → S input rest → T rest → U input) → HasReadInput remaining a b S → HasFound remaining b c T → HasFound remaining a c U
   reads_then_finds S T U join h g = record {
     got = h.got ++ g.got;
     consumed = Consumes-trans (remaining (source_reader a)) (remaining (source_reader b)) (remaining (source_reader c)) h.got g.got h.consumed g.consumed;
@@ -24,7 +24,7 @@ module _ {R : Type 0} (remaining : R → Option (List ℕ)) (a b c : Source R) w
   }
 
   -- a call that read, and another
-  pub reads_then_reads : (S T U : (input rest : List ℕ) → Type 0) → ((input rest last : List ℕ) → S input rest → T rest last → U input last) → Reads remaining a b S → Reads remaining b c T → Reads remaining a c U
+  pub reads_then_reads : (S T U : (input rest : List ℕ) → Type 0) → ((input rest last : List ℕ) → S input rest → T rest last → U input last) → HasReadInput remaining a b S → HasReadInput remaining b c T → HasReadInput remaining a c U
   reads_then_reads S T U join h g = record {
     got = h.got ++ g.got;
     consumed = Consumes-trans (remaining (source_reader a)) (remaining (source_reader b)) (remaining (source_reader c)) h.got g.got h.consumed g.consumed;
@@ -49,12 +49,12 @@ not_both true e f = absurd cc
 not_both false e f = absurd cc
 
 -- a fresh source has not met the end of its reader
-pub fresh_knows : {R : Type 0} (remaining : R → Option (List ℕ)) (reader : R) (s : Source R) → IsFresh reader s → KnowsEnd remaining (source_block s)
+pub fresh_knows : {R : Type 0} (remaining : R → Option (List ℕ)) (reader : R) (s : Source R) → IsFresh reader s → IsEndKnown remaining (source_block s)
 fresh_knows remaining reader s f e = absurd (not_both (source_block s).ended f.not_ended e)
 
 module _ {R : Type 0} (remaining : R → Option (List ℕ)) (source last : Source R) where
   -- what holds of the input before a run holds of what the reader of a fresh source gave
-  pub fresh_gave : (reader last_reader : R) → IsFresh reader source → source_reader last ≡ last_reader → KnowsEnd remaining (source_block last) → (Says Means : List ℕ → Type 0) → ((input : List ℕ) → Says input → Means input) → Finds remaining source last Says → Gave remaining reader last_reader Means
+  pub fresh_gave : (reader last_reader : R) → IsFresh reader source → source_reader last ≡ last_reader → IsEndKnown remaining (source_block last) → (Says Means : List ℕ → Type 0) → ((input : List ℕ) → Says input → Means input) → HasFound remaining source last Says → HasGivenInput remaining reader last_reader Means
   fresh_gave reader last_reader fresh at_last knows Says Means to f = record {
     read = f.got;
     ended = (source_block last).ended;
@@ -64,7 +64,7 @@ module _ {R : Type 0} (remaining : R → Option (List ℕ)) (source last : Sourc
   }
 
   -- what a call reads, it finds
-  pub reads_find : (Says : (input rest : List ℕ) → Type 0) → Reads remaining source last Says → Finds remaining source last (λ input. (rest : List ℕ) × Says input rest)
+  pub reads_find : (Says : (input rest : List ℕ) → Type 0) → HasReadInput remaining source last Says → HasFound remaining source last (λ input. (rest : List ℕ) × Says input rest)
   reads_find Says h = record {
     got = h.got;
     consumed = h.consumed;

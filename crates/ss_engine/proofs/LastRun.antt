@@ -5,9 +5,9 @@ use Rattle.ss_machine.specs.declared.stop.Stop.{Stop}
 use Rattle.ss_machine.specs.declared.stop.Stop.TheVariants.{Paused}
 use Rattle.ss_engine.specs.declared.outcome.Outcome.TheVariants.{Stopped}
 use Rattle.ss_engine.specs.declared.session.Session.{Session}
-use Rattle.ss_engine.specs.Headline.{Simulated, handed_out}
-use Rattle.ss_engine.specs.LastRun.{LastRun, runs_of}
-use Rattle.ss_engine.specs.Sessions.{HasRun, WasRun, session_machine, session_reader, session_writer, last_stop}
+use Rattle.ss_engine.specs.Headline.{IsSimulated, handed_out}
+use Rattle.ss_engine.specs.LastRun.{HasLastRun, runs_of}
+use Rattle.ss_engine.specs.Sessions.{HasRun, HasBeenRun, session_machine, session_reader, session_writer, last_stop}
 use Rattle.ss_engine.proofs.Handing.{at_least}
 
 module _ {R W : Type 0} (remaining : R → Option (List ℕ)) (read_faults : R → ℕ) (contents : W → Option (List ℕ)) (write_faults : W → ℕ) (text : List ℕ) (code : Generated) (reader : R) (writer : W) where
@@ -15,10 +15,10 @@ module _ {R W : Type 0} (remaining : R → Option (List ℕ)) (read_faults : R �
   abbrev pub AreMeant : Type 0
   AreMeant =
       (session : Session R W) (pieces : List ℕ) → pieces ≢ [] → HasRun remaining read_faults contents write_faults code reader writer pieces session →
-      Simulated remaining contents text (last_stop (session_machine session).stopped) (session_machine session).used reader (session_reader session) writer (session_writer session)
+      IsSimulated remaining contents text (last_stop (session_machine session).stopped) (session_machine session).used reader (session_reader session) writer (session_writer session)
 
-  pub last_run : AreMeant → (pieces done after : List ℕ) (s : Session R W) → runs_of pieces ≡ done ++ after → (w : WasRun remaining read_faults contents write_faults code reader writer done s) →
-      (used : ℕ) → (session_machine s).used ≡ used → (Says : R → W → Type 0) → Says (session_reader w.earlier) (session_writer w.earlier) → LastRun remaining contents text pieces used reader writer Says
+  pub last_run : AreMeant → (pieces done after : List ℕ) (s : Session R W) → runs_of pieces ≡ done ++ after → (w : HasBeenRun remaining read_faults contents write_faults code reader writer done s) →
+      (used : ℕ) → (session_machine s).used ≡ used → (Says : R → W → Type 0) → Says (session_reader w.earlier) (session_writer w.earlier) → HasLastRun remaining contents text pieces used reader writer Says
   last_run meant pieces done after s e w used u Says says = record {
     before = w.before;
     last = w.last;
@@ -27,8 +27,8 @@ module _ {R W : Type 0} (remaining : R → Option (List ℕ)) (read_faults : R �
     reader_then = session_reader w.earlier;
     writer_then = session_writer w.earlier;
     first = w.first;
-    paused = λ some. subst (λ n. Simulated remaining contents text Paused n reader (session_reader w.earlier) writer (session_writer w.earlier)) all
-        (subst (λ o. Simulated remaining contents text (last_stop o) (session_machine w.earlier).used reader (session_reader w.earlier) writer (session_writer w.earlier)) w.paused (meant w.earlier w.before some w.run_before));
+    paused = λ some. subst (λ n. IsSimulated remaining contents text Paused n reader (session_reader w.earlier) writer (session_writer w.earlier)) all
+        (subst (λ o. IsSimulated remaining contents text (last_stop o) (session_machine w.earlier).used reader (session_reader w.earlier) writer (session_writer w.earlier)) w.paused (meant w.earlier w.before some w.run_before));
     least = subst (λ n. handed_out w.before ≤ n) u (at_least (session_machine w.earlier).used (handed_out w.before) (session_machine s).used all w.more);
     most = subst (λ n. n ≤ handed_out (w.before ++ w.last ∷ [])) u (subst (λ ps. (session_machine s).used ≤ handed_out ps) w.are w.run.used);
     says = says;

@@ -5,14 +5,14 @@ use Rattle.ss_lex.specs.declared.token.Token.{Token}
 use Rattle.ss_parse.specs.declared.error.ParseError.{ParseError}
 use Rattle.ss_parse.specs.declared.error.ParseError.TheVariants as parsing
 use Rattle.ss_parse.specs.Promise.{One_tree, Is_refused}
-use Rattle.ss_parse.specs.SpelledPrograms.{Spell}
+use Rattle.ss_parse.specs.SpelledPrograms.{Is_spelling}
 use Rattle.ss_program.specs.Program.{Program}
-use Rattle.ss_program.specs.WellTyped.{WellTyped}
+use Rattle.ss_program.specs.WellTyped.{IsWellTyped}
 use Rattle.ss_check.specs.Checking.{resolved_program, refusal_of as use_refusal}
 use Rattle.ss_check.specs.ProgramLaws.{ProgramsResolve}
 use Rattle.ss_meaning.specs.Laws.{NeverWrong}
 use Rattle.ss_meaning.specs.Meaning.{Run, WentWrong, meaning}
-use Rattle.ss_code_instructions.specs.Laws.{EndingsStay, ExtendsReport, Prefixes}
+use Rattle.ss_code_instructions.specs.Laws.{EndingsStay, IsReportPrefix, Prefixes}
 use Rattle.ss_parse.specs.Openers.{nesting_limit}
 use Rattle.ss_tree.specs.Tree.{ProgramTree}
 use Rattle.ss_tables_rules.specs.Broken.{refusal_of_declarations as declaration_refusal}
@@ -28,7 +28,7 @@ same_program p q e = cc
 pub same_tree : OneList → One_tree → (text : List ℕ) (tree other : ProgramTree) → IsTreeOf text tree → IsTreeOf text other → tree ≡ other
 same_tree one_list one_tree text tree other a b =
     let tokens = one_list text a.tokens b.tokens a.are b.are in
-    one_tree b.tokens nesting_limit nesting_limit tree other (subst (λ (ts : List Token). Spell ts nesting_limit tree) tokens a.spelled) b.spelled
+    one_tree b.tokens nesting_limit nesting_limit tree other (subst (λ (ts : List Token). Is_spelling ts nesting_limit tree) tokens a.spelled) b.spelled
 
 pub one_program : OneList → One_tree → OneProgram
 one_program one_list one_tree text p q m n =
@@ -39,7 +39,7 @@ none_is_no_some : {A : Type 0} (o : Option A) (x : A) → o ≡ None → o ≡ S
 none_is_no_some o x none some = cc
 
 -- tokens that are refused for another cause than memory spell no tree
-spells_none : (ts : List Token) (e : ParseError) (tree : ProgramTree) → e ≢ parsing.Memory → Is_refused ts e → Spell ts nesting_limit tree → ⊥
+spells_none : (ts : List Token) (e : ParseError) (tree : ProgramTree) → e ≢ parsing.Memory → Is_refused ts e → Is_spelling ts nesting_limit tree → ⊥
 spells_none ts (parsing.Syntax line) tree other refused spelled = refused nesting_limit tree spelled
 spells_none ts (parsing.TooDeep line) tree other refused spelled = refused.0 tree spelled
 spells_none ts parsing.Memory tree other refused spelled = other refl
@@ -48,7 +48,7 @@ pub refused_is_ill_formed : OneList → OneAnswer → One_tree → RefusedIsIllF
 refused_is_ill_formed one_list answers one_tree text (Lexed e) r memory long (tree, keeps) = answers.never_both text keeps.read.tokens e keeps.read.are r
 refused_is_ill_formed one_list answers one_tree text (Parsed e) r memory long (tree, keeps) =
     let tokens = one_list text keeps.read.tokens r.tokens keeps.read.are r.are in
-    spells_none r.tokens e tree r.other r.refused (subst (λ (ts : List Token). Spell ts nesting_limit tree) tokens keeps.read.spelled)
+    spells_none r.tokens e tree r.other r.refused (subst (λ (ts : List Token). Is_spelling ts nesting_limit tree) tokens keeps.read.spelled)
 refused_is_ill_formed one_list answers one_tree text (Declared e) r memory long (tree, keeps) =
     let same = same_tree one_list one_tree text r.tree tree r.read keeps.read in
     none_is_no_some (declaration_refusal r.tree) e (ap declaration_refusal same ∙ keeps.declared) r.broken
@@ -70,7 +70,7 @@ each_has_one resolves text (tree, keeps) input n =
 pub programs_are_typed : ProgramsResolve → ProgramsAreTyped
 programs_are_typed resolves text p m =
     let r = resolves m.tree m.keeps.declared m.keeps.kept in
-    subst WellTyped (same_program r.0 p (sym r.1 ∙ m.resolved)) r.2
+    subst IsWellTyped (same_program r.0 p (sym r.1 ∙ m.resolved)) r.2
 
 pub never_goes_wrong : ProgramsAreTyped → NeverWrong → NeverGoesWrong
 never_goes_wrong typed never text input n run h e =
@@ -86,7 +86,7 @@ reports_grow one never prefixes text input n more run longer a b =
     let p = a.program in
     let right = program_never_wrong never text p a.is_program input in
     let same : meaning p input (n + more) ≡ longer = ap (λ q. meaning q input (n + more)) (one text p b.program a.is_program b.is_program) ∙ b.is_run in
-    subst (λ (r : Run). ExtendsReport run.report r.report) same (subst (λ (r : Run). ExtendsReport r.report (meaning p input (n + more)).report) a.is_run (prefixes p input n more (right n) (right (n + more))))
+    subst (λ (r : Run). IsReportPrefix run.report r.report) same (subst (λ (r : Run). IsReportPrefix r.report (meaning p input (n + more)).report) a.is_run (prefixes p input n more (right n) (right (n + more))))
 
 pub endings_stay : NeverGoesWrong → EndingsStay → TextEndingsStay
 endings_stay never stay text input n more run a going =

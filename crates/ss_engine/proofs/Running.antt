@@ -3,7 +3,7 @@ use Rattle.std.proofs.Common.{◌≡◌, ◌≢◌, ℕ, ◌+◌, ◌-◌, ◌^�
 use Rattle.std.proofs.KnownBytes.{Appends-nil, Consumes-nil}
 use Rattle.std.specs.Io.KnownBytes.{Appends}
 use Rattle.ss_base.specs.Failures.{HasRisen, HasRisenBy}
-use Rattle.ss_input.specs.Blocks.{KnowsEnd}
+use Rattle.ss_input.specs.Blocks.{IsEndKnown}
 use Rattle.ss_input.specs.declared.source.Source.{Source}
 use Rattle.ss_input.specs.Inputs.{source_block}
 use Rattle.ss_code.specs.Running.{Generated}
@@ -14,9 +14,9 @@ use Rattle.ss_machine.specs.Situations.{Situation}
 use Rattle.ss_machine.specs.declared.stop.Stop.{Stop}
 use Rattle.ss_machine.specs.declared.stop.Stop.TheVariants.{Ended, Fault, Paused, Memory, Output, Input, Failed}
 use Rattle.ss_machine.specs.Held.{kept_after}
-use Rattle.ss_machine.specs.Runs.{Comes, IsPausing, Ran}
+use Rattle.ss_machine.specs.Runs.{HasCome, IsPausing, IsRunResult}
 use Rattle.ss_engine.specs.declared.session.Session.{Session}
-use Rattle.ss_engine.specs.Sessions.{Begins, CameTo, GoesOn, HasRun, WasRun, session_machine, session_reader, session_source, session_writer, last_stop}
+use Rattle.ss_engine.specs.Sessions.{IsNewSession, HasComeTo, CanGoOn, HasRun, HasBeenRun, session_machine, session_reader, session_source, session_writer, last_stop}
 use Rattle.ss_engine.proofs.Pieces.{ran_then}
 use Rattle.ss_engine.proofs.Handing.{used_more, still_used, used_all, used_since}
 use Rattle.ss_engine.proofs.Inputs.{fresh_knows}
@@ -69,7 +69,7 @@ either_stop None stopped going = going refl
 -- ## The state of a machine
 
 module _ {R : Type 0} (remaining : R → Option (List ℕ)) (code : Generated) (old new : Situation) (source last : Source R) (a b : Option (List ℕ)) (taken made : ℕ) where
-  pub came_kept : (stop : Stop) → Ran remaining stop code old new source last a b taken made → CameTo remaining (kept_after stop) code old new source last a b taken made
+  pub came_kept : (stop : Stop) → IsRunResult remaining stop code old new source last a b taken made → HasComeTo remaining (kept_after stop) code old new source last a b taken made
   came_kept Ended h = h
   came_kept (Fault kind line) h = h
   came_kept Paused h = h.0
@@ -78,7 +78,7 @@ module _ {R : Type 0} (remaining : R → Option (List ℕ)) (code : Generated) (
   came_kept Input h = h
   came_kept Failed h = h
 
-  pub came_ran : (o : Option Stop) → CameTo remaining o code old new source last a b taken made → (o ≡ None → IsPausing code new) → Ran remaining (last_stop o) code old new source last a b taken made
+  pub came_ran : (o : Option Stop) → HasComeTo remaining o code old new source last a b taken made → (o ≡ None → IsPausing code new) → IsRunResult remaining (last_stop o) code old new source last a b taken made
   came_ran None h due = (h, due refl)
   came_ran (Some stop) h due = h
 
@@ -87,8 +87,8 @@ module _ {R : Type 0} (remaining : R → Option (List ℕ)) (code : Generated) (
 fallen_by_none : (count : ℕ) → HasRisenBy 0 count count
 fallen_by_none count = omega arith
 
-module _ {R W : Type 0} (remaining : R → Option (List ℕ)) (read_faults : R → ℕ) (contents : W → Option (List ℕ)) (write_faults : W → ℕ) (code : Generated) (reader : R) (writer : W) (s : Session R W) (b : Begins code reader writer s) where
-  came_none : Comes remaining code (session_machine s).at (session_machine s).at (session_source s) (session_source s) (contents writer) (contents (session_writer s)) (session_machine s).used (session_machine s).steps
+module _ {R W : Type 0} (remaining : R → Option (List ℕ)) (read_faults : R → ℕ) (contents : W → Option (List ℕ)) (write_faults : W → ℕ) (code : Generated) (reader : R) (writer : W) (s : Session R W) (b : IsNewSession code reader writer s) where
+  came_none : HasCome remaining code (session_machine s).at (session_machine s).at (session_source s) (session_source s) (contents writer) (contents (session_writer s)) (session_machine s).used (session_machine s).steps
   came_none = record {
     bytes = [];
     took = subst (λ w. Appends (contents writer) (contents w) []) (sym b.writer_is) (Appends-nil (contents writer));
@@ -119,7 +119,7 @@ module _ {R W : Type 0} (remaining : R → Option (List ℕ)) (read_faults : R �
     starts = b.first.state;
     fresh = b.fresh;
     code_is = b.first.code_is;
-    came = subst (λ o. CameTo remaining o code (session_machine s).at (session_machine s).at (session_source s) (session_source s) (contents writer) (contents (session_writer s)) (session_machine s).used (session_machine s).steps) (sym b.first.stopped) came_none;
+    came = subst (λ o. HasComeTo remaining o code (session_machine s).at (session_machine s).at (session_source s) (session_source s) (contents writer) (contents (session_writer s)) (session_machine s).used (session_machine s).steps) (sym b.first.stopped) came_none;
     paused = λ none some. absurd (some refl);
     goes_on = λ none. record { unstopped = none; unmissed = b.fresh.missed };
     right = λ e. let q : None ≡ Some Failed = sym b.first.stopped ∙ e in absurd cc;
@@ -158,29 +158,29 @@ module _ {R W : Type 0} (remaining : R → Option (List ℕ)) (read_faults : R �
 
   -- of one that goes on
   module _ (on : StepsGoOn) (stop : Stop) (going : (session_machine old).stopped ≡ None)
-      (ran : Ran remaining stop (session_machine old).code (session_machine old).at (session_machine new).at (session_source old) (session_source new) (contents (session_writer old)) (contents (session_writer new)) ((session_machine new).used - (session_machine old).used) ((session_machine new).steps - (session_machine old).steps))
+      (ran : IsRunResult remaining stop (session_machine old).code (session_machine old).at (session_machine new).at (session_source old) (session_source new) (contents (session_writer old)) (contents (session_writer new)) ((session_machine new).used - (session_machine old).used) ((session_machine new).steps - (session_machine old).steps))
       (right : stop ≡ Failed → ⊥) (stopped : (session_machine new).stopped ≡ kept_after stop) (same : (session_machine new).code ≡ (session_machine old).code)
       (least : (session_machine old).used ≤ (session_machine new).used) (most : (session_machine new).used ≤ (session_machine old).used + ticks) (small : (session_machine new).used ≤ 2 ^ 64 - 1) (steps : (session_machine old).steps ≤ (session_machine new).steps)
       (paused : stop ≡ Paused → (session_machine new).used ≡ min ((session_machine old).used + ticks) (2 ^ 64 - 1)) where
-    before : Comes remaining code h.first (session_machine old).at h.source (session_source old) (contents writer) (contents (session_writer old)) (session_machine old).used (session_machine old).steps
-    before = subst (λ o. CameTo remaining o code h.first (session_machine old).at h.source (session_source old) (contents writer) (contents (session_writer old)) (session_machine old).used (session_machine old).steps) going h.came
+    before : HasCome remaining code h.first (session_machine old).at h.source (session_source old) (contents writer) (contents (session_writer old)) (session_machine old).used (session_machine old).steps
+    before = subst (λ o. HasComeTo remaining o code h.first (session_machine old).at h.source (session_source old) (contents writer) (contents (session_writer old)) (session_machine old).used (session_machine old).steps) going h.came
 
-    here : Ran remaining stop code (session_machine old).at (session_machine new).at (session_source old) (session_source new) (contents (session_writer old)) (contents (session_writer new)) ((session_machine new).used - (session_machine old).used) ((session_machine new).steps - (session_machine old).steps)
-    here = subst (λ k. Ran remaining stop k (session_machine old).at (session_machine new).at (session_source old) (session_source new) (contents (session_writer old)) (contents (session_writer new)) ((session_machine new).used - (session_machine old).used) ((session_machine new).steps - (session_machine old).steps)) h.code_is ran
+    here : IsRunResult remaining stop code (session_machine old).at (session_machine new).at (session_source old) (session_source new) (contents (session_writer old)) (contents (session_writer new)) ((session_machine new).used - (session_machine old).used) ((session_machine new).steps - (session_machine old).steps)
+    here = subst (λ k. IsRunResult remaining stop k (session_machine old).at (session_machine new).at (session_source old) (session_source new) (contents (session_writer old)) (contents (session_writer new)) ((session_machine new).used - (session_machine old).used) ((session_machine new).steps - (session_machine old).steps)) h.code_is ran
 
     -- all runs as one
-    whole : Ran remaining stop code h.first (session_machine new).at h.source (session_source new) (contents writer) (contents (session_writer new)) (session_machine new).used (session_machine new).steps
+    whole : IsRunResult remaining stop code h.first (session_machine new).at h.source (session_source new) (contents writer) (contents (session_writer new)) (session_machine new).used (session_machine new).steps
     whole =
         let joined = ran_then on remaining code h.first (session_machine old).at (session_machine new).at h.source (session_source old) (session_source new) (contents writer) (contents (session_writer old)) (contents (session_writer new)) (session_machine old).used (session_machine old).steps ((session_machine new).used - (session_machine old).used) ((session_machine new).steps - (session_machine old).steps) stop before here in
-        subst (λ n. Ran remaining stop code h.first (session_machine new).at h.source (session_source new) (contents writer) (contents (session_writer new)) (session_machine new).used n) (used_since (session_machine old).steps (session_machine new).steps steps)
-        (subst (λ n. Ran remaining stop code h.first (session_machine new).at h.source (session_source new) (contents writer) (contents (session_writer new)) n ((session_machine old).steps + ((session_machine new).steps - (session_machine old).steps))) (used_since (session_machine old).used (session_machine new).used least) joined)
+        subst (λ n. IsRunResult remaining stop code h.first (session_machine new).at h.source (session_source new) (contents writer) (contents (session_writer new)) (session_machine new).used n) (used_since (session_machine old).steps (session_machine new).steps steps)
+        (subst (λ n. IsRunResult remaining stop code h.first (session_machine new).at h.source (session_source new) (contents writer) (contents (session_writer new)) n ((session_machine old).steps + ((session_machine new).steps - (session_machine old).steps))) (used_since (session_machine old).used (session_machine new).used least) joined)
 
     due : (session_machine new).stopped ≡ None → IsPausing code (session_machine new).at
     due none =
-        let so = subst (λ s. Ran remaining s code (session_machine old).at (session_machine new).at (session_source old) (session_source new) (contents (session_writer old)) (contents (session_writer new)) ((session_machine new).used - (session_machine old).used) ((session_machine new).steps - (session_machine old).steps)) (kept_none stop (sym stopped ∙ none)) here in
+        let so = subst (λ s. IsRunResult remaining s code (session_machine old).at (session_machine new).at (session_source old) (session_source new) (contents (session_writer old)) (contents (session_writer new)) ((session_machine new).used - (session_machine old).used) ((session_machine new).steps - (session_machine old).steps)) (kept_none stop (sym stopped ∙ none)) here in
         so.1
 
-    pub runs_on : (stop ≡ Paused → GoesOn new) → (KnowsEnd remaining (source_block (session_source old)) → KnowsEnd remaining (source_block (session_source new)))
+    pub runs_on : (stop ≡ Paused → CanGoOn new) → (IsEndKnown remaining (source_block (session_source old)) → IsEndKnown remaining (source_block (session_source new)))
         → (stop ≡ Output → HasRisen (write_faults (session_writer old)) (write_faults (session_writer new))) → (stop ≡ Input → HasRisen (read_faults (session_reader old)) (read_faults (session_reader new)))
         → HasRisenBy 0 (write_faults (session_writer old)) (write_faults (session_writer new)) → HasRisenBy 0 (read_faults (session_reader old)) (read_faults (session_reader new))
         → HasRun remaining read_faults contents write_faults code reader writer (pieces ++ ticks ∷ []) new
@@ -190,7 +190,7 @@ module _ {R W : Type 0} (remaining : R → Option (List ℕ)) (read_faults : R �
       starts = h.starts;
       fresh = h.fresh;
       code_is = same ∙ h.code_is;
-      came = subst (λ o. CameTo remaining o code h.first (session_machine new).at h.source (session_source new) (contents writer) (contents (session_writer new)) (session_machine new).used (session_machine new).steps) (sym stopped)
+      came = subst (λ o. HasComeTo remaining o code h.first (session_machine new).at h.source (session_source new) (contents writer) (contents (session_writer new)) (session_machine new).used (session_machine new).steps) (sym stopped)
           (came_kept remaining code h.first (session_machine new).at h.source (session_source new) (contents writer) (contents (session_writer new)) (session_machine new).used (session_machine new).steps stop whole);
       paused = λ none some. due none;
       goes_on = λ none. goes_on (kept_none stop (sym stopped ∙ none));
@@ -207,11 +207,11 @@ module _ {R W : Type 0} (remaining : R → Option (List ℕ)) (read_faults : R �
 -- ## The last call
 
 module _ {R W : Type 0} (remaining : R → Option (List ℕ)) (read_faults : R → ℕ) (contents : W → Option (List ℕ)) (write_faults : W → ℕ) (code : Generated) (reader : R) (writer : W) where
-  pub runs_last : (pieces before : List ℕ) (last : ℕ) (old new : Session R W) (stop : Stop) → pieces ≡ before ++ last ∷ [] → (before ≡ [] → (session_reader old ≡ reader) × (session_writer old ≡ writer)) → GoesOn old
+  pub runs_last : (pieces before : List ℕ) (last : ℕ) (old new : Session R W) (stop : Stop) → pieces ≡ before ++ last ∷ [] → (before ≡ [] → (session_reader old ≡ reader) × (session_writer old ≡ writer)) → CanGoOn old
       → HasRun remaining read_faults contents write_faults code reader writer before old → HasRun remaining read_faults contents write_faults code reader writer (before ++ last ∷ []) new
       → (session_machine new).stopped ≡ kept_after stop → (session_machine old).used ≤ (session_machine new).used
       → (stop ≡ Output → HasRisen (write_faults (session_writer old)) (write_faults (session_writer new))) → (stop ≡ Input → HasRisen (read_faults (session_reader old)) (read_faults (session_reader new)))
-      → WasRun remaining read_faults contents write_faults code reader writer pieces new
+      → HasBeenRun remaining read_faults contents write_faults code reader writer pieces new
   runs_last pieces before last old new stop are first on run_before run stopped more output input = record {
     before = before;
     last = last;

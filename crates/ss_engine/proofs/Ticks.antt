@@ -6,7 +6,7 @@ use Rattle.ss_meaning.specs.Meaning.{Ending, Ended, Fault, Paused, WentWrong, Ru
 use Rattle.ss_code_instructions.specs.Instructions.{Placed}
 use Rattle.ss_code_instructions.specs.States.{MachineState, Moved, To, Sends, Rest, Stuck, Done, Breaks}
 use Rattle.ss_code_instructions.specs.Machine.{Code, Stepped, Goes, Over, NoStep, act, is_due, with_rest, when_due, step_at, step}
-use Rattle.ss_code_instructions.specs.Running.{Underway, Ends, Behaves, ended_at, after_one_step, start, steps}
+use Rattle.ss_code_instructions.specs.Running.{Underway, Ends, IsFaithful, ended_at, after_one_step, start, steps}
 use Rattle.ss_code_instructions.specs.Laws.{EndingsStay}
 
 -- a step that leaves at most so many ticks
@@ -73,7 +73,7 @@ rest_of fewer n h = omega (arith, h)
 none_left : (t fewer n ticks left : ℕ) → fewer < n → ticks ≡ t + (n - fewer) → ticks ≤ left → left ≡ 0 → ⊥
 none_left t fewer n ticks left lt e h z = omega (arith, lt, e, h, z)
 
-module _ (stay : EndingsStay) (p : Program) (right : (input : List ℕ) (n : ℕ) → (meaning p input n).ending ≢ WentWrong) (code : Code) (behaves : Behaves p code) (input : List ℕ) (n m : ℕ) (x : MachineState) (passed : steps code m (start code input n) ≡ Underway x) (left : x.ticks ≡ 0) (fewer : ℕ) (lt : fewer < n) where
+module _ (stay : EndingsStay) (p : Program) (right : (input : List ℕ) (n : ℕ) → (meaning p input n).ending ≢ WentWrong) (code : Code) (behaves : IsFaithful p code) (input : List ℕ) (n m : ℕ) (x : MachineState) (passed : steps code m (start code input n) ≡ Underway x) (left : x.ticks ≡ 0) (fewer : ℕ) (lt : fewer < n) where
   not_over : (meaning p input fewer).ending ≢ Paused → ⊥
   not_over going =
       let more = stay p input fewer (n - fewer) going (right input fewer) (right input (fewer + (n - fewer))) in

@@ -9,13 +9,13 @@ use Rattle.ss_parse.specs.declared.error.ParseError.{ParseError}
 use Rattle.ss_parse.specs.declared.error.ParseError.TheVariants as parsing
 use Rattle.ss_parse.specs.Openers.{nesting_limit}
 use Rattle.ss_parse.specs.Promise.{Is_refused, Has_line}
-use Rattle.ss_parse.specs.SpelledPrograms.{Spell}
+use Rattle.ss_parse.specs.SpelledPrograms.{Is_spelling}
 use Rattle.ss_tables_rules.specs.declared.error.TableError.{TableError}
 use Rattle.ss_tables_rules.specs.Broken.{refusal_of_declarations as declaration_refusal}
 use Rattle.ss_check_rules.specs.declared.error.CheckError.{CheckError}
 use Rattle.ss_check.specs.Checking.{resolved_program, refusal_of as use_refusal}
 use Rattle.ss_program.specs.Program.{Program}
-use Rattle.ss_code_instructions.specs.Running.{Behaves}
+use Rattle.ss_code_instructions.specs.Running.{IsFaithful}
 use Rattle.ss_code_instructions.specs.Translation.{code_of}
 use Rattle.ss_code_instructions.specs.Size.{code_size}
 use Rattle.ss_code.specs.Limits.{instruction_limit, small_program}
@@ -27,7 +27,7 @@ use Rattle.ss_engine.specs.declared.refusal.Refusal.TheVariants.{Lexed, Parsed, 
 pub record IsTreeOf (text : List ℕ) (tree : ProgramTree) : Type 0 where
   pub tokens : List Token
   pub are : AreTokens text tokens
-  pub spelled : Spell tokens nesting_limit tree
+  pub spelled : Is_spelling tokens nesting_limit tree
 
 -- the text has this tree, which breaks no rule: neither by what it declares nor by what it does with its names
 pub record IsKeptBy (text : List ℕ) (tree : ProgramTree) : Type 0 where
@@ -47,11 +47,11 @@ IsWellFormed text = (tree : ProgramTree) × IsKeptBy text tree
 
 -- the code is that of the text's program, and this code does what the text means: for every input and every number of ticks what the
 -- program means, and nothing else
-pub record Compiles (text : List ℕ) (code : Generated) : Type 0 where
+pub record IsCompiledTo (text : List ℕ) (code : Generated) : Type 0 where
   pub program : Program
   pub meant : IsProgramOf text program
   pub code_is : IsFor program code
-  pub behaves : Behaves program (code_of program)
+  pub behaves : IsFaithful program (code_of program)
 
 -- the text has tokens, and they spell no program: for syntax none of any depth; where it is too deep, none within the
 -- limit on nesting, while more tokens than that open a level; the line is that of a token. Memory is no such cause.

@@ -12,32 +12,32 @@ use Rattle.ss_machine.specs.Runs.{IsCut, IsCutAt, does_read, does_write}
 use Rattle.ss_engine.specs.declared.outcome.Outcome.{Outcome}
 use Rattle.ss_engine.specs.declared.outcome.Outcome.TheVariants.{Refused, Stopped}
 use Rattle.ss_engine.specs.Accepting.{IsProgramOf}
-use Rattle.ss_engine.specs.Headline.{Gave}
+use Rattle.ss_engine.specs.Headline.{HasGivenInput}
 
 -- the code, run from its first state with so many ticks and any more, passes after so many steps a state with those more left:
 -- there or in its next step the report is cut to these bytes; where the writer failed the next instruction writes, where the
 -- reader failed it reads. Of every other stop the meaning says all
-abbrev pub CutBy : Stop → Code → (used made : ℕ) → (bytes input : List ℕ) → Type 0
-CutBy Ended code used made bytes input = Unit {0}
-CutBy (Fault kind line) code used made bytes input = Unit {0}
-CutBy Paused code used made bytes input = Unit {0}
-CutBy Memory code used made bytes input = (more : ℕ) → IsCut code (start code input (used + more)) made bytes more
-CutBy Output code used made bytes input = (more : ℕ) → IsCutAt does_write code (start code input (used + more)) made bytes more
-CutBy Input code used made bytes input = (more : ℕ) → IsCutAt does_read code (start code input (used + more)) made bytes more
-CutBy Failed code used made bytes input = Unit {0}
+abbrev pub IsCutBy : Stop → Code → (used made : ℕ) → (bytes input : List ℕ) → Type 0
+IsCutBy Ended code used made bytes input = Unit {0}
+IsCutBy (Fault kind line) code used made bytes input = Unit {0}
+IsCutBy Paused code used made bytes input = Unit {0}
+IsCutBy Memory code used made bytes input = (more : ℕ) → IsCut code (start code input (used + more)) made bytes more
+IsCutBy Output code used made bytes input = (more : ℕ) → IsCutAt does_write code (start code input (used + more)) made bytes more
+IsCutBy Input code used made bytes input = (more : ℕ) → IsCutAt does_read code (start code input (used + more)) made bytes more
+IsCutBy Failed code used made bytes input = Unit {0}
 
 -- The run of a text that used so many ticks was cut so, while the reader gave its input and the writer took these bytes: so many steps bring
 -- the code of its program to the place of the cut.
-pub record WasCut {R W : Type 0} (remaining : R → Option (List ℕ)) (contents : W → Option (List ℕ)) (text : List ℕ) (stop : Stop) (used : ℕ) (reader new_reader : R) (writer new_writer : W) : Type 0 where
+pub record HasBeenCut {R W : Type 0} (remaining : R → Option (List ℕ)) (contents : W → Option (List ℕ)) (text : List ℕ) (stop : Stop) (used : ℕ) (reader new_reader : R) (writer new_writer : W) : Type 0 where
   pub program : Program
   pub is_program : IsProgramOf text program
   pub made : ℕ
   pub bytes : List ℕ
   pub took : Appends (contents writer) (contents new_writer) bytes
-  pub place : Gave remaining reader new_reader (CutBy stop (code_of program) used made bytes)
+  pub place : HasGivenInput remaining reader new_reader (IsCutBy stop (code_of program) used made bytes)
 
 -- where memory, the reader or the writer failed, the text's code reaches, with these ticks used, a place where its report is cut so
-abbrev pub ReportIsCut : {R W : Type 0} → (R → Option (List ℕ)) → (W → Option (List ℕ)) → List ℕ → Outcome → R → R → W → W → Type 0
-ReportIsCut remaining contents text (Refused refusal) reader new_reader writer new_writer = Unit {0}
-ReportIsCut remaining contents text (Stopped stop used) reader new_reader writer new_writer =
-    WasCut remaining contents text stop used reader new_reader writer new_writer
+abbrev pub IsReportCut : {R W : Type 0} → (R → Option (List ℕ)) → (W → Option (List ℕ)) → List ℕ → Outcome → R → R → W → W → Type 0
+IsReportCut remaining contents text (Refused refusal) reader new_reader writer new_writer = Unit {0}
+IsReportCut remaining contents text (Stopped stop used) reader new_reader writer new_writer =
+    HasBeenCut remaining contents text stop used reader new_reader writer new_writer

@@ -5,7 +5,7 @@ use Rattle.std.specs.declared.option.Option.{Option}
 use Rattle.std.specs.Io.KnownBytes.{Appends, Consumes, IsAtEnd}
 use Rattle.ss_program.specs.Program.{Program}
 use Rattle.ss_meaning.specs.Meaning.{Ended as EndedThere, Fault as FaultThere, Paused as PausedThere, Run, meaning}
-use Rattle.ss_code_instructions.specs.Laws.{ExtendsReport}
+use Rattle.ss_code_instructions.specs.Laws.{IsReportPrefix}
 use Rattle.ss_machine.specs.declared.stop.Stop.{Stop}
 use Rattle.ss_machine.specs.declared.stop.Stop.TheVariants.{Ended, Fault, Paused, Memory, Output, Input, Failed}
 use Rattle.ss_engine.specs.declared.outcome.Outcome.{Outcome}
@@ -27,23 +27,23 @@ pub record IsMeaning (text input : List ℕ) (ticks : ℕ) (run : Run) : Type 0 
 pub record IsCutShort (text input : List ℕ) (used : ℕ) (bytes : List ℕ) : Type 0 where
   pub run : Run
   pub is_meaning : IsMeaning text input used run
-  pub within : ExtendsReport bytes run.report
-  pub beyond : (fewer : ℕ) (earlier : Run) → fewer < used → IsMeaning text input fewer earlier → (earlier.ending ≡ PausedThere) × ExtendsReport earlier.report bytes
+  pub within : IsReportPrefix bytes run.report
+  pub beyond : (fewer : ℕ) (earlier : Run) → fewer < used → IsMeaning text input fewer earlier → (earlier.ending ≡ PausedThere) × IsReportPrefix earlier.report bytes
 
 -- What a run says of its text that used so many ticks, wrote these bytes and stopped so: for these ticks the text means this report
 -- and this ending. After an end or a fault it means them for any more ticks too, which are left.
-abbrev pub Means : Stop → (text : List ℕ) → (used : ℕ) → (bytes input : List ℕ) → Type 0
-Means Ended text used bytes input = (more : ℕ) → IsMeaning text input (used + more) (record { report = bytes; ending = EndedThere; ticks = more })
-Means (Fault kind line) text used bytes input = (more : ℕ) → IsMeaning text input (used + more) (record { report = bytes; ending = FaultThere kind line; ticks = more })
-Means Paused text used bytes input = IsMeaning text input used (record { report = bytes; ending = PausedThere; ticks = 0 })
-Means Memory text used bytes input = IsCutShort text input used bytes
-Means Output text used bytes input = IsCutShort text input used bytes
-Means Input text used bytes input = IsCutShort text input used bytes
-Means Failed text used bytes input = ⊥
+abbrev pub IsMeantRun : Stop → (text : List ℕ) → (used : ℕ) → (bytes input : List ℕ) → Type 0
+IsMeantRun Ended text used bytes input = (more : ℕ) → IsMeaning text input (used + more) (record { report = bytes; ending = EndedThere; ticks = more })
+IsMeantRun (Fault kind line) text used bytes input = (more : ℕ) → IsMeaning text input (used + more) (record { report = bytes; ending = FaultThere kind line; ticks = more })
+IsMeantRun Paused text used bytes input = IsMeaning text input used (record { report = bytes; ending = PausedThere; ticks = 0 })
+IsMeantRun Memory text used bytes input = IsCutShort text input used bytes
+IsMeantRun Output text used bytes input = IsCutShort text input used bytes
+IsMeantRun Input text used bytes input = IsCutShort text input used bytes
+IsMeantRun Failed text used bytes input = ⊥
 
 -- A reader gave some bytes, and maybe its end. This holds of each input that begins with these bytes; where the end was met, it
 -- holds of just these bytes.
-pub record Gave {R : Type 0} (remaining : R → Option (List ℕ)) (old new : R) (Says : List ℕ → Type 0) : Type 0 where
+pub record HasGivenInput {R : Type 0} (remaining : R → Option (List ℕ)) (old new : R) (Says : List ℕ → Type 0) : Type 0 where
   pub read : List ℕ
   pub ended : Bool
   pub gave : Consumes (remaining old) (remaining new) read
@@ -52,13 +52,13 @@ pub record Gave {R : Type 0} (remaining : R → Option (List ℕ)) (old new : R)
 
 -- The run of a text used so many ticks and stopped so. The writer took its report, which is what the text means for each input
 -- that the reader may have begun to give.
-pub record Simulated {R W : Type 0} (remaining : R → Option (List ℕ)) (contents : W → Option (List ℕ)) (text : List ℕ) (stop : Stop) (used : ℕ) (reader new_reader : R) (writer new_writer : W) : Type 0 where
+pub record IsSimulated {R W : Type 0} (remaining : R → Option (List ℕ)) (contents : W → Option (List ℕ)) (text : List ℕ) (stop : Stop) (used : ℕ) (reader new_reader : R) (writer new_writer : W) : Type 0 where
   pub bytes : List ℕ
   pub took : Appends (contents writer) (contents new_writer) bytes
-  pub means : Gave remaining reader new_reader (Means stop text used bytes)
+  pub means : HasGivenInput remaining reader new_reader (IsMeantRun stop text used bytes)
 
 -- the outcome of a text: a refused text has the refusal's cause, and the run of another is what the text means
 abbrev pub IsOutcome : {R W : Type 0} → (R → Option (List ℕ)) → (W → Option (List ℕ)) → (text : List ℕ) → Outcome → (reader new_reader : R) → (writer new_writer : W) → Type 0
 IsOutcome remaining contents text (Refused refusal) reader new_reader writer new_writer = IsRefusedWith text refusal
 IsOutcome remaining contents text (Stopped stop used) reader new_reader writer new_writer =
-    Simulated remaining contents text stop used reader new_reader writer new_writer
+    IsSimulated remaining contents text stop used reader new_reader writer new_writer

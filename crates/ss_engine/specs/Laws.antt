@@ -1,9 +1,9 @@
 -- Laws of what a text means, for every input.
 use Rattle.std.specs.Prelude.{◌≡◌, ◌≢◌, ℕ, ◌+◌, List}
 use Rattle.ss_program.specs.Program.{Program}
-use Rattle.ss_program.specs.WellTyped.{WellTyped}
+use Rattle.ss_program.specs.WellTyped.{IsWellTyped}
 use Rattle.ss_meaning.specs.Meaning.{Paused, Run, WentWrong}
-use Rattle.ss_code_instructions.specs.Laws.{ExtendsReport}
+use Rattle.ss_code_instructions.specs.Laws.{IsReportPrefix}
 use Rattle.ss_engine.specs.declared.refusal.Refusal.{Refusal}
 use Rattle.ss_engine.specs.declared.refusal.Refusal.TheVariants.{CodeTooLong, Memory}
 use Rattle.ss_engine.specs.Accepting.{IsProgramOf, IsRefusedWith, IsWellFormed}
@@ -23,7 +23,7 @@ EachHasOne = (text : List ℕ) → IsWellFormed text → (input : List ℕ) (n :
 
 -- the program of a text is well typed
 abbrev pub ProgramsAreTyped : Type 0
-ProgramsAreTyped = (text : List ℕ) (p : Program) → IsProgramOf text p → WellTyped p
+ProgramsAreTyped = (text : List ℕ) (p : Program) → IsProgramOf text p → IsWellTyped p
 
 -- no text goes wrong
 abbrev pub NeverGoesWrong : Type 0
@@ -31,7 +31,7 @@ NeverGoesWrong = (text input : List ℕ) (n : ℕ) (run : Run) → IsMeaning tex
 
 -- the report for some ticks begins that for more
 abbrev pub ReportsGrow : Type 0
-ReportsGrow = (text input : List ℕ) (n more : ℕ) (run longer : Run) → IsMeaning text input n run → IsMeaning text input (n + more) longer → ExtendsReport run.report longer.report
+ReportsGrow = (text input : List ℕ) (n more : ℕ) (run longer : Run) → IsMeaning text input n run → IsMeaning text input (n + more) longer → IsReportPrefix run.report longer.report
 
 -- an ending other than a pause stays, with its report, for more ticks, which are left
 abbrev pub TextEndingsStay : Type 0

@@ -2,7 +2,7 @@
 
 ghost use Rattle.std.specs.Prelude.{◌≡◌, IfOk, IfErr};
 ghost use Rattle.ss_engine.specs.Refusals.{coded, table_refusal, lexed, parsed, used};
-ghost use Rattle.ss_engine.specs.Accepting.{Compiles, IsRefusedWith};
+ghost use Rattle.ss_engine.specs.Accepting.{IsCompiledTo, IsRefusedWith};
 
 use crate::refusal::Refusal;
 use ss_check::{CheckError, check};
@@ -81,7 +81,7 @@ impl From<CodeError> for Refusal {
 /// first place; `CodeTooLong` where its tree has more than 16,384 nodes and its code more than
 /// 1,048,576 instructions. `Memory` may come before any of them, and says nothing of the text.
 pub fn compile(alloc: Global, text: &[u8]) -> Result<Model, Refusal>
-    ensures accepted { IfOk result (λ model. Compiles text.now model) }
+    ensures accepted { IfOk result (λ model. IsCompiledTo text.now model) }
     ensures refused { IfErr result (λ refusal. IsRefusedWith text.now refusal) }
 {
     laws_of_code();

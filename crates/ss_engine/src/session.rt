@@ -2,14 +2,14 @@
 
 ghost use Rattle.std.specs.Prelude.{◌≡◌, ℕ, ◌+◌, ◌-◌, ◌^◌, ◌≤◌, List, [], ◌∷◌, ◌++◌, min, IfOk, Some};
 ghost use Rattle.ss_base.specs.Failures.{HasRisen, HasRisenBy};
-ghost use Rattle.ss_input.specs.Blocks.{KnowsEnd};
+ghost use Rattle.ss_input.specs.Blocks.{IsEndKnown};
 ghost use Rattle.ss_input.specs.Inputs.{source_block};
 ghost use Rattle.ss_code.specs.Running.{Generated};
 ghost use Rattle.ss_machine.specs.Held.{answer_again, kept_after};
-ghost use Rattle.ss_machine.specs.Runs.{Ran};
-ghost use Rattle.ss_engine.specs.Accepting.{Compiles};
-ghost use Rattle.ss_engine.specs.Headline.{Simulated};
-ghost use Rattle.ss_engine.specs.Sessions.{Begins, GoesOn, HasRun, last_stop, session_machine, session_reader, session_source, session_writer};
+ghost use Rattle.ss_machine.specs.Runs.{IsRunResult};
+ghost use Rattle.ss_engine.specs.Accepting.{IsCompiledTo};
+ghost use Rattle.ss_engine.specs.Headline.{IsSimulated};
+ghost use Rattle.ss_engine.specs.Sessions.{IsNewSession, CanGoOn, HasRun, last_stop, session_machine, session_reader, session_source, session_writer};
 
 use crate::session_laws::sessions_are_meant;
 use ss_base::{FaultyRead, FaultyWrite};
@@ -31,7 +31,7 @@ impl<R: FaultyRead, W: FaultyWrite> Session<R, W> {
     /// A session before the first instruction of this model, which has not run yet. Where memory was
     /// refused, the reader and the writer come back as they were.
     pub fn start(alloc: Global, model: Model, reader: R, writer: W) -> Result<Session<R, W>, (R, W)>
-        ensures ok { IfOk result (λ session. Begins model reader writer session) }
+        ensures ok { IfOk result (λ session. IsNewSession model reader writer session) }
         ensures has_run { IfOk result (λ session. HasRun R.remaining R.faults W.contents W.faults model reader writer [] session) }
         ensures err { (given : R × W) → result ≡ Err given → given ≡ (reader, writer) }
     {
@@ -57,19 +57,19 @@ impl<R: FaultyRead, W: FaultyWrite> Session<R, W> {
     /// What all runs of a session did, one after another, is what its text means for all their ticks (`meant`).
     pub fn run(&mut self, ticks: u64) -> Stop
         ensures again { (before : Stop) → (session_machine self.old).stopped ≡ Some before → (result ≡ answer_again before) × (self.new ≡ self.old) }
-        ensures ran { GoesOn self.old → Ran R.remaining result (session_machine self.old).code (session_machine self.old).at (session_machine self.new).at (session_source self.old) (session_source self.new) (W.contents (session_writer self.old)) (W.contents (session_writer self.new)) ((session_machine self.new).used - (session_machine self.old).used) ((session_machine self.new).steps - (session_machine self.old).steps) }
+        ensures ran { CanGoOn self.old → IsRunResult R.remaining result (session_machine self.old).code (session_machine self.old).at (session_machine self.new).at (session_source self.old) (session_source self.new) (W.contents (session_writer self.old)) (W.contents (session_writer self.new)) ((session_machine self.new).used - (session_machine self.old).used) ((session_machine self.new).steps - (session_machine self.old).steps) }
         ensures has_run { (code : Generated) (reader : R) (writer : W) (pieces : List ℕ) → HasRun R.remaining R.faults W.contents W.faults code reader writer pieces self.old → HasRun R.remaining R.faults W.contents W.faults code reader writer (pieces ++ ticks ∷ []) self.new }
-        ensures meant { (text : List ℕ) (code : Generated) (reader : R) (writer : W) (pieces : List ℕ) → Compiles text code → HasRun R.remaining R.faults W.contents W.faults code reader writer pieces self.old → Simulated R.remaining W.contents text (last_stop (session_machine self.new).stopped) (session_machine self.new).used reader (session_reader self.new) writer (session_writer self.new) }
-        ensures goes_on { GoesOn self.old → result ≡ Stop.Paused → GoesOn self.new }
-        ensures never_failed { GoesOn self.old → result ≡ Stop.Failed → ⊥ }
-        ensures stopped { GoesOn self.old → (session_machine self.new).stopped ≡ kept_after result }
+        ensures meant { (text : List ℕ) (code : Generated) (reader : R) (writer : W) (pieces : List ℕ) → IsCompiledTo text code → HasRun R.remaining R.faults W.contents W.faults code reader writer pieces self.old → IsSimulated R.remaining W.contents text (last_stop (session_machine self.new).stopped) (session_machine self.new).used reader (session_reader self.new) writer (session_writer self.new) }
+        ensures goes_on { CanGoOn self.old → result ≡ Stop.Paused → CanGoOn self.new }
+        ensures never_failed { CanGoOn self.old → result ≡ Stop.Failed → ⊥ }
+        ensures stopped { CanGoOn self.old → (session_machine self.new).stopped ≡ kept_after result }
         ensures code { (session_machine self.new).code ≡ (session_machine self.old).code }
-        ensures end { KnowsEnd R.remaining (source_block (session_source self.old)) → KnowsEnd R.remaining (source_block (session_source self.new)) }
+        ensures end { IsEndKnown R.remaining (source_block (session_source self.old)) → IsEndKnown R.remaining (source_block (session_source self.new)) }
         ensures used { ((session_machine self.old).used ≤ (session_machine self.new).used) × ((session_machine self.new).used ≤ (session_machine self.old).used + ticks) }
-        ensures within { GoesOn self.old → (session_machine self.new).used ≤ 2 ^ 64 - 1 }
-        ensures paused { GoesOn self.old → result ≡ Stop.Paused → (session_machine self.new).used ≡ min ((session_machine self.old).used + ticks) (2 ^ 64 - 1) }
-        ensures output { GoesOn self.old → result ≡ Stop.Output → HasRisen (W.faults (session_writer self.old)) (W.faults (session_writer self.new)) }
-        ensures input { GoesOn self.old → result ≡ Stop.Input → HasRisen (R.faults (session_reader self.old)) (R.faults (session_reader self.new)) }
+        ensures within { CanGoOn self.old → (session_machine self.new).used ≤ 2 ^ 64 - 1 }
+        ensures paused { CanGoOn self.old → result ≡ Stop.Paused → (session_machine self.new).used ≡ min ((session_machine self.old).used + ticks) (2 ^ 64 - 1) }
+        ensures output { CanGoOn self.old → result ≡ Stop.Output → HasRisen (W.faults (session_writer self.old)) (W.faults (session_writer self.new)) }
+        ensures input { CanGoOn self.old → result ≡ Stop.Input → HasRisen (R.faults (session_reader self.old)) (R.faults (session_reader self.new)) }
         ensures steps { (session_machine self.old).steps ≤ (session_machine self.new).steps }
         ensures never_falls { HasRisenBy 0 (W.faults (session_writer self.old)) (W.faults (session_writer self.new)) }
         ensures read_never_falls { HasRisenBy 0 (R.faults (session_reader self.old)) (R.faults (session_reader self.new)) }

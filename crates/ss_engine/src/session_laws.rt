@@ -3,10 +3,10 @@
 ghost use Rattle.std.specs.Prelude.{◌≡◌, ◌≢◌, ℕ, List, []};
 ghost use Rattle.ss_code.specs.Running.{Generated};
 ghost use Rattle.ss_engine.specs.declared.session.Session.{Session as SessionSeen};
-ghost use Rattle.ss_engine.specs.Accepting.{Compiles};
-ghost use Rattle.ss_engine.specs.Headline.{Simulated};
+ghost use Rattle.ss_engine.specs.Accepting.{IsCompiledTo};
+ghost use Rattle.ss_engine.specs.Headline.{IsSimulated};
 ghost use Rattle.ss_engine.specs.Sessions.{HasRun, session_machine, session_reader, session_writer, last_stop};
-ghost use Rattle.ss_engine.specs.Cuts.{WasCut};
+ghost use Rattle.ss_engine.specs.Cuts.{HasBeenCut};
 
 use crate::text_laws::laws as laws_of_texts;
 use ss_base::{FaultyRead, FaultyWrite};
@@ -16,10 +16,10 @@ use ss_code_instructions::laws::{laws_of_code, laws_of_pieces};
 /// that the text means for the input and all those ticks, and its last run stopped as the meaning ends. Where memory, the
 /// reader or the writer failed, it took a beginning of that report.
 ///
-/// `compile` answers a model that `Compiles` the text, `Session::start` a session that `HasRun` no pieces, and each
+/// `compile` answers a model that `IsCompiledTo` the text, `Session::start` a session that `HasRun` no pieces, and each
 /// `Session::run` makes that one piece more, whatever it answers.
 pub fn sessions_are_meant<R: FaultyRead, W: FaultyWrite>()
-    ensures { (session : SessionSeen R W) (text : List ℕ) (code : Generated) (reader : R) (writer : W) (pieces : List ℕ) → Compiles text code → pieces ≢ [] → HasRun R.remaining R.faults W.contents W.faults code reader writer pieces session → Simulated R.remaining W.contents text (last_stop (session_machine session).stopped) (session_machine session).used reader (session_reader session) writer (session_writer session) }
+    ensures { (session : SessionSeen R W) (text : List ℕ) (code : Generated) (reader : R) (writer : W) (pieces : List ℕ) → IsCompiledTo text code → pieces ≢ [] → HasRun R.remaining R.faults W.contents W.faults code reader writer pieces session → IsSimulated R.remaining W.contents text (last_stop (session_machine session).stopped) (session_machine session).used reader (session_reader session) writer (session_writer session) }
 {
     laws_of_pieces();
     laws_of_code();
@@ -30,7 +30,7 @@ pub fn sessions_are_meant<R: FaultyRead, W: FaultyWrite>()
 /// a place where its report is cut to the bytes that the writer took; where the writer failed the next instruction writes,
 /// where the reader failed it reads. It says that there is such a place, and not which of several.
 pub fn sessions_are_cut<R: FaultyRead, W: FaultyWrite>()
-    ensures { (session : SessionSeen R W) (text : List ℕ) (code : Generated) (reader : R) (writer : W) (pieces : List ℕ) → Compiles text code → HasRun R.remaining R.faults W.contents W.faults code reader writer pieces session → WasCut R.remaining W.contents text (last_stop (session_machine session).stopped) (session_machine session).used reader (session_reader session) writer (session_writer session) }
+    ensures { (session : SessionSeen R W) (text : List ℕ) (code : Generated) (reader : R) (writer : W) (pieces : List ℕ) → IsCompiledTo text code → HasRun R.remaining R.faults W.contents W.faults code reader writer pieces session → HasBeenCut R.remaining W.contents text (last_stop (session_machine session).stopped) (session_machine session).used reader (session_reader session) writer (session_writer session) }
 {
     laws_of_code();
     laws_of_texts();

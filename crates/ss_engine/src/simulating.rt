@@ -4,8 +4,8 @@ ghost use Rattle.std.specs.Prelude.{◌≡◌, ◌≤◌, ℕ};
 ghost use Rattle.ss_base.specs.Failures.{HasRisen};
 ghost use Rattle.ss_engine.specs.declared.refusal.Refusal.{Refusal as RefusalSeen};
 ghost use Rattle.ss_engine.specs.Headline.{IsOutcome, handed_out};
-ghost use Rattle.ss_engine.specs.LastRun.{LastRun};
-ghost use Rattle.ss_engine.specs.Cuts.{ReportIsCut};
+ghost use Rattle.ss_engine.specs.LastRun.{HasLastRun};
+ghost use Rattle.ss_engine.specs.Cuts.{IsReportCut};
 ghost use Rattle.ss_machine.specs.declared.stop.Stop.{Stop as StopSeen};
 
 use crate::compiling::compile;
@@ -35,12 +35,12 @@ pub fn simulate<R: FaultyRead, W: FaultyWrite>(
     pieces: &[u64],
 ) -> (Outcome, R, W)
     ensures headline { IsOutcome R.remaining W.contents text.now result.0 reader result.1 writer result.2 }
-    ensures where_cut { ReportIsCut R.remaining W.contents text.now result.0 reader result.1 writer result.2 }
+    ensures where_cut { IsReportCut R.remaining W.contents text.now result.0 reader result.1 writer result.2 }
     ensures ticks { (stop : StopSeen) (used : ℕ) → result.0 ≡ Outcome.Stopped stop used → used ≤ handed_out pieces.now }
     ensures paused { (used : ℕ) → result.0 ≡ Outcome.Stopped Stop.Paused used → used ≡ handed_out pieces.now }
     ensures untouched { (refusal : RefusalSeen) → result.0 ≡ Outcome.Refused refusal → (result.1 ≡ reader) × (result.2 ≡ writer) }
-    ensures output { (used : ℕ) → result.0 ≡ Outcome.Stopped Stop.Output used → LastRun R.remaining W.contents text.now pieces.now used reader writer (λ reader_then writer_then. HasRisen (W.faults writer_then) (W.faults result.2)) }
-    ensures input { (used : ℕ) → result.0 ≡ Outcome.Stopped Stop.Input used → LastRun R.remaining W.contents text.now pieces.now used reader writer (λ reader_then writer_then. HasRisen (R.faults reader_then) (R.faults result.1)) }
+    ensures output { (used : ℕ) → result.0 ≡ Outcome.Stopped Stop.Output used → HasLastRun R.remaining W.contents text.now pieces.now used reader writer (λ reader_then writer_then. HasRisen (W.faults writer_then) (W.faults result.2)) }
+    ensures input { (used : ℕ) → result.0 ≡ Outcome.Stopped Stop.Input used → HasLastRun R.remaining W.contents text.now pieces.now used reader writer (λ reader_then writer_then. HasRisen (R.faults reader_then) (R.faults result.1)) }
 {
     let model = match compile(alloc, text) {
         Ok(model) => model,

@@ -16,7 +16,7 @@ use Rattle.ss_events_entries.specs.HeapEntries.{HeapEntries, HeadsAndFollowers, 
 use Rattle.ss_events_entries.specs.HeapOrder.{IsChild, IsHeap, IsUnderParent, IsOverChildren, IsHeapBut, IsFirstChild}
 use Rattle.ss_world.specs.Order.{comes_before}
 use Rattle.ss_world.specs.PendingList.{scheduling_limit}
-use Rattle.ss_events.specs.Sifting.{Raises, CostsToRaise, Lowers, CostsToLower, Mends, CostsToMend, IsLogarithmic, IsTried, GoesIn, StaysOut, Inserts}
+use Rattle.ss_events.specs.Sifting.{HasRaised, HasRaisingCost, HasLowered, HasLoweringCost, HasMended, HasMendingCost, IsLogarithmic, IsTried, HasGoneIn, HasStayedOut, IsInsertion}
 use Rattle.ss_events_entries.specs.Digits.{binary_digits}
 use Rattle.std.specs.Int.Digits.{digits_of, number_from_digits}
 use Rattle.std.proofs.lemmas.Int.Digits.{number_lt, number_digits_of, all_below_base_digits_of, length-digits_of-le}
@@ -108,7 +108,7 @@ module _ (old was new : HeapEntries) (from at : ℕ) (some : 0 < at) (r : Rising
   }
 
 -- it is at the top
-pub rising_tops : (old new : HeapEntries) (from at : ℕ) → at ≤ 0 → Rising old new from at → Raises old.entries new.entries from at × CostsToRaise old new from at
+pub rising_tops : (old new : HeapEntries) (from at : ℕ) → at ≤ 0 → Rising old new from at → HasRaised old.entries new.entries from at × HasRaisingCost old new from at
 rising_tops old new from at top r = (
   record {
     permutation = r.permutation;
@@ -131,9 +131,9 @@ rising_tops old new from at top r = (
 )
 
 -- its parent doesn't come after it
-pub rising_rests : (old was new : HeapEntries) (from at : ℕ) → 0 < at → Rising old was from at → ((d : Entry) → comes_before (get_or was.entries at d) (get_or was.entries ((at - 1) / 4) d) ≡ false) → new.entries ≡ was.entries → new.comparisons ≡ was.comparisons + 1 → new.moves ≡ was.moves → new.followers ≡ was.followers → new.before ≡ was.before → Raises old.entries new.entries from at × CostsToRaise old new from at
+pub rising_rests : (old was new : HeapEntries) (from at : ℕ) → 0 < at → Rising old was from at → ((d : Entry) → comes_before (get_or was.entries at d) (get_or was.entries ((at - 1) / 4) d) ≡ false) → new.entries ≡ was.entries → new.comparisons ≡ was.comparisons + 1 → new.moves ≡ was.moves → new.followers ≡ was.followers → new.before ≡ was.before → HasRaised old.entries new.entries from at × HasRaisingCost old new from at
 rising_rests old was new from at some r f entries comparisons moves followers before = (
-  subst (λ es. Raises old.entries es from at) (sym entries)
+  subst (λ es. HasRaised old.entries es from at) (sym entries)
       record {
         permutation = r.permutation;
         within = r.within;
@@ -222,9 +222,9 @@ module _ (old was new : HeapEntries) (from at c : ℕ) (r : Sinking old was from
     before = before ∙ r.before;
   }
 
-pub sinking_leaf : (old was new : HeapEntries) (from at : ℕ) → Sinking old was from at → length was.entries ≤ 4 * at + 1 → new.entries ≡ was.entries → new.comparisons ≤ was.comparisons → new.moves ≡ was.moves → new.followers ≡ was.followers → new.before ≡ was.before → Lowers old.entries new.entries from × CostsToLower old new from
+pub sinking_leaf : (old was new : HeapEntries) (from at : ℕ) → Sinking old was from at → length was.entries ≤ 4 * at + 1 → new.entries ≡ was.entries → new.comparisons ≤ was.comparisons → new.moves ≡ was.moves → new.followers ≡ was.followers → new.before ≡ was.before → HasLowered old.entries new.entries from × HasLoweringCost old new from
 sinking_leaf old was new from at r le entries comparisons moves followers before = (
-  subst (λ es. Lowers old.entries es from) (sym entries)
+  subst (λ es. HasLowered old.entries es from) (sym entries)
       record {
         permutation = r.permutation;
         heap = λ h under. closes comes_before was.entries at (r.but h under).0 (r.but h under).1 (leaf comes_before was.entries at le);
@@ -239,9 +239,9 @@ sinking_leaf old was new from at r le entries comparisons moves followers before
   },
 )
 
-pub sinking_rests : (old was new : HeapEntries) (from at c : ℕ) → Sinking old was from at → IsFirstChild comes_before was.entries at c → ((d : Entry) → comes_before (get_or was.entries c d) (get_or was.entries at d) ≡ false) → new.entries ≡ was.entries → new.comparisons ≤ was.comparisons + 4 → new.moves ≡ was.moves → new.followers ≡ was.followers → new.before ≡ was.before → Lowers old.entries new.entries from × CostsToLower old new from
+pub sinking_rests : (old was new : HeapEntries) (from at c : ℕ) → Sinking old was from at → IsFirstChild comes_before was.entries at c → ((d : Entry) → comes_before (get_or was.entries c d) (get_or was.entries at d) ≡ false) → new.entries ≡ was.entries → new.comparisons ≤ was.comparisons + 4 → new.moves ≡ was.moves → new.followers ≡ was.followers → new.before ≡ was.before → HasLowered old.entries new.entries from × HasLoweringCost old new from
 sinking_rests old was new from at c r best f entries comparisons moves followers before = (
-  subst (λ es. Lowers old.entries es from) (sym entries)
+  subst (λ es. HasLowered old.entries es from) (sym entries)
       record {
         permutation = r.permutation;
         heap = λ h under. closes comes_before was.entries at (r.but h under).0 (r.but h under).1 (rests comes_before entries_rank was.entries at c best f);
@@ -280,13 +280,13 @@ digits_above : (k held : ℕ) → 2 ^ k ≤ held → k < binary_digits held
 digits_above k held le =
     ⊎_elim (λ lt. lt) (λ few. let low : 2 ^ binary_digits held ≤ 2 ^ k = pow_mono few in absurd (omega (arith, low, le, below_power held))) (cases_lt k (binary_digits held))
 
-pub mended_down : (old was new : List Entry) (at to : ℕ) → to ≡ at → Raises old was at to → Lowers was new at → Mends old new at
+pub mended_down : (old was new : List Entry) (at to : ℕ) → to ≡ at → HasRaised old was at to → HasLowered was new at → HasMended old new at
 mended_down old was new at to still r l = record {
   permutation = IsPermutation-trans old was new r.permutation l.permutation;
   heap = λ h. l.heap (subst (IsHeapBut comes_before was) still (r.but h)) (subst (IsUnderParent comes_before was) still (r.under h));
 }
 
-pub cost_down : (old was new : HeapEntries) (at to : ℕ) → length was.entries ≡ length old.entries → CostsToRaise old was at to → CostsToLower was new at → CostsToMend old new
+pub cost_down : (old was new : HeapEntries) (at to : ℕ) → length was.entries ≡ length old.entries → HasRaisingCost old was at to → HasLoweringCost was new at → HasMendingCost old new
 cost_down old was new at to long u l =
     let scaled : 4 ^ u.levels * 4 ^ l.levels ≤ (3 * at + 1) * 4 ^ l.levels = mul-le-mul_right (4 ^ l.levels) u.quartered in
     record {
@@ -299,9 +299,9 @@ cost_down old was new at to long u l =
     }
 
 -- a new entry that rose from the end
-module _ (old put new : List Entry) (entry : Entry) (from to : ℕ) (is : put ≡ old ++ entry ∷ []) (last : from ≡ length old) (raised : Raises put new from to) where
-  r : Raises (old ++ entry ∷ []) new (length old) to
-  r = subst (λ es. Raises es new (length old) to) is (subst (λ k. Raises put new k to) last raised)
+module _ (old put new : List Entry) (entry : Entry) (from to : ℕ) (is : put ≡ old ++ entry ∷ []) (last : from ≡ length old) (raised : HasRaised put new from to) where
+  r : HasRaised (old ++ entry ∷ []) new (length old) to
+  r = subst (λ es. HasRaised es new (length old) to) is (subst (λ k. HasRaised put new k to) last raised)
 
   pub inserted : IsHeap comes_before old → IsHeap comes_before new
   inserted h =
@@ -317,7 +317,7 @@ module _ (old put new : List Entry) (entry : Entry) (from to : ℕ) (is : put �
 pub digits_mono : (less more : ℕ) → less ≤ more → binary_digits less ≤ binary_digits more
 digits_mono less more le = length-digits_of-le 2 (binary_digits more) less (omega arith) (omega (arith, below_power more))
 
-pub insert_work : (old new : HeapEntries) (held from to : ℕ) → old.comparisons ≤ from → old.comparisons ≤ 1 → old.moves ≡ 1 → from ≡ held → CostsToRaise old new from to → IsLogarithmic held new
+pub insert_work : (old new : HeapEntries) (held from to : ℕ) → old.comparisons ≤ from → old.comparisons ≤ 1 → old.moves ≡ 1 → from ≡ held → HasRaisingCost old new from to → IsLogarithmic held new
 insert_work old new held from to none one moved last u =
     let few = levels_digits u.levels held (omega (arith, u.quartered)) in
     record {
@@ -342,16 +342,16 @@ pub append_work : (new : HeapEntries) (held : ℕ) → 0 < held → new.comparis
 append_work new held some one moved = record { comparisons = omega (arith, digits_above 0 held some); moves = omega arith }
 
 -- no entry goes in by itself
-pub stays : (h : HeapEntries) → IsTried h → StaysOut (heap_lines h) h.before h
+pub stays : (h : HeapEntries) → IsTried h → HasStayedOut (heap_lines h) h.before h
 stays h t = record { lines = refl; tried = t; before = refl }
 
 -- after an attempt in vain
-pub retried : (e : Entry) (old : HeadsAndFollowers) (work : Work) (mid new : HeapEntries) (b : Bool) → StaysOut old work mid → Inserts e (heap_lines mid) mid.before new b → Inserts e old work new b
-retried e old work mid new b s it = subst (λ (p : HeadsAndFollowers × Work). Inserts e p.0 p.1 new b) (λ i. (s.lines i, s.before i)) it
+pub retried : (e : Entry) (old : HeadsAndFollowers) (work : Work) (mid new : HeapEntries) (b : Bool) → HasStayedOut old work mid → IsInsertion e (heap_lines mid) mid.before new b → IsInsertion e old work new b
+retried e old work mid new b s it = subst (λ (p : HeadsAndFollowers × Work). IsInsertion e p.0 p.1 new b) (λ i. (s.lines i, s.before i)) it
 
 -- an entry that was put after all heads, and rose
-module _ (e : Entry) (mid put new : HeapEntries) (from to : ℕ) (pushed : put ≡ record mid { entries = mid.entries ++ e ∷ []; moves = mid.moves + 1 }) (last : from ≡ length mid.entries) (raised : Raises put.entries new.entries from to) (cost : CostsToRaise put new from to) where
-  pub goes_in : IsTried mid → IsHeap comes_before mid.entries → list_any (int_eq e.notice) (notices_of (all_of mid)) ≡ false → e.number ≢ scheduling_limit → GoesIn e (heap_lines mid) mid.before new
+module _ (e : Entry) (mid put new : HeapEntries) (from to : ℕ) (pushed : put ≡ record mid { entries = mid.entries ++ e ∷ []; moves = mid.moves + 1 }) (last : from ≡ length mid.entries) (raised : HasRaised put.entries new.entries from to) (cost : HasRaisingCost put new from to) where
+  pub goes_in : IsTried mid → IsHeap comes_before mid.entries → list_any (int_eq e.notice) (notices_of (all_of mid)) ≡ false → e.number ≢ scheduling_limit → HasGoneIn e (heap_lines mid) mid.before new
   goes_in tried ordered apart room =
       let heads = ap (λ h. h.entries) pushed in
       let others : new.followers ≡ mid.followers = cost.followers ∙ ap (λ h. h.followers) pushed in
@@ -393,7 +393,7 @@ module _ (old mid : List Entry) (at : ℕ) (next : Entry) (within : at < length 
   pub followed_heap : IsHeap comes_before old → IsHeapBut comes_before mid at
   followed_heap h = subst (λ es. IsHeapBut comes_before es at) (sym rest) (followed_but comes_before old at next within entries_rank h)
 
-pub take_work : (old new : HeapEntries) (held : ℕ) → old.comparisons ≡ 0 → old.moves ≤ 2 → length old.entries ≤ held → CostsToMend old new → IsLogarithmic held new
+pub take_work : (old new : HeapEntries) (held : ℕ) → old.comparisons ≡ 0 → old.moves ≤ 2 → length old.entries ≤ held → HasMendingCost old new → IsLogarithmic held new
 take_work old new held none one less u =
     let few = levels_digits u.levels held (omega (arith, u.fits)) in
     record {

@@ -2,7 +2,7 @@
 use Rattle.std.proofs.Common.{◌≡◌, ◌<◌, ◌≤◌, [], ◌∷◌, ◌++◌, ℕ, ℤ, zero, suc, ap, get_or, set, length, List, IsPermutation, sym, subst, ⊎_elim, arith}
 use Rattle.std.proofs.lemmas.List.Sorted.{IsPermutation-append_left, IsPermutation-append_right, IsPermutation-middle, IsPermutation-cons, IsPermutation-trans}
 use Rattle.ss_events_entries.specs.declared.entry.Entry.{Entry}
-use Rattle.ss_events_entries.specs.HeapEntries.{HeadsAndFollowers, Advances, RemovesEntry}
+use Rattle.ss_events_entries.specs.HeapEntries.{HeadsAndFollowers, HasAdvanced, HasRemovedEntry}
 use Rattle.ss_events_entries.specs.HeapOrder.{IsHeap, IsHeapBut}
 use Rattle.ss_world.specs.Order.{comes_before}
 use Rattle.ss_events_entries.proofs.HeadsAndFollowers.{swap_two}
@@ -17,23 +17,23 @@ replaced (x ∷ xs) (suc i) y e within is =
     IsPermutation-trans (y ∷ x ∷ xs) (x ∷ y ∷ xs) (e ∷ x ∷ set xs i y) (swap_two y x xs)
     (IsPermutation-trans (x ∷ y ∷ xs) (x ∷ e ∷ set xs i y) (e ∷ x ∷ set xs i y) (IsPermutation-cons x (y ∷ xs) (e ∷ set xs i y) rest) (swap_two x e (set xs i y)))
 
-module _ (old new : HeadsAndFollowers) (at : ℕ) (event : ℤ × ℤ) (within : at < length old.heads) (r : RemovesEntry old new at event) where
+module _ (old new : HeadsAndFollowers) (at : ℕ) (event : ℤ × ℤ) (within : at < length old.heads) (r : HasRemovedEntry old new at event) where
   pub removed_few : length new.heads ≤ length old.heads
   removed_few = ⊎_elim
       (λ is. omega (arith, taken_long old.heads new.heads at r.entry within r.there (ap (λ (l : HeadsAndFollowers). l.heads) is)))
-      (λ (a : Advances old new at). omega (arith, followed_long old.heads new.heads at a.next within a.heads))
+      (λ (a : HasAdvanced old new at). omega (arith, followed_long old.heads new.heads at a.next within a.heads))
       r.rest
 
   pub removed_heap : IsHeap comes_before old.heads → IsHeapBut comes_before new.heads at
   removed_heap h = ⊎_elim
       (λ is. taken_but old.heads new.heads at r.entry within r.there (ap (λ (l : HeadsAndFollowers). l.heads) is) h)
-      (λ (a : Advances old new at). followed_heap old.heads new.heads at a.next within a.heads h)
+      (λ (a : HasAdvanced old new at). followed_heap old.heads new.heads at a.next within a.heads h)
       r.rest
 
   pub removed_end : length new.heads ≤ at → IsHeap comes_before old.heads → IsHeap comes_before new.heads
   removed_end past h = ⊎_elim
       (λ is. taken_last old.heads new.heads at r.entry within r.there (ap (λ (l : HeadsAndFollowers). l.heads) is) past h)
-      (λ (a : Advances old new at). absurd (omega (arith, within, past, followed_long old.heads new.heads at a.next within a.heads)))
+      (λ (a : HasAdvanced old new at). absurd (omega (arith, within, past, followed_long old.heads new.heads at a.next within a.heads)))
       r.rest
 
   pub removed_all : IsPermutation (old.heads ++ old.followers) (r.entry ∷ (new.heads ++ new.followers))
@@ -42,7 +42,7 @@ module _ (old new : HeadsAndFollowers) (at : ℕ) (event : ℤ × ℤ) (within :
       let heads = taken_all old.heads new.heads at r.entry within r.there (ap (λ (l : HeadsAndFollowers). l.heads) is) in
       subst (λ fs. IsPermutation (old.heads ++ old.followers) (r.entry ∷ (new.heads ++ fs))) (sym (ap (λ (l : HeadsAndFollowers). l.followers) is))
       (IsPermutation-append_left old.followers old.heads (r.entry ∷ new.heads) heads))
-      (λ (a : Advances old new at).
+      (λ (a : HasAdvanced old new at).
       let gs = new.followers in
       let heads : IsPermutation (a.next ∷ old.heads) (r.entry ∷ new.heads)
       = subst (λ hs. IsPermutation (a.next ∷ old.heads) (r.entry ∷ hs)) (sym a.heads) (replaced old.heads at a.next r.entry within r.there) in

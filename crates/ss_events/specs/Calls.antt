@@ -7,14 +7,14 @@ use Rattle.ss_events.specs.declared.calls.Call.TheVariants.{Schedule, Cancel, Le
 use Rattle.ss_events.specs.declared.calls.Answer.{Answer}
 use Rattle.ss_events.specs.declared.calls.Answer.TheVariants.{Done, Faulted, Next}
 use Rattle.ss_world.specs.declared.ties.TieShape.{TieShape}
-use Rattle.ss_world.specs.PendingList.{PendingList, FitsClass, scheduled, cancelled, least_event, after_next}
+use Rattle.ss_world.specs.PendingList.{PendingList, IsFittingKey, scheduled, cancelled, least_event, after_next}
 
 -- what a call fits, where it schedules: its key fits a class
-abbrev pub FitsCall : List (List TieShape) → Call → Type 0
-FitsCall classes (Schedule time rank ties notice) = FitsClass classes (record { time = time; rank = rank; ties = ties.now })
-FitsCall classes (Cancel notice) = Unit {0}
-FitsCall classes Least = Unit {0}
-FitsCall classes Take = Unit {0}
+abbrev pub IsFittingCall : List (List TieShape) → Call → Type 0
+IsFittingCall classes (Schedule time rank ties notice) = IsFittingKey classes (record { time = time; rank = rank; ties = ties.now })
+IsFittingCall classes (Cancel notice) = Unit {0}
+IsFittingCall classes Least = Unit {0}
+IsFittingCall classes Take = Unit {0}
 
 -- done, or the fault
 abbrev pub done_or_fault : Result PendingList FaultKind → Answer

@@ -12,7 +12,7 @@ use Rattle.ss_world.specs.PendingList.{scheduling_limit}
 use Rattle.ss_events_entries.specs.Digits.{binary_digits}
 
 -- the entry at `from` rose to the place `to`, under its parent, and if it moved it is over its children
-pub record Raises (old new : List Entry) (from to : ℕ) : Type 0 where
+pub record HasRaised (old new : List Entry) (from to : ℕ) : Type 0 where
   pub permutation : IsPermutation old new
   pub within : to < length new
   pub up : to ≤ from
@@ -21,7 +21,7 @@ pub record Raises (old new : List Entry) (from to : ℕ) : Type 0 where
   pub over : IsHeapBut comes_before old from → to < from → IsOverChildren comes_before new to
 
 -- it looked at so many levels, each a quarter as far from the top: a comparison each, and two moves for each that it passed
-pub record CostsToRaise (old new : HeapEntries) (from to : ℕ) : Type 0 where
+pub record HasRaisingCost (old new : HeapEntries) (from to : ℕ) : Type 0 where
   pub levels : ℕ
   pub quartered : 4 ^ levels ≤ 3 * from + 1
   pub comparisons : new.comparisons ≡ old.comparisons + levels
@@ -32,12 +32,12 @@ pub record CostsToRaise (old new : HeapEntries) (from to : ℕ) : Type 0 where
   pub before : new.before ≡ old.before
 
 -- the entry at `from`, which was under its parent, sank until all were in order
-pub record Lowers (old new : List Entry) (from : ℕ) : Type 0 where
+pub record HasLowered (old new : List Entry) (from : ℕ) : Type 0 where
   pub permutation : IsPermutation old new
   pub heap : IsHeapBut comes_before old from → IsUnderParent comes_before old from → IsHeap comes_before new
 
 -- it looked at so many levels, each four times as far from the top: four comparisons and two moves each at most
-pub record CostsToLower (old new : HeapEntries) (from : ℕ) : Type 0 where
+pub record HasLoweringCost (old new : HeapEntries) (from : ℕ) : Type 0 where
   pub levels : ℕ
   pub quadrupled : (3 * from + 1) * 4 ^ levels ≤ 3 * length old.entries
   pub comparisons : new.comparisons ≤ old.comparisons + 4 * levels
@@ -46,12 +46,12 @@ pub record CostsToLower (old new : HeapEntries) (from : ℕ) : Type 0 where
   pub before : new.before ≡ old.before
 
 -- the entry at `from` was put in order
-pub record Mends (old new : List Entry) (from : ℕ) : Type 0 where
+pub record HasMended (old new : List Entry) (from : ℕ) : Type 0 where
   pub permutation : IsPermutation old new
   pub heap : IsHeapBut comes_before old from → IsHeap comes_before new
 
 -- it looked at so many levels, upwards and downwards: four comparisons and two moves each at most
-pub record CostsToMend (old new : HeapEntries) : Type 0 where
+pub record HasMendingCost (old new : HeapEntries) : Type 0 where
   pub levels : ℕ
   pub fits : 4 ^ levels ≤ 3 * length old.entries
   pub comparisons : new.comparisons ≤ old.comparisons + 4 * levels
@@ -71,7 +71,7 @@ pub record IsTried (h : HeapEntries) : Type 0 where
   pub unmoved : h.moves ≡ 0
 
 -- an entry went in, of a new notice and with the number of a scheduling, after the work of all calls before
-pub record GoesIn (e : Entry) (old : HeadsAndFollowers) (work : Work) (new : HeapEntries) : Type 0 where
+pub record HasGoneIn (e : Entry) (old : HeadsAndFollowers) (work : Work) (new : HeapEntries) : Type 0 where
   pub order : IsHeap comes_before new.entries
   pub all : IsPermutation (e ∷ (old.heads ++ old.followers)) (all_of new)
   pub apart : list_any (int_eq e.notice) (notices_of (old.heads ++ old.followers)) ≡ false
@@ -82,12 +82,12 @@ pub record GoesIn (e : Entry) (old : HeadsAndFollowers) (work : Work) (new : Hea
   pub before : new.before ≡ work
 
 -- no entry went in
-pub record StaysOut (old : HeadsAndFollowers) (work : Work) (new : HeapEntries) : Type 0 where
+pub record HasStayedOut (old : HeadsAndFollowers) (work : Work) (new : HeapEntries) : Type 0 where
   pub lines : heap_lines new ≡ old
   pub tried : IsTried new
   pub before : new.before ≡ work
 
 -- whether an entry went in
-abbrev pub Inserts : Entry → HeadsAndFollowers → Work → HeapEntries → Bool → Type 0
-Inserts e old work new true = GoesIn e old work new
-Inserts e old work new false = StaysOut old work new
+abbrev pub IsInsertion : Entry → HeadsAndFollowers → Work → HeapEntries → Bool → Type 0
+IsInsertion e old work new true = HasGoneIn e old work new
+IsInsertion e old work new false = HasStayedOut old work new

@@ -34,17 +34,17 @@ pub enum Answer {
 }
 
 impl Pending {
-    ghost use Rattle.ss_events.specs.Calls.{FitsCall, answer_of, list_after_call, answers_of, after_calls};
+    ghost use Rattle.ss_events.specs.Calls.{IsFittingCall, answer_of, list_after_call, answers_of, after_calls};
 
     /// Whether each key under which one of these calls schedules fits its class.
     pub fn fit(&self, calls: &[Call]) -> bool
-        ensures { IsTrue result ↔ All (FitsCall self.now.list.classes) calls.now }
+        ensures { IsTrue result ↔ All (IsFittingCall self.now.list.classes) calls.now }
     {
         calls.iter().all(|call| self.fits_call(call))
     }
 
     fn fits_call(&self, call: &Call) -> bool
-        ensures { IsTrue result ↔ FitsCall self.now.list.classes call.now }
+        ensures { IsTrue result ↔ IsFittingCall self.now.list.classes call.now }
     {
         match call {
             Call::Schedule { rank, ties, .. } => self.fits_class(*rank, ties),
@@ -55,7 +55,7 @@ impl Pending {
     /// Makes calls in turn, and answers what each answered. Where memory is refused, the calls before that one were
     /// made, and no other. What is counted then is that of the last call made.
     pub fn run(&mut self, alloc: Global, calls: &[Call]) -> Result<Vec<Answer>, AllocError>
-        requires { All (FitsCall self.old.list.classes) calls.now }
+        requires { All (IsFittingCall self.old.list.classes) calls.now }
         ensures answers { IfOk result (λ answers. answers.items ≡ answers_of calls.now self.old.list) }
         ensures list { OnOk result (self.new.list ≡ after_calls calls.now self.old.list) }
     {
@@ -68,7 +68,7 @@ impl Pending {
 
     // Makes one call.
     fn make(&mut self, alloc: Global, call: &Call) -> Result<Answer, AllocError>
-        requires { FitsCall self.old.list.classes call.now }
+        requires { IsFittingCall self.old.list.classes call.now }
         ensures answer { IfOk result (λ answer. answer ≡ answer_of call.now self.old.list) }
         ensures ok { OnOk result (self.new.list ≡ list_after_call call.now self.old.list) }
         ensures err { OnErr result (self.new.list ≡ self.old.list) }

@@ -42,7 +42,7 @@ impl Model for Pending {
 impl Pending {
     ghost use Rattle.ss_events_entries.specs.CountedList.{no_work, with_work};
     ghost use Rattle.ss_events_entries.specs.Digits.{binary_digits};
-    ghost use Rattle.ss_world.specs.PendingList.{none_pending, FitsClass, is_pending, scheduled, IsRefusal, cancelled, least_event, after_next};
+    ghost use Rattle.ss_world.specs.PendingList.{none_pending, IsFittingKey, is_pending, scheduled, IsRefusal, cancelled, least_event, after_next};
 
     /// No notice is pending. `classes` has the shapes of the ties of each class, by its rank.
     pub fn new(alloc: Global, classes: &[Vec<TieShape>]) -> Result<Pending, AllocError>
@@ -57,7 +57,7 @@ impl Pending {
 
     /// Whether the rank of a key is that of a class, and its ties have the shapes of that class.
     pub fn fits(&self, key: &Key) -> bool
-        ensures { IsTrue result ↔ FitsClass self.now.list.classes key.now }
+        ensures { IsTrue result ↔ IsFittingKey self.now.list.classes key.now }
     {
         key.fits(&self.classes)
     }

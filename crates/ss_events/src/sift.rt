@@ -1,10 +1,10 @@
 // How entries go into a heap in order and come out of it.
 ghost use Rattle.std.specs.Prelude.{true, ◌≡◌, ◌<◌, ◌≤◌, ◌-◌, ◌/◌, ◌^◌, length, slice_index_or};
 ghost use Rattle.ss_events_entries.specs.declared.entry.Entry.{Entry};
-ghost use Rattle.ss_events_entries.specs.HeapEntries.{heap_lines, but_one, TakesOut};
+ghost use Rattle.ss_events_entries.specs.HeapEntries.{heap_lines, but_one, HasTakenOut};
 ghost use Rattle.ss_events_entries.specs.HeapOrder.{IsHeap};
 ghost use Rattle.ss_world.specs.Order.{comes_before};
-ghost use Rattle.ss_events.specs.Sifting.{Raises, CostsToRaise, Lowers, CostsToLower, Mends, CostsToMend, IsLogarithmic, IsTried, Inserts};
+ghost use Rattle.ss_events.specs.Sifting.{HasRaised, HasRaisingCost, HasLowered, HasLoweringCost, HasMended, HasMendingCost, IsLogarithmic, IsTried, IsInsertion};
 
 use crate::children::first_child;
 use crate::pending::MOST_SCHEDULINGS;
@@ -16,7 +16,7 @@ use ss_events_entries::entry::{EntryHeap, Key, MANY, PLAIN_NUMBERS, PLAIN_RANKS}
 pub fn insert(heap: &mut EntryHeap, key: Key, number: u64, notice: i64) -> bool
     requires order { IsHeap comes_before heap.old.entries }
     requires tried { IsTried heap.old }
-    ensures { Inserts (record { key = key; number = number; notice = notice }) (heap_lines heap.old) heap.old.before heap.new result }
+    ensures { IsInsertion (record { key = key; number = number; notice = notice }) (heap_lines heap.old) heap.old.before heap.new result }
 {
     if insert_at_once(heap, &key, number, notice) {
         return true;
@@ -30,7 +30,7 @@ pub fn insert(heap: &mut EntryHeap, key: Key, number: u64, notice: i64) -> bool
 fn insert_slowly(heap: &mut EntryHeap, key: Key, number: u64, notice: i64) -> bool
     requires order { IsHeap comes_before heap.old.entries }
     requires tried { IsTried heap.old }
-    ensures { Inserts (record { key = key; number = number; notice = notice }) (heap_lines heap.old) heap.old.before heap.new result }
+    ensures { IsInsertion (record { key = key; number = number; notice = notice }) (heap_lines heap.old) heap.old.before heap.new result }
 {
     if number == MOST_SCHEDULINGS || heap.holds(notice) {
         return false;
@@ -55,7 +55,7 @@ fn insert_slowly(heap: &mut EntryHeap, key: Key, number: u64, notice: i64) -> bo
 fn insert_at_once(heap: &mut EntryHeap, key: &Key, number: u64, notice: i64) -> bool
     requires order { IsHeap comes_before heap.old.entries }
     requires tried { IsTried heap.old }
-    ensures { Inserts (record { key = key.now; number = number; notice = notice }) (heap_lines heap.old) heap.old.before heap.new result }
+    ensures { IsInsertion (record { key = key.now; number = number; notice = notice }) (heap_lines heap.old) heap.old.before heap.new result }
 {
     let Some((time, rank)) = key.untied() else {
         return false;
@@ -81,7 +81,7 @@ pub fn take_out(heap: &mut EntryHeap, at: usize) -> (i64, i64)
     requires uncompared { heap.old.comparisons ≡ 0 }
     requires unmoved { heap.old.moves ≡ 0 }
     ensures order { IsHeap comes_before heap.new.entries }
-    ensures taken { TakesOut heap.old heap.new at result }
+    ensures taken { HasTakenOut heap.old heap.new at result }
     ensures work { IsLogarithmic (length heap.old.entries) heap.new }
     ensures before { heap.new.before ≡ heap.old.before }
 {
@@ -98,8 +98,8 @@ fn mend(heap: &mut EntryHeap, at: usize)
     requires small { length heap.old.entries < 2 ^ 64 }
     requires comparisons { heap.old.comparisons ≤ 1 }
     requires moves { heap.old.moves ≤ 2 }
-    ensures mends { Mends heap.old.entries heap.new.entries at }
-    ensures cost { CostsToMend heap.old heap.new }
+    ensures mends { HasMended heap.old.entries heap.new.entries at }
+    ensures cost { HasMendingCost heap.old heap.new }
 {
     if raise(heap, at) == at {
         lower(heap, at);
@@ -112,8 +112,8 @@ fn raise(heap: &mut EntryHeap, at: usize) -> usize
     requires within { at < length heap.old.entries }
     requires comparisons { heap.old.comparisons < 2 ^ 32 }
     requires moves { heap.old.moves < 2 ^ 32 }
-    ensures raises { Raises heap.old.entries heap.new.entries at result }
-    ensures cost { CostsToRaise heap.old heap.new at result }
+    ensures raises { HasRaised heap.old.entries heap.new.entries at result }
+    ensures cost { HasRaisingCost heap.old heap.new at result }
 {
     if at == 0 {
         return at;
@@ -135,8 +135,8 @@ fn raise_past(heap: &mut EntryHeap, mut at: usize, mut parent: usize) -> usize
     requires compared { 0 < heap.old.comparisons }
     requires comparisons { heap.old.comparisons ≤ 2 ^ 32 }
     requires moves { heap.old.moves < 2 ^ 32 }
-    ensures raises { Raises heap.old.entries heap.new.entries at result }
-    ensures cost { CostsToRaise (but_one heap.old) heap.new at result }
+    ensures raises { HasRaised heap.old.entries heap.new.entries at result }
+    ensures cost { HasRaisingCost (but_one heap.old) heap.new at result }
 {
     loop {
         heap.swap(at, parent);
@@ -157,8 +157,8 @@ fn lower(heap: &mut EntryHeap, mut at: usize)
     requires small { length heap.old.entries < 2 ^ 64 }
     requires comparisons { heap.old.comparisons < 2 ^ 32 }
     requires moves { heap.old.moves < 2 ^ 32 }
-    ensures lowers { Lowers heap.old.entries heap.new.entries at }
-    ensures cost { CostsToLower heap.old heap.new at }
+    ensures lowers { HasLowered heap.old.entries heap.new.entries at }
+    ensures cost { HasLoweringCost heap.old heap.new at }
 {
     loop {
         let Some(child) = first_child(heap, at) else {

@@ -11,7 +11,7 @@ use Rattle.ss_events_entries.specs.declared.entry.directory.SlotDirectory.{SlotD
 use Rattle.ss_events_entries.specs.declared.entry.slots.Slot.{Slot}
 use Rattle.ss_events_entries.specs.declared.entry.slots.HeapNode.{HeapNode}
 use Rattle.ss_events_entries.specs.Slots.{no_entry, blank_slot, no_slot, no_node, following, slot_at, node, entry_at, AreHeld, IsGuess, heads, followers, exchanged, not_plain}
-use Rattle.ss_events_entries.specs.HeapEntries.{HeadsAndFollowers, Advances, notices_of}
+use Rattle.ss_events_entries.specs.HeapEntries.{HeadsAndFollowers, HasAdvanced, notices_of}
 use Rattle.ss_events_entries.proofs.Marks.{notice_in}
 use Rattle.ss_events_entries.proofs.Lists.{removed_by_swap, each_fails, none_passes}
 use Rattle.ss_events_entries.proofs.Exchanging.{exchange}
@@ -26,7 +26,7 @@ lines n ys vs us = record { heads = heads n ys vs us; followers = followers ys }
 -- an entry went out of the place k
 pub record Gone (old : HeadsAndFollowers) (k : ℕ) (e : Entry) (n f : ℕ) (ys : List Slot) (vs : List Entry) (us : List HeapNode) (g : SlotDirectory) : Type 0 where
   pub held : AreHeld n (f + 1) ys vs us g
-  pub rest : (lines n ys vs us ≡ record old { heads = swap_remove old.heads k e }) ⊎ Advances old (lines n ys vs us) k
+  pub rest : (lines n ys vs us ≡ record old { heads = swap_remove old.heads k e }) ⊎ HasAdvanced old (lines n ys vs us) k
 
 pub gone_like : (old : HeadsAndFollowers) (k : ℕ) (e : Entry) (n m f l : ℕ) (ys xs : List Slot) (vs ws : List Entry) (us ss : List HeapNode) (g : SlotDirectory)
     → n ≡ m → f ≡ l → ys ≡ xs → vs ≡ ws → us ≡ ss → Gone old k e m l xs ws ss g → Gone old k e n f ys vs us g

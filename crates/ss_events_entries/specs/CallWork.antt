@@ -13,20 +13,20 @@ abbrev pub rise : ℕ → ℕ → ℕ
 rise from to = (to + (2 ^ 64 - from)) % 2 ^ 64
 
 -- at most one comparison more was counted, and no move
-pub record ComparesOnce (old new : CallWork) : Type 0 where
+pub record HasComparedOnce (old new : CallWork) : Type 0 where
   pub comparisons : new.comparisons ≤ old.comparisons + 1
   pub moves : new.moves ≡ old.moves
   pub before : new.before ≡ old.before
 
 -- from so many to so many moves more were counted, and no comparison
-pub record Moves (least most : ℕ) (old new : CallWork) : Type 0 where
+pub record HasMoved (least most : ℕ) (old new : CallWork) : Type 0 where
   pub comparisons : new.comparisons ≡ old.comparisons
   pub some : old.moves + least ≤ new.moves
   pub moves : new.moves ≤ old.moves + most
   pub before : new.before ≡ old.before
 
 -- four numbers of 64 bits: the comparisons and the moves of all calls, and those before the last call began
-pub record FitCounters (c m d n : ℕ) : Type 0 where
+pub record AreCounters (c m d n : ℕ) : Type 0 where
   pub comparisons : c < 2 ^ 64
   pub moves : m < 2 ^ 64
   pub comparisons_before : d < 2 ^ 64

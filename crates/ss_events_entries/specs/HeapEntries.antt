@@ -55,28 +55,28 @@ abbrev pub AreAfterHeads : List Entry → List Entry → Type 0
 AreAfterHeads heads followers = All (IsLed heads) followers
 
 -- a follower is the first of its line now, in the place `at`
-pub record Advances (old new : HeadsAndFollowers) (at : ℕ) : Type 0 where
+pub record HasAdvanced (old new : HeadsAndFollowers) (at : ℕ) : Type 0 where
   pub next : Entry
   pub heads : new.heads ≡ slice_set old.heads at next
   pub followers : IsPermutation old.followers (next ∷ new.followers)
 
 -- the entry went out of the place `at`, into which the next of its line came, or the last head, where its line had no other; this
 -- is its time and its notice
-pub record RemovesEntry (old new : HeadsAndFollowers) (at : ℕ) (event : ℤ × ℤ) : Type 0 where
+pub record HasRemovedEntry (old new : HeadsAndFollowers) (at : ℕ) (event : ℤ × ℤ) : Type 0 where
   pub entry : Entry
   pub there : entry ≡ slice_index_or old.heads at entry
   pub is : event ≡ event_of entry
-  pub rest : (new ≡ record old { heads = swap_remove old.heads at entry }) ⊎ Advances old new at
+  pub rest : (new ≡ record old { heads = swap_remove old.heads at entry }) ⊎ HasAdvanced old new at
 
 -- a follower went out, and had this notice
-pub record Leaves (old new : HeadsAndFollowers) (notice : ℤ) : Type 0 where
+pub record HasLostFollower (old new : HeadsAndFollowers) (notice : ℤ) : Type 0 where
   pub entry : Entry
   pub noticed : entry.notice ≡ notice
   pub heads : new.heads ≡ old.heads
   pub followers : IsPermutation old.followers (entry ∷ new.followers)
 
 -- the entry went out, with the others in whatever places
-pub record TakesOut (old new : HeapEntries) (at : ℕ) (event : ℤ × ℤ) : Type 0 where
+pub record HasTakenOut (old new : HeapEntries) (at : ℕ) (event : ℤ × ℤ) : Type 0 where
   pub entry : Entry
   pub there : entry ≡ slice_index_or old.entries at entry
   pub is : event ≡ event_of entry

@@ -3,7 +3,7 @@
 //! Nothing but this module reads a key, and none of its functions hands an entry out. So two keys are compared and an
 //! entry is put into a place only by functions of this module, and each of them counts it in a `WorkCounter`.
 ghost use Rattle.std.specs.Prelude.{◌≡◌, ◌<◌, ◌*◌, [], pos, IfOk, IfSome, IsTrue, ◌↔◌, int_lt, map};
-ghost use Rattle.ss_world.specs.PendingList.{FitsClass};
+ghost use Rattle.ss_world.specs.PendingList.{IsFittingKey};
 ghost use Rattle.ss_events_entries.specs.Slots.{is_tied, no_entry, no_mark, order_of, mark_of, plain_entry, plain_ranks, plain_numbers};
 
 mod counter;
@@ -65,7 +65,7 @@ impl Key {
 
     /// Whether the rank is that of one of these classes, and the ties have the shapes of that class.
     pub fn fits(&self, classes: &[Vec<TieShape>]) -> bool
-        ensures { IsTrue result ↔ FitsClass (map (λ shapes. shapes.items) classes.now) self.now }
+        ensures { IsTrue result ↔ IsFittingKey (map (λ shapes. shapes.items) classes.now) self.now }
     {
         fits_class(classes, self.rank, &self.ties)
     }

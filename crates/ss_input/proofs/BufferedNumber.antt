@@ -10,8 +10,8 @@ use Rattle.ss_base.specs.declared.value.Value.TheVariants.{Whole}
 use Rattle.ss_base.specs.Arithmetic.{fits_64_bits}
 use Rattle.ss_input.specs.Blocks.{first_input_byte}
 use Rattle.ss_input.specs.declared.source.Source.{Source}
-use Rattle.ss_input.specs.Sources.{Passes, NextIs}
-use Rattle.ss_input.specs.Inputs.{source_block, source_gap, IsBuffered, IsBeforeWord, Reaches, Reads}
+use Rattle.ss_input.specs.Sources.{HasPassed, IsNextWanted}
+use Rattle.ss_input.specs.Inputs.{source_block, source_gap, IsBuffered, IsBeforeWord, HasReached, HasReadInput}
 use Rattle.ss_input.specs.Words.{is_digit, is_separator, is_word_byte, digits_from, digits_of, number_read, within_64_bits, next_word, value_given, read_word, if_read, as_whole, no_word, is_ended}
 use Rattle.ss_input.proofs.Reached.{word_found, end_found, reads_so, reads_moved}
 
@@ -78,7 +78,7 @@ consumes_nothing (Some a) = refl
 
 module _ {R : Type 0} (remaining : R → Option (List ℕ)) where
   -- buffered bytes that were passed
-  passes_buffered : (reader : R) (left bytes after : List ℕ) (ended : Bool) → left ≡ bytes ++ after → Passes remaining (record { reader = reader; left = left; ended = ended }) (record { reader = reader; left = after; ended = ended }) bytes
+  passes_buffered : (reader : R) (left bytes after : List ℕ) (ended : Bool) → left ≡ bytes ++ after → HasPassed remaining (record { reader = reader; left = left; ended = ended }) (record { reader = reader; left = after; ended = ended }) bytes
   passes_buffered reader left bytes after ended e = record {
     got = [];
     consumed = consumes_nothing (remaining reader);
@@ -88,7 +88,7 @@ module _ {R : Type 0} (remaining : R → Option (List ℕ)) where
 
   pub buffered_read : (old new : Source R) (gap value count : ℕ) → IsBuffered old gap value count →
       source_block new ≡ record { reader = (source_block old).reader; left = drop (gap + count) (source_block old).left; ended = (source_block old).ended } → source_gap new ≡ 0 →
-      Reads remaining old new (λ input rest. value_given Integer input ≡ Ok (record { value = Whole (pos value); rest = rest }))
+      HasReadInput remaining old new (λ input rest. value_given Integer input ≡ Ok (record { value = Whole (pos value); rest = rest }))
   buffered_read old new gap value count h block none =
       let n = h.begins in
       let b = source_block old in
@@ -98,12 +98,12 @@ module _ {R : Type 0} (remaining : R → Option (List ℕ)) where
       let end : Source R = record { block = record { reader = b.reader; left = drop count l; ended = b.ended }; gap = 0; missed = old.missed } in
       let some : 0 < length l = omega (arith, n.long) in
       let long : length w ≡ count = length-take-le count l (omega (arith, n.long)) in
-      let reached : Reaches remaining old mid = record {
+      let reached : HasReached remaining old mid = record {
         passed = record { bytes = take gap b.left; passes = passes_buffered b.reader b.left (take gap b.left) l b.ended (sym (take-append-drop gap b.left)); holds = (h.separators, ap (λ k. source_gap old + k) (length-take-le gap b.left h.within)) };
         next = record { at_end = λ e. absurd (nothing_left l some e); before = λ x xs e. first_byte l count x xs n.some n.digits e };
         small = h.small;
       } in
-      let stops : NextIs is_separator (source_block end) = record {
+      let stops : IsNextWanted is_separator (source_block end) = record {
         at_end = λ e. let no : n.byte ∷ n.rest ≡ [] = sym n.after ∙ e in absurd cc;
         before = λ x xs e. let is : n.byte ∷ n.rest ≡ x ∷ xs = sym n.after ∙ e in let same : n.byte ≡ x = cc in subst (λ y. is_separator y ≡ true) same n.stops;
       } in
@@ -121,13 +121,13 @@ module _ {R : Type 0} (remaining : R → Option (List ℕ)) where
   -- the separators before a word were passed
   pub gap_when_buffered : (old new : Source R) (gap : ℕ) → IsBeforeWord old gap →
       source_block new ≡ record { reader = (source_block old).reader; left = drop gap (source_block old).left; ended = (source_block old).ended } → source_gap new ≡ source_gap old + gap →
-      Reads remaining old new (λ input rest. (rest ≡ input) × (is_ended input ≡ Ok false))
+      HasReadInput remaining old new (λ input rest. (rest ≡ input) × (is_ended input ≡ Ok false))
   gap_when_buffered old new gap h block count =
       let b = source_block old in
       let l = drop gap b.left in
       let mid : Source R = record { block = record { reader = b.reader; left = l; ended = b.ended }; gap = source_gap old + gap; missed = old.missed } in
       let some : 0 < length l = some_after b.left gap h.within in
-      let reached : Reaches remaining old mid = record {
+      let reached : HasReached remaining old mid = record {
         passed = record { bytes = take gap b.left; passes = passes_buffered b.reader b.left (take gap b.left) l b.ended (sym (take-append-drop gap b.left)); holds = (h.separators, ap (λ k. source_gap old + k) (length-take-le gap b.left (omega (arith, h.within)))) };
         next = record { at_end = λ e. absurd (nothing_left l some e); before = h.stops };
         small = h.small;

@@ -4,8 +4,8 @@ use Rattle.std.proofs.lemmas.List.{append_assoc, append-nil, length-append, take
 use Rattle.std.proofs.lemmas.List.Folds.{list_all-append}
 use Rattle.std.specs.Io.KnownBytes.{Consumes, Keeps}
 use Rattle.std.specs.List.{list_all}
-use Rattle.ss_input.specs.Blocks.{BlockSeen, Peeks, Unread, first_input_byte}
-use Rattle.ss_input.specs.Sources.{GivesBytes, Passes, Passed, GapPassed, WordPassed, NextIs, Wants}
+use Rattle.ss_input.specs.Blocks.{BlockSeen, HasPeeked, IsUnread, first_input_byte}
+use Rattle.ss_input.specs.Sources.{HasGivenBytes, HasPassed, HasPassedSome, IsGapPassed, IsWordPassed, IsNextWanted, MustAskMore}
 use Rattle.ss_input.specs.Words.{is_separator, is_word_byte}
 
 pub some_first : (x : ℕ) (l : List ℕ) → Some x ≡ first_input_byte l → l ≡ x ∷ drop 1 l
@@ -13,7 +13,7 @@ some_first x [] e = absurd cc
 some_first x (y ∷ l) e = cc
 
 -- a byte that was looked at and passed
-pub passes_one : {R : Type 0} (remaining : R → Option (List ℕ)) (a b c : BlockSeen R) (x : ℕ) → Peeks remaining a b (Some x) → c.left ≡ drop 1 b.left → c.reader ≡ b.reader → c.ended ≡ b.ended → Passes remaining a c (x ∷ [])
+pub passes_one : {R : Type 0} (remaining : R → Option (List ℕ)) (a b c : BlockSeen R) (x : ℕ) → HasPeeked remaining a b (Some x) → c.left ≡ drop 1 b.left → c.reader ≡ b.reader → c.ended ≡ b.ended → HasPassed remaining a c (x ∷ [])
 passes_one remaining a b c x l left reader ended = record {
   got = l.got;
   consumed = subst (λ r. Consumes (remaining a.reader) (remaining r) l.got) (sym reader) l.consumed;
@@ -22,16 +22,16 @@ passes_one remaining a b c x l left reader ended = record {
 }
 
 -- a byte that was looked at, and is still to be passed
-pub passes_look : {R : Type 0} (remaining : R → Option (List ℕ)) (a b : BlockSeen R) (byte : Option ℕ) → Peeks remaining a b byte → Passes remaining a b []
+pub passes_look : {R : Type 0} (remaining : R → Option (List ℕ)) (a b : BlockSeen R) (byte : Option ℕ) → HasPeeked remaining a b byte → HasPassed remaining a b []
 passes_look remaining a b byte l = record { got = l.got; consumed = l.consumed; after_end = l.after_end; same = sym l.left }
 
-pub next_is : {R : Type 0} (remaining : R → Option (List ℕ)) (is_wanted : ℕ → Bool) (a b : BlockSeen R) (x : ℕ) → Peeks remaining a b (Some x) → is_wanted x ≡ true → NextIs is_wanted b
+pub next_is : {R : Type 0} (remaining : R → Option (List ℕ)) (is_wanted : ℕ → Bool) (a b : BlockSeen R) (x : ℕ) → HasPeeked remaining a b (Some x) → is_wanted x ≡ true → IsNextWanted is_wanted b
 next_is remaining is_wanted a b x l e = record {
   at_end = λ none. let no : Some x ≡ None = l.byte_is ∙ ap first_input_byte none in absurd cc;
   before = λ y bs here. let some : Some x ≡ Some y = l.byte_is ∙ ap first_input_byte here in let same : x ≡ y = cc in subst (λ z. is_wanted z ≡ true) same e;
 }
 
-pub next_is_end : {R : Type 0} (remaining : R → Option (List ℕ)) (is_wanted : ℕ → Bool) (a b : BlockSeen R) → Peeks remaining a b None → NextIs is_wanted b
+pub next_is_end : {R : Type 0} (remaining : R → Option (List ℕ)) (is_wanted : ℕ → Bool) (a b : BlockSeen R) → HasPeeked remaining a b None → IsNextWanted is_wanted b
 next_is_end remaining is_wanted a b l = record {
   at_end = λ none. l.at_end refl;
   before = λ y bs here. let no : None ≡ Some y = l.byte_is ∙ ap first_input_byte here in absurd cc;
@@ -44,7 +44,7 @@ consumes_more (Some a) (Some b) None xs ys h g = absurd g
 consumes_more (Some a) (Some b) (Some c) xs ys h g = h ∙ ap (λ t. xs ++ t) g ∙ sym (append_assoc xs ys c)
 
 -- one passage and then another
-pub passes_then : {R : Type 0} (remaining : R → Option (List ℕ)) (a b c : BlockSeen R) (xs ys : List ℕ) → Passes remaining a b xs → Passes remaining b c ys → Passes remaining a c (xs ++ ys)
+pub passes_then : {R : Type 0} (remaining : R → Option (List ℕ)) (a b c : BlockSeen R) (xs ys : List ℕ) → HasPassed remaining a b xs → HasPassed remaining b c ys → HasPassed remaining a c (xs ++ ys)
 passes_then remaining a b c xs ys h g = record {
   got = h.got ++ g.got;
   consumed = consumes_more (remaining a.reader) (remaining b.reader) (remaining c.reader) h.got g.got h.consumed g.consumed;
@@ -53,7 +53,7 @@ passes_then remaining a b c xs ys h g = record {
 }
 
 -- a passage, and then an error of the reader
-pub gives_after : {R : Type 0} (remaining : R → Option (List ℕ)) (a b c : BlockSeen R) (xs : List ℕ) → Passes remaining a b xs → Unread remaining b c → GivesBytes remaining a c
+pub gives_after : {R : Type 0} (remaining : R → Option (List ℕ)) (a b c : BlockSeen R) (xs : List ℕ) → HasPassed remaining a b xs → IsUnread remaining b c → HasGivenBytes remaining a c
 gives_after remaining a b c xs h u = record {
   got = h.got;
   consumed = consumes_kept (remaining a.reader) (remaining b.reader) (remaining c.reader) h.got h.consumed u.kept;
@@ -66,7 +66,7 @@ gives_after remaining a b c xs h u = record {
   consumes_kept (Some a) (Some b) (Some c) got h k = h ∙ ap (λ t. got ++ t) (sym k)
 
 -- an error of the reader, where all that was buffered passed a test
-pub wants_after : {R : Type 0} (remaining : R → Option (List ℕ)) (passes : ℕ → Bool) (a b c : BlockSeen R) (xs : List ℕ) → Passes remaining a b xs → list_all passes xs ≡ true → Unread remaining b c → (b.left ≡ []) × (b.ended ≡ false) → Wants remaining passes a c
+pub wants_after : {R : Type 0} (remaining : R → Option (List ℕ)) (passes : ℕ → Bool) (a b c : BlockSeen R) (xs : List ℕ) → HasPassed remaining a b xs → list_all passes xs ≡ true → IsUnread remaining b c → (b.left ≡ []) × (b.ended ≡ false) → MustAskMore remaining passes a c
 unfolding gives_after
 wants_after remaining passes a b c xs h all u w =
     let g = gives_after remaining a b c xs h u in
@@ -81,7 +81,7 @@ wants_after remaining passes a b c xs h all u w =
     }
 
 -- and a passage that gave
-pub gives_then : {R : Type 0} (remaining : R → Option (List ℕ)) (a b c : BlockSeen R) (xs : List ℕ) → Passes remaining a b xs → GivesBytes remaining b c → GivesBytes remaining a c
+pub gives_then : {R : Type 0} (remaining : R → Option (List ℕ)) (a b c : BlockSeen R) (xs : List ℕ) → HasPassed remaining a b xs → HasGivenBytes remaining b c → HasGivenBytes remaining a c
 gives_then remaining a b c xs h g = record {
   got = h.got ++ g.got;
   consumed = consumes_more (remaining a.reader) (remaining b.reader) (remaining c.reader) h.got g.got h.consumed g.consumed;
@@ -91,7 +91,7 @@ gives_then remaining a b c xs h g = record {
 -- ---- separators
 
 module _ {R : Type 0} (remaining : R → Option (List ℕ)) where
-  pub gap_more : (a b c : BlockSeen R) (before n : ℕ) → GapPassed remaining a b before n → Passed remaining b c (λ bytes. (x : ℕ) × (bytes ≡ x ∷ []) × (is_separator x ≡ true)) → GapPassed remaining a c before (n + 1)
+  pub gap_more : (a b c : BlockSeen R) (before n : ℕ) → IsGapPassed remaining a b before n → HasPassedSome remaining b c (λ bytes. (x : ℕ) × (bytes ≡ x ∷ []) × (is_separator x ≡ true)) → IsGapPassed remaining a c before (n + 1)
   gap_more a b c before n h g =
       let one : g.bytes ≡ g.holds.0 ∷ [] = g.holds.1 in
       let sep : is_separator g.holds.0 ≡ true = g.holds.2 in
@@ -101,19 +101,19 @@ module _ {R : Type 0} (remaining : R → Option (List ℕ)) where
         holds = (list_all-append is_separator h.bytes g.bytes ∙ rw (h.holds.0, one, sep) refl, rw (length-append h.bytes g.bytes, one) (omega (arith, h.holds.1)));
       }
 
-  pub gap_stays : (a b c : BlockSeen R) (before n : ℕ) → GapPassed remaining a b before n → Passes remaining b c [] → GapPassed remaining a c before n
+  pub gap_stays : (a b c : BlockSeen R) (before n : ℕ) → IsGapPassed remaining a b before n → HasPassed remaining b c [] → IsGapPassed remaining a c before n
   gap_stays a b c before n h g = record {
     bytes = h.bytes;
-    passes = subst (Passes remaining a c) (append-nil h.bytes) (passes_then remaining a b c h.bytes [] h.passes g);
+    passes = subst (HasPassed remaining a c) (append-nil h.bytes) (passes_then remaining a b c h.bytes [] h.passes g);
     holds = h.holds;
   }
 
   -- ---- words
 
-  pub word_more : (a b c : BlockSeen R) (word : List ℕ) (n x : ℕ) → n < length word → WordPassed remaining a b (take n word) → Passes remaining b c (x ∷ []) × (is_word_byte x ≡ true) → WordPassed remaining a c (take (n + 1) (slice_set word n x))
+  pub word_more : (a b c : BlockSeen R) (word : List ℕ) (n x : ℕ) → n < length word → IsWordPassed remaining a b (take n word) → HasPassed remaining b c (x ∷ []) × (is_word_byte x ≡ true) → IsWordPassed remaining a c (take (n + 1) (slice_set word n x))
   word_more a b c word n x lt h g =
-      subst (WordPassed remaining a c) (sym (take_more_set word n x lt))
+      subst (IsWordPassed remaining a c) (sym (take_more_set word n x lt))
       (passes_then remaining a b c (take n word) (x ∷ []) h.0 g.0, list_all-append is_word_byte (take n word) (x ∷ []) ∙ rw (h.1, g.1) refl)
 
-  pub word_stays : (a b c : BlockSeen R) (bytes : List ℕ) → WordPassed remaining a b bytes → Passes remaining b c [] → WordPassed remaining a c bytes
-  word_stays a b c bytes h g = (subst (Passes remaining a c) (append-nil bytes) (passes_then remaining a b c bytes [] h.0 g), h.1)
+  pub word_stays : (a b c : BlockSeen R) (bytes : List ℕ) → IsWordPassed remaining a b bytes → HasPassed remaining b c [] → IsWordPassed remaining a c bytes
+  word_stays a b c bytes h g = (subst (HasPassed remaining a c) (append-nil bytes) (passes_then remaining a b c bytes [] h.0 g), h.1)

@@ -7,8 +7,8 @@ use Rattle.std.proofs.lemmas.List.Folds.{list_all-append}
 use Rattle.ss_base.specs.declared.fault.FaultKind.TheVariants.{BadData}
 use Rattle.ss_input.specs.declared.source.Source.{Source}
 use Rattle.ss_input.specs.Blocks.{BlockSeen, first_input_byte}
-use Rattle.ss_input.specs.Sources.{GivesBytes, Passes, Passed, GapPassed, WordPassed, NextIs}
-use Rattle.ss_input.specs.Inputs.{source_block, source_gap, Reaches, IsAhead, Reads, Finds}
+use Rattle.ss_input.specs.Sources.{HasGivenBytes, HasPassed, HasPassedSome, IsGapPassed, IsWordPassed, IsNextWanted}
+use Rattle.ss_input.specs.Inputs.{source_block, source_gap, HasReached, IsAhead, HasReadInput, HasFound}
 use Rattle.ss_input.specs.Words.{is_separator, is_word_byte, from_word, leading_word, next_word, is_ended, no_word}
 use Rattle.ss_input.proofs.Passages.{consumes_more}
 use Rattle.ss_input.proofs.Gaps.{Stops, word_next, too_many, word_is, too_long}
@@ -18,7 +18,7 @@ no-separator true e = absurd cc
 no-separator false e = refl
 
 -- where a byte of one kind is next, more bytes don't lengthen a run of the other kind
-stops-separators : {R : Type 0} (b : BlockSeen R) (more : List ℕ) → NextIs is_word_byte b → (b.ended ≡ true → more ≡ []) → Stops is_separator (b.left ++ more)
+stops-separators : {R : Type 0} (b : BlockSeen R) (more : List ℕ) → IsNextWanted is_word_byte b → (b.ended ≡ true → more ≡ []) → Stops is_separator (b.left ++ more)
 stops-separators b more h e x xs q = by-left b.left refl q where
   by-left : (l : List ℕ) → b.left ≡ l → l ++ more ≡ x ∷ xs → is_separator x ≡ false
   by-left [] i q = let n : more ≡ [] = e (h.at_end i) in absurd (cons-nil (sym n ∙ q)) where
@@ -30,7 +30,7 @@ word-byte-not : (b : Bool) → b ≡ true → not b ≡ false
 word-byte-not true e = refl
 word-byte-not false e = absurd cc
 
-stops-word : {R : Type 0} (b : BlockSeen R) (more : List ℕ) → NextIs is_separator b → (b.ended ≡ true → more ≡ []) → Stops is_word_byte (b.left ++ more)
+stops-word : {R : Type 0} (b : BlockSeen R) (more : List ℕ) → IsNextWanted is_separator b → (b.ended ≡ true → more ≡ []) → Stops is_word_byte (b.left ++ more)
 stops-word b more h e x xs q = by-left b.left refl q where
   by-left : (l : List ℕ) → b.left ≡ l → l ++ more ≡ x ∷ xs → is_word_byte x ≡ false
   by-left [] i q = let n : more ≡ [] = e (h.at_end i) in absurd (cons-nil (sym n ∙ q)) where
@@ -50,7 +50,7 @@ pub record Reached {R : Type 0} (mid : Source R) (more input : List ℕ) : Type 
   pub input_is : input ≡ gap ++ ((source_block mid).left ++ more)
 
 module _ {R : Type 0} (remaining : R → Option (List ℕ)) where
-  passed_so : (old : Source R) (block : BlockSeen R) (count : ℕ) (h : GapPassed remaining (source_block old) block (source_gap old) count) (more input : List ℕ) → IsAhead old (h.passes.got ++ more) input
+  passed_so : (old : Source R) (block : BlockSeen R) (count : ℕ) (h : IsGapPassed remaining (source_block old) block (source_gap old) count) (more input : List ℕ) → IsAhead old (h.passes.got ++ more) input
       → (s : List ℕ) × (list_all is_separator s ≡ true) × (length s ≡ count) × (input ≡ s ++ (block.left ++ more))
   passed_so old block count h more input st = (
     st.gap ++ h.bytes,
@@ -60,7 +60,7 @@ module _ {R : Type 0} (remaining : R → Option (List ℕ)) where
   )
 
   -- too many separators
-  pub too_many_found : (old new : Source R) → GapPassed remaining (source_block old) (source_block new) (source_gap old) 1048577 → Finds remaining old new (λ input. from_word input ≡ Err BadData)
+  pub too_many_found : (old new : Source R) → IsGapPassed remaining (source_block old) (source_block new) (source_gap old) 1048577 → HasFound remaining old new (λ input. from_word input ≡ Err BadData)
   too_many_found old new h = record {
     got = h.passes.got;
     consumed = h.passes.consumed;
@@ -71,7 +71,7 @@ module _ {R : Type 0} (remaining : R → Option (List ℕ)) where
   }
 
   -- the input from its next word on
-  pub reached_word : (old mid : Source R) (h : Reaches remaining old mid) → source_gap mid ≤ 1048576 → (more input : List ℕ) → ((source_block mid).ended ≡ true → more ≡ []) → IsAhead old (h.passed.passes.got ++ more) input → Reached mid more input × (from_word input ≡ Ok ((source_block mid).left ++ more))
+  pub reached_word : (old mid : Source R) (h : HasReached remaining old mid) → source_gap mid ≤ 1048576 → (more input : List ℕ) → ((source_block mid).ended ≡ true → more ≡ []) → IsAhead old (h.passed.passes.got ++ more) input → Reached mid more input × (from_word input ≡ Ok ((source_block mid).left ++ more))
   reached_word old mid h small more input e st =
       let r = passed_so old (source_block mid) (source_gap mid) h.passed more input st in (
         record { gap = r.0; separators = r.1; long = r.2; input_is = r.3 },
@@ -87,7 +87,7 @@ module _ {R : Type 0} (remaining : R → Option (List ℕ)) where
   some_left (x ∷ l) m h e = absurd cc
 
   -- no word is left
-  pub none_found : (old mid : Source R) → Reaches remaining old mid → source_gap mid ≤ 1048576 → first_input_byte (source_block mid).left ≡ None → Finds remaining old mid (λ input. from_word input ≡ Ok [])
+  pub none_found : (old mid : Source R) → HasReached remaining old mid → source_gap mid ≤ 1048576 → first_input_byte (source_block mid).left ≡ None → HasFound remaining old mid (λ input. from_word input ≡ Ok [])
   none_found old mid h small none = record {
     got = h.passed.passes.got;
     consumed = h.passed.passes.consumed;
@@ -99,9 +99,9 @@ module _ {R : Type 0} (remaining : R → Option (List ℕ)) where
         r.1 ∙ ap (λ l. Ok (l ++ more)) left ∙ ap Ok nothing;
   }
 
-  module _ (old mid new : Source R) (h : Reaches remaining old mid) (small : source_gap mid ≤ 1048576) (some : first_input_byte (source_block mid).left ≡ None → ⊥) where
+  module _ (old mid new : Source R) (h : HasReached remaining old mid) (small : source_gap mid ≤ 1048576) (some : first_input_byte (source_block mid).left ≡ None → ⊥) where
     -- the input before a word, where the reader gave some bytes while it was passed
-    before_word : (w : List ℕ) (g : Passes remaining (source_block mid) (source_block new) w) (more input : List ℕ) → ((source_block new).ended ≡ true → more ≡ []) → IsAhead old ((h.passed.passes.got ++ g.got) ++ more) input → (from_word input ≡ Ok (w ++ ((source_block new).left ++ more))) × (w ++ ((source_block new).left ++ more) ≡ [] → ⊥)
+    before_word : (w : List ℕ) (g : HasPassed remaining (source_block mid) (source_block new) w) (more input : List ℕ) → ((source_block new).ended ≡ true → more ≡ []) → IsAhead old ((h.passed.passes.got ++ g.got) ++ more) input → (from_word input ≡ Ok (w ++ ((source_block new).left ++ more))) × (w ++ ((source_block new).left ++ more) ≡ [] → ⊥)
     before_word w g more input e st =
         let mid_end : (source_block mid).ended ≡ true → g.got ++ more ≡ [] = λ m. let v = g.after_end m in ap (λ t. t ++ more) v.0 ∙ e v.1 in
         let st' : IsAhead old (h.passed.passes.got ++ (g.got ++ more)) input = subst (λ l. IsAhead old l input) (append_assoc h.passed.passes.got g.got more) st in
@@ -109,7 +109,7 @@ module _ {R : Type 0} (remaining : R → Option (List ℕ)) where
         let t : (source_block mid).left ++ (g.got ++ more) ≡ w ++ ((source_block new).left ++ more) = shifted (source_block mid).left g.got w (source_block new).left more g.same in
         (r.1 ∙ ap Ok t, λ q. some_left (source_block mid).left (g.got ++ more) some (t ∙ q))
 
-    pub word_found : (w : List ℕ) → WordPassed remaining (source_block mid) (source_block new) w → length w ≤ 64 → NextIs is_separator (source_block new) → source_gap new ≡ 0 → Reads remaining old new (λ input rest. next_word input ≡ Ok (record { value = w; rest = rest }))
+    pub word_found : (w : List ℕ) → IsWordPassed remaining (source_block mid) (source_block new) w → length w ≤ 64 → IsNextWanted is_separator (source_block new) → source_gap new ≡ 0 → HasReadInput remaining old new (λ input rest. next_word input ≡ Ok (record { value = w; rest = rest }))
     word_found w g len before none = record {
       got = h.passed.passes.got ++ g.0.got;
       consumed = consumes_more (remaining (source_block old).reader) (remaining (source_block mid).reader) (remaining (source_block new).reader) h.passed.passes.got g.0.got h.passed.passes.consumed g.0.consumed;
@@ -124,7 +124,7 @@ module _ {R : Type 0} (remaining : R → Option (List ℕ)) where
           };
     }
 
-    pub too_long_found : (g : Passed remaining (source_block mid) (source_block new) (λ bytes. (list_all is_word_byte bytes ≡ true) × (length bytes ≡ 65))) → Finds remaining old new (λ input. next_word input ≡ Err BadData)
+    pub too_long_found : (g : HasPassedSome remaining (source_block mid) (source_block new) (λ bytes. (list_all is_word_byte bytes ≡ true) × (length bytes ≡ 65))) → HasFound remaining old new (λ input. next_word input ≡ Err BadData)
     too_long_found g = record {
       got = h.passed.passes.got ++ g.passes.got;
       consumed = consumes_more (remaining (source_block old).reader) (remaining (source_block mid).reader) (remaining (source_block new).reader) h.passed.passes.got g.passes.got h.passed.passes.consumed g.passes.consumed;
@@ -135,7 +135,7 @@ module _ {R : Type 0} (remaining : R → Option (List ℕ)) where
     }
 
   -- where one statement follows from another
-  pub finds_so : (old new : Source R) (Says Says' : List ℕ → Type 0) → ((input : List ℕ) → Says input → Says' input) → Finds remaining old new Says → Finds remaining old new Says'
+  pub finds_so : (old new : Source R) (Says Says' : List ℕ → Type 0) → ((input : List ℕ) → Says input → Says' input) → HasFound remaining old new Says → HasFound remaining old new Says'
   finds_so old new Says Says' so h = record {
     got = h.got;
     consumed = h.consumed;
@@ -143,7 +143,7 @@ module _ {R : Type 0} (remaining : R → Option (List ℕ)) where
     says = λ more input e st. so input (h.says more input e st);
   }
 
-  pub reads_so : (old new : Source R) (Says Says' : List ℕ → List ℕ → Type 0) → ((input rest : List ℕ) → Says input rest → Says' input rest) → Reads remaining old new Says → Reads remaining old new Says'
+  pub reads_so : (old new : Source R) (Says Says' : List ℕ → List ℕ → Type 0) → ((input rest : List ℕ) → Says input rest → Says' input rest) → HasReadInput remaining old new Says → HasReadInput remaining old new Says'
   reads_so old new Says Says' so h = record {
     got = h.got;
     consumed = h.consumed;
@@ -151,7 +151,7 @@ module _ {R : Type 0} (remaining : R → Option (List ℕ)) where
     says = λ more input e st. let l = h.says more input e st in record { rest = l.rest; ahead = l.ahead; says = so input l.rest l.says };
   }
 
-  pub reads_finds : (old new : Source R) (Says : List ℕ → List ℕ → Type 0) (Says' : List ℕ → Type 0) → ((input rest : List ℕ) → Says input rest → Says' input) → Reads remaining old new Says → Finds remaining old new Says'
+  pub reads_finds : (old new : Source R) (Says : List ℕ → List ℕ → Type 0) (Says' : List ℕ → Type 0) → ((input rest : List ℕ) → Says input rest → Says' input) → HasReadInput remaining old new Says → HasFound remaining old new Says'
   reads_finds old new Says Says' so h = record {
     got = h.got;
     consumed = h.consumed;
@@ -160,7 +160,7 @@ module _ {R : Type 0} (remaining : R → Option (List ℕ)) where
   }
 
   -- a source that differs only in what it remembers
-  pub finds_moved : (old a b : Source R) (Says : List ℕ → Type 0) → source_block a ≡ source_block b → source_gap a ≡ source_gap b → Finds remaining old a Says → Finds remaining old b Says
+  pub finds_moved : (old a b : Source R) (Says : List ℕ → Type 0) → source_block a ≡ source_block b → source_gap a ≡ source_gap b → HasFound remaining old a Says → HasFound remaining old b Says
   finds_moved old a b Says block gap h = record {
     got = h.got;
     consumed = subst (λ k. Consumes (remaining (source_block old).reader) (remaining k.reader) h.got) block h.consumed;
@@ -168,7 +168,7 @@ module _ {R : Type 0} (remaining : R → Option (List ℕ)) where
     says = λ more input e st. h.says more input (λ q. e (subst (λ k. k.ended ≡ true) block q)) st;
   }
 
-  pub reads_moved : (old a b : Source R) (Says : List ℕ → List ℕ → Type 0) → source_block a ≡ source_block b → source_gap a ≡ source_gap b → Reads remaining old a Says → Reads remaining old b Says
+  pub reads_moved : (old a b : Source R) (Says : List ℕ → List ℕ → Type 0) → source_block a ≡ source_block b → source_gap a ≡ source_gap b → HasReadInput remaining old a Says → HasReadInput remaining old b Says
   reads_moved old a b Says block gap h = record {
     got = h.got;
     consumed = subst (λ k. Consumes (remaining (source_block old).reader) (remaining k.reader) h.got) block h.consumed;
@@ -183,7 +183,7 @@ module _ {R : Type 0} (remaining : R → Option (List ℕ)) where
   }
 
   -- some bytes were read, and nothing is found
-  pub nothing_found : (old a b : Source R) → source_block a ≡ source_block b → GivesBytes remaining (source_block old) (source_block a) → Finds remaining old b (λ input. Unit {0})
+  pub nothing_found : (old a b : Source R) → source_block a ≡ source_block b → HasGivenBytes remaining (source_block old) (source_block a) → HasFound remaining old b (λ input. Unit {0})
   nothing_found old a b block h = record {
     got = h.got;
     consumed = subst (λ k. Consumes (remaining (source_block old).reader) (remaining k.reader) h.got) block h.consumed;
@@ -196,7 +196,7 @@ module _ {R : Type 0} (remaining : R → Option (List ℕ)) where
   no_word_more (x ∷ l) more ended h e = e
 
   -- whether no word is left
-  pub end_found : (old mid : Source R) → Reaches remaining old mid → (ended : Bool) → no_word (Ok (source_block mid).left) ≡ Ok ended → Reads remaining old mid (λ input rest. (rest ≡ input) × (is_ended input ≡ Ok ended))
+  pub end_found : (old mid : Source R) → HasReached remaining old mid → (ended : Bool) → no_word (Ok (source_block mid).left) ≡ Ok ended → HasReadInput remaining old mid (λ input rest. (rest ≡ input) × (is_ended input ≡ Ok ended))
   end_found old mid h ended is = record {
     got = h.passed.passes.got;
     consumed = h.passed.passes.consumed;

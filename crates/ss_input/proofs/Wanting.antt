@@ -3,7 +3,7 @@ use Rattle.std.proofs.Common.{◌≡◌, ℕ, Bool, true, false, not, ◌&&◌, 
 use Rattle.std.specs.List.{list_all}
 use Rattle.std.proofs.lemmas.List.{append-nil}
 use Rattle.ss_input.specs.Blocks.{BlockSeen}
-use Rattle.ss_input.specs.Sources.{GapPassed, Wants, Lacks, after_while}
+use Rattle.ss_input.specs.Sources.{IsGapPassed, MustAskMore, IsLackingWord, after_while}
 use Rattle.ss_input.specs.Words.{is_separator, is_word_byte}
 use Rattle.ss_input.proofs.Passages.{passes_then}
 
@@ -38,7 +38,7 @@ short_so gap w s e = ap (after_while is_word_byte) (after_gap gap w s e) ∙ aft
 
 module _ {R : Type 0} (remaining : R → Option (List ℕ)) where
   -- the reader failed before the word
-  pub lacks_gap : (a c : BlockSeen R) → Wants remaining is_separator a c → Lacks remaining a c
+  pub lacks_gap : (a c : BlockSeen R) → MustAskMore remaining is_separator a c → IsLackingWord remaining a c
   lacks_gap a c h =
       let p = h.passed.passes in
       let all : a.left ++ p.got ≡ h.passed.bytes = p.same ∙ ap (λ l. h.passed.bytes ++ l) h.none_left ∙ append-nil h.passed.bytes in
@@ -51,7 +51,7 @@ module _ {R : Type 0} (remaining : R → Option (List ℕ)) where
       }
 
   -- and within it
-  pub lacks_word : (a b c : BlockSeen R) (before count : ℕ) → GapPassed remaining a b before count → Wants remaining is_word_byte b c → Lacks remaining a c
+  pub lacks_word : (a b c : BlockSeen R) (before count : ℕ) → IsGapPassed remaining a b before count → MustAskMore remaining is_word_byte b c → IsLackingWord remaining a c
   lacks_word a b c before count g h =
       let p = passes_then remaining a b c g.bytes h.passed.bytes g.passes h.passed.passes in
       let all : a.left ++ p.got ≡ g.bytes ++ h.passed.bytes = p.same ∙ ap (λ l. (g.bytes ++ h.passed.bytes) ++ l) h.none_left ∙ append-nil (g.bytes ++ h.passed.bytes) in

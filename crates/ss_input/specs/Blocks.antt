@@ -24,20 +24,20 @@ first_input_byte [] = None
 first_input_byte (b ∷ bs) = Some b
 
 -- a block that was asked for where no byte was left: the reader gave these bytes, or its end
-pub record Fills {R : Type 0} (remaining : R → Option (List ℕ)) (old new : BlockSeen R) : Type 0 where
+pub record HasFilled {R : Type 0} (remaining : R → Option (List ℕ)) (old new : BlockSeen R) : Type 0 where
   pub consumed : Consumes (remaining old.reader) (remaining new.reader) new.left
   pub at_end : new.left ≡ [] → new.ended ≡ true
   pub not_ended : (new.left ≡ [] → ⊥) → new.ended ≡ false
   pub few : length new.left ≤ block_limit
 
 -- a reader that answered an error: it gave nothing, and all is as it was
-pub record Unread {R : Type 0} (remaining : R → Option (List ℕ)) (old new : BlockSeen R) : Type 0 where
+pub record IsUnread {R : Type 0} (remaining : R → Option (List ℕ)) (old new : BlockSeen R) : Type 0 where
   pub kept : Keeps (remaining old.reader) (remaining new.reader)
   pub left : new.left ≡ old.left
   pub ended : new.ended ≡ old.ended
 
 -- a look at the next byte: the reader gave some bytes, none after its end
-pub record Peeks {R : Type 0} (remaining : R → Option (List ℕ)) (old new : BlockSeen R) (byte : Option ℕ) : Type 0 where
+pub record HasPeeked {R : Type 0} (remaining : R → Option (List ℕ)) (old new : BlockSeen R) (byte : Option ℕ) : Type 0 where
   pub got : List ℕ
   pub consumed : Consumes (remaining old.reader) (remaining new.reader) got
   pub left : new.left ≡ old.left ++ got
@@ -47,5 +47,5 @@ pub record Peeks {R : Type 0} (remaining : R → Option (List ℕ)) (old new : B
   pub few : length got ≤ block_limit
 
 -- where a block has met the end of its reader, that reader has nothing left, if this is known of it
-abbrev pub KnowsEnd : {R : Type 0} → (R → Option (List ℕ)) → BlockSeen R → Type 0
-KnowsEnd remaining b = b.ended ≡ true → IsAtEnd (remaining b.reader)
+abbrev pub IsEndKnown : {R : Type 0} → (R → Option (List ℕ)) → BlockSeen R → Type 0
+IsEndKnown remaining b = b.ended ≡ true → IsAtEnd (remaining b.reader)

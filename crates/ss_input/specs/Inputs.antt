@@ -7,9 +7,9 @@ use Rattle.ss_input.specs.declared.source.Missed.{Missed}
 use Rattle.ss_input.specs.declared.source.Missed.TheVariants.{Fault, Input}
 use Rattle.ss_input.specs.declared.source.Source.{Source}
 use Rattle.ss_input.specs.Blocks.{BlockSeen}
-use Rattle.ss_input.specs.Sources.{GapPassed, NextIs}
+use Rattle.ss_input.specs.Sources.{IsGapPassed, IsNextWanted}
 use Rattle.ss_input.specs.Words.{is_separator, is_word_byte}
-use Rattle.ss_input.specs.Numbers.{BeginsWith}
+use Rattle.ss_input.specs.Numbers.{HasLeadingNumber}
 
 -- the view of a source: its reader with the buffered bytes, how many separators were passed since the last word, and why it
 -- gives no more
@@ -35,9 +35,9 @@ pub record IsFresh {R : Type 0} (reader : R) (s : Source R) : Type 0 where
   pub missed : source_missed s ≡ None
 
 -- the separators before the next word were passed, and none or a word is next
-pub record Reaches {R : Type 0} (remaining : R → Option (List ℕ)) (old new : Source R) : Type 0 where
-  pub passed : GapPassed remaining (source_block old) (source_block new) (source_gap old) (source_gap new)
-  pub next : NextIs is_word_byte (source_block new)
+pub record HasReached {R : Type 0} (remaining : R → Option (List ℕ)) (old new : Source R) : Type 0 where
+  pub passed : IsGapPassed remaining (source_block old) (source_block new) (source_gap old) (source_gap new)
+  pub next : IsNextWanted is_word_byte (source_block new)
   pub small : source_gap new ≤ 1048576
 
 -- a number of so many bytes is buffered after so many separators, and a separator follows it
@@ -45,7 +45,7 @@ pub record IsBuffered {R : Type 0} (s : Source R) (gap value count : ℕ) : Type
   pub within : gap ≤ length (source_block s).left
   pub separators : list_all is_separator (take gap (source_block s).left) ≡ true
   pub small : source_gap s + gap ≤ 1048576
-  pub begins : BeginsWith value count (drop gap (source_block s).left)
+  pub begins : HasLeadingNumber value count (drop gap (source_block s).left)
 
 -- so many separators come before a word, whose first byte is buffered
 pub record IsBeforeWord {R : Type 0} (s : Source R) (gap : ℕ) : Type 0 where
@@ -70,14 +70,14 @@ pub record HasRest {R : Type 0} (s : Source R) (more : List ℕ) (Says : List �
 
 -- a call took some bytes from the reader, none after its end; whatever the reader gives from here on, this holds of the input
 -- before the call and the rest after it
-pub record Reads {R : Type 0} (remaining : R → Option (List ℕ)) (old new : Source R) (Says : (input rest : List ℕ) → Type 0) : Type 0 where
+pub record HasReadInput {R : Type 0} (remaining : R → Option (List ℕ)) (old new : Source R) (Says : (input rest : List ℕ) → Type 0) : Type 0 where
   pub got : List ℕ
   pub consumed : Consumes (remaining (source_reader old)) (remaining (source_reader new)) got
   pub after_end : (source_block old).ended ≡ true → (got ≡ []) × ((source_block new).ended ≡ true)
   pub says : (more input : List ℕ) → ((source_block new).ended ≡ true → more ≡ []) → IsAhead old (got ++ more) input → HasRest new more (Says input)
 
 -- a call after which no more is read: whatever the reader gives from here on, this holds of the input before it
-pub record Finds {R : Type 0} (remaining : R → Option (List ℕ)) (old new : Source R) (Says : (input : List ℕ) → Type 0) : Type 0 where
+pub record HasFound {R : Type 0} (remaining : R → Option (List ℕ)) (old new : Source R) (Says : (input : List ℕ) → Type 0) : Type 0 where
   pub got : List ℕ
   pub consumed : Consumes (remaining (source_reader old)) (remaining (source_reader new)) got
   pub after_end : (source_block old).ended ≡ true → (got ≡ []) × ((source_block new).ended ≡ true)

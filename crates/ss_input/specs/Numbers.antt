@@ -12,7 +12,7 @@ capped None = None
 capped (Some n) = Some (min n cap)
 
 -- bytes begin with so many digits, at least one and fewer than 18, which are this number, and then a separator
-pub record BeginsWith (value count : ℕ) (bytes : List ℕ) : Type 0 where
+pub record HasLeadingNumber (value count : ℕ) (bytes : List ℕ) : Type 0 where
   pub some : 0 < count
   pub few : count < 18
   pub long : count < length bytes

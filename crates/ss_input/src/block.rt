@@ -3,7 +3,7 @@
 ghost use Rattle.std.specs.Prelude.{◌≡◌, ◌≢◌, ◌<◌, ◌≤◌, [], true, false, length, drop, IfOk, OnOk, OnErr};
 ghost use Rattle.std.specs.Io.KnownBytes.{Keeps};
 ghost use Rattle.ss_base.specs.Failures.{errors_after};
-ghost use Rattle.ss_input.specs.Blocks.{KnowsEnd, Peeks, Fills, Unread, first_input_byte};
+ghost use Rattle.ss_input.specs.Blocks.{IsEndKnown, HasPeeked, HasFilled, IsUnread, first_input_byte};
 
 use ss_base::FaultyRead;
 use std::marker::Model;
@@ -106,13 +106,13 @@ impl<R: FaultyRead> Block<R> {
     /// no byte is buffered and it gave no end. The error comes where it answered one; then nothing was
     /// read.
     pub fn peek(&mut self) -> Result<Option<u8>, ReadFailed>
-        ensures ok { IfOk result (λ byte. Peeks R.remaining self.old self.new byte) }
+        ensures ok { IfOk result (λ byte. HasPeeked R.remaining self.old self.new byte) }
         ensures buffered { self.old.left ≢ [] → self.new ≡ self.old }
         ensures after_end { self.old.ended ≡ true → self.new ≡ self.old }
-        ensures unread { OnErr result (Unread R.remaining self.old self.new) }
+        ensures unread { OnErr result (IsUnread R.remaining self.old self.new) }
         ensures wanted { OnErr result ((self.old.left ≡ []) × (self.old.ended ≡ false)) }
         ensures counted { R.faults self.new.reader ≡ errors_after result (R.faults self.old.reader) }
-        ensures end { KnowsEnd R.remaining self.old → KnowsEnd R.remaining self.new }
+        ensures end { IsEndKnown R.remaining self.old → IsEndKnown R.remaining self.new }
     {
         if let Some(byte) = self.first() {
             return Ok(Some(byte));
@@ -128,10 +128,10 @@ impl<R: FaultyRead> Block<R> {
     fn fill(&mut self) -> Result<(), ReadFailed>
         requires empty { self.old.left ≡ [] }
         requires not_ended { self.old.ended ≡ false }
-        ensures ok { OnOk result (Fills R.remaining self.old self.new) }
-        ensures unread { OnErr result (Unread R.remaining self.old self.new) }
+        ensures ok { OnOk result (HasFilled R.remaining self.old self.new) }
+        ensures unread { OnErr result (IsUnread R.remaining self.old self.new) }
         ensures counted { R.faults self.new.reader ≡ errors_after result (R.faults self.old.reader) }
-        ensures end { KnowsEnd R.remaining self.old → KnowsEnd R.remaining self.new }
+        ensures end { IsEndKnown R.remaining self.old → IsEndKnown R.remaining self.new }
     {
         match self.reader.read_some(&mut self.room) {
             Ok(0) => {

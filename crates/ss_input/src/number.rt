@@ -3,7 +3,7 @@
 ghost use Rattle.std.specs.List.{list_all};
 ghost use Rattle.std.specs.Prelude.{◌≡◌, ◌≤◌, ◌∷◌, ℕ, List, true, length, take, drop, pos, neg_ℤ, IfSome};
 ghost use Rattle.ss_input.specs.Words.{digits_of, is_digit, is_separator, is_word_byte, number_read, within_64_bits};
-ghost use Rattle.ss_input.specs.Numbers.{capped, BeginsWith};
+ghost use Rattle.ss_input.specs.Numbers.{capped, HasLeadingNumber};
 
 use crate::passing::is_separator;
 
@@ -83,7 +83,7 @@ fn is_digit(byte: u8) -> bool
 /// The number that bytes begin with, where it has few digits and no sign, and a separator follows it.
 #[inline(always)]
 pub(crate) fn leading_number(bytes: &[u8]) -> Option<LeadingNumber>
-    ensures { IfSome result (λ n. BeginsWith n.value n.count bytes.now) }
+    ensures { IfSome result (λ n. HasLeadingNumber n.value n.count bytes.now) }
 {
     let mut value: u64 = 0;
     for count in 0..SHORT {

@@ -3,8 +3,8 @@
 ghost use Rattle.std.specs.List.{list_all};
 ghost use Rattle.std.specs.Prelude.{length, take, ◌≡◌, ◌≤◌, ◌+◌, ◌∷◌, [], true, false, ℕ, Ok, Some, None, OnErr};
 ghost use Rattle.ss_base.specs.Failures.{errors_after};
-ghost use Rattle.ss_input.specs.Blocks.{KnowsEnd, Unread};
-ghost use Rattle.ss_input.specs.Sources.{GivesBytes, Passes, Passed, GapPassed, WordPassed, NextIs, Suffices, Unasked, Wants};
+ghost use Rattle.ss_input.specs.Blocks.{IsEndKnown, IsUnread};
+ghost use Rattle.ss_input.specs.Sources.{HasGivenBytes, HasPassed, HasPassedSome, IsGapPassed, IsWordPassed, IsNextWanted, IsEnough, IsUnasked, MustAskMore};
 ghost use Rattle.ss_input.specs.Words.{is_separator, is_word_byte};
 
 use crate::block::{Block, ReadFailed};
@@ -26,13 +26,13 @@ pub(crate) fn is_separator(byte: u8) -> bool
 
 /// Passes the next byte if it is a separator, and says whether it was.
 pub(crate) fn pass_separator<R: FaultyRead>(block: &mut Block<R>) -> Result<bool, ReadFailed>
-    ensures passed { result ≡ Ok true → Passed R.remaining block.old block.new (λ bytes. (b : ℕ) × (bytes ≡ b ∷ []) × (is_separator b ≡ true)) }
-    ensures none { result ≡ Ok false → Passes R.remaining block.old block.new [] × NextIs is_word_byte block.new }
-    ensures unread { OnErr result (Unread R.remaining block.old block.new) }
+    ensures passed { result ≡ Ok true → HasPassedSome R.remaining block.old block.new (λ bytes. (b : ℕ) × (bytes ≡ b ∷ []) × (is_separator b ≡ true)) }
+    ensures none { result ≡ Ok false → HasPassed R.remaining block.old block.new [] × IsNextWanted is_word_byte block.new }
+    ensures unread { OnErr result (IsUnread R.remaining block.old block.new) }
     ensures wanted { OnErr result ((block.old.left ≡ []) × (block.old.ended ≡ false)) }
     ensures counted { R.faults block.new.reader ≡ errors_after result (R.faults block.old.reader) }
-    ensures unasked { Suffices is_separator block.old → Unasked is_separator block.old block.new }
-    ensures end { KnowsEnd R.remaining block.old → KnowsEnd R.remaining block.new }
+    ensures unasked { IsEnough is_separator block.old → IsUnasked is_separator block.old block.new }
+    ensures end { IsEndKnown R.remaining block.old → IsEndKnown R.remaining block.new }
 {
     match block.peek()? {
         Some(byte) if is_separator(byte) => {
@@ -45,13 +45,13 @@ pub(crate) fn pass_separator<R: FaultyRead>(block: &mut Block<R>) -> Result<bool
 
 /// Passes the next byte if it is one of a word, and answers it.
 pub(crate) fn pass_word_byte<R: FaultyRead>(block: &mut Block<R>) -> Result<Option<u8>, ReadFailed>
-    ensures passed { (b : ℕ) → result ≡ Ok (Some b) → Passes R.remaining block.old block.new (b ∷ []) × (is_word_byte b ≡ true) }
-    ensures none { result ≡ Ok None → Passes R.remaining block.old block.new [] × NextIs is_separator block.new }
-    ensures unread { OnErr result (Unread R.remaining block.old block.new) }
+    ensures passed { (b : ℕ) → result ≡ Ok (Some b) → HasPassed R.remaining block.old block.new (b ∷ []) × (is_word_byte b ≡ true) }
+    ensures none { result ≡ Ok None → HasPassed R.remaining block.old block.new [] × IsNextWanted is_separator block.new }
+    ensures unread { OnErr result (IsUnread R.remaining block.old block.new) }
     ensures wanted { OnErr result ((block.old.left ≡ []) × (block.old.ended ≡ false)) }
     ensures counted { R.faults block.new.reader ≡ errors_after result (R.faults block.old.reader) }
-    ensures unasked { Suffices is_word_byte block.old → Unasked is_word_byte block.old block.new }
-    ensures end { KnowsEnd R.remaining block.old → KnowsEnd R.remaining block.new }
+    ensures unasked { IsEnough is_word_byte block.old → IsUnasked is_word_byte block.old block.new }
+    ensures end { IsEndKnown R.remaining block.old → IsEndKnown R.remaining block.new }
 {
     match block.peek()? {
         Some(byte) if !is_separator(byte) => {
@@ -69,13 +69,13 @@ pub(crate) fn pass_gap<R: FaultyRead>(
     before: usize,
 ) -> Result<Option<usize>, ReadFailed>
     requires { before ≤ SEPARATOR_LIMIT }
-    ensures passed { (count : ℕ) → result ≡ Ok (Some count) → GapPassed R.remaining block.old block.new before count × (count ≤ SEPARATOR_LIMIT) × NextIs is_word_byte block.new }
-    ensures too_many { result ≡ Ok None → GapPassed R.remaining block.old block.new before (SEPARATOR_LIMIT + 1) }
-    ensures gives { OnErr result (GivesBytes R.remaining block.old block.new) }
-    ensures wants { OnErr result (Wants R.remaining is_separator block.old block.new) }
+    ensures passed { (count : ℕ) → result ≡ Ok (Some count) → IsGapPassed R.remaining block.old block.new before count × (count ≤ SEPARATOR_LIMIT) × IsNextWanted is_word_byte block.new }
+    ensures too_many { result ≡ Ok None → IsGapPassed R.remaining block.old block.new before (SEPARATOR_LIMIT + 1) }
+    ensures gives { OnErr result (HasGivenBytes R.remaining block.old block.new) }
+    ensures wants { OnErr result (MustAskMore R.remaining is_separator block.old block.new) }
     ensures counted { R.faults block.new.reader ≡ errors_after result (R.faults block.old.reader) }
-    ensures unasked { Suffices is_separator block.old → Unasked is_separator block.old block.new }
-    ensures end { KnowsEnd R.remaining block.old → KnowsEnd R.remaining block.new }
+    ensures unasked { IsEnough is_separator block.old → IsUnasked is_separator block.old block.new }
+    ensures end { IsEndKnown R.remaining block.old → IsEndKnown R.remaining block.new }
 {
     for count in before..SEPARATOR_LIMIT {
         if !pass_separator(block)? {
@@ -95,13 +95,13 @@ pub(crate) fn pass_word<R: FaultyRead>(
     block: &mut Block<R>,
     word: &mut [u8; WORD_LIMIT],
 ) -> Result<Option<usize>, ReadFailed>
-    ensures passed { (count : ℕ) → result ≡ Ok (Some count) → WordPassed R.remaining block.old block.new (take count word.new) × (count ≤ WORD_LIMIT) × NextIs is_separator block.new }
-    ensures too_long { result ≡ Ok None → Passed R.remaining block.old block.new (λ bytes. (list_all is_word_byte bytes ≡ true) × (length bytes ≡ WORD_LIMIT + 1)) }
-    ensures gives { OnErr result (GivesBytes R.remaining block.old block.new) }
-    ensures wants { OnErr result (Wants R.remaining is_word_byte block.old block.new) }
+    ensures passed { (count : ℕ) → result ≡ Ok (Some count) → IsWordPassed R.remaining block.old block.new (take count word.new) × (count ≤ WORD_LIMIT) × IsNextWanted is_separator block.new }
+    ensures too_long { result ≡ Ok None → HasPassedSome R.remaining block.old block.new (λ bytes. (list_all is_word_byte bytes ≡ true) × (length bytes ≡ WORD_LIMIT + 1)) }
+    ensures gives { OnErr result (HasGivenBytes R.remaining block.old block.new) }
+    ensures wants { OnErr result (MustAskMore R.remaining is_word_byte block.old block.new) }
     ensures counted { R.faults block.new.reader ≡ errors_after result (R.faults block.old.reader) }
-    ensures unasked { Suffices is_word_byte block.old → Unasked is_word_byte block.old block.new }
-    ensures end { KnowsEnd R.remaining block.old → KnowsEnd R.remaining block.new }
+    ensures unasked { IsEnough is_word_byte block.old → IsUnasked is_word_byte block.old block.new }
+    ensures end { IsEndKnown R.remaining block.old → IsEndKnown R.remaining block.new }
 {
     for count in 0..WORD_LIMIT {
         match pass_word_byte(block)? {

@@ -6,9 +6,9 @@ ghost use Rattle.ss_base.specs.declared.value.Value.TheVariants.{Whole, Text};
 ghost use Rattle.ss_base.specs.declared.layout.Mode.TheVariants.{Integer, Alpha as AlphaMode};
 ghost use Rattle.ss_base.specs.Failures.{HasRisen, HasRisenBy};
 ghost use Rattle.ss_input.specs.declared.source.Missed.{Missed as MissedSeen};
-ghost use Rattle.ss_input.specs.Blocks.{KnowsEnd};
-ghost use Rattle.ss_input.specs.Sources.{GivesBytes, GapPassed, NextIs, Suffices, Unasked, HasWord, Wants, Lacks};
-ghost use Rattle.ss_input.specs.Inputs.{source_block, source_gap, source_missed, source_reader, IsFresh, IsBuffered, IsBeforeWord, Reads, Finds, Reaches, missed_of, failures_after};
+ghost use Rattle.ss_input.specs.Blocks.{IsEndKnown};
+ghost use Rattle.ss_input.specs.Sources.{HasGivenBytes, IsGapPassed, IsNextWanted, IsEnough, IsUnasked, HasWord, MustAskMore, IsLackingWord};
+ghost use Rattle.ss_input.specs.Inputs.{source_block, source_gap, source_missed, source_reader, IsFresh, IsBuffered, IsBeforeWord, HasReadInput, HasFound, HasReached, missed_of, failures_after};
 ghost use Rattle.ss_input.specs.Words.{is_separator, is_word_byte, if_read, is_ended, next_word, value_given};
 
 use crate::block::{Block, ReadFailed};
@@ -93,14 +93,14 @@ impl<R> Source<R> {
 impl<R: FaultyRead> Source<R> {
     // Passes the separators before the next word, if there is one.
     fn reach_word(&mut self) -> Result<(), Missed>
-        ensures ok { OnOk result (Reaches R.remaining self.old self.new) }
-        ensures fault { (kind : FaultSeen) → result ≡ Err (Missed.Fault kind) → (kind ≡ FaultKind.BadData) × GapPassed R.remaining (source_block self.old) (source_block self.new) (source_gap self.old) 1048577 }
-        ensures gives { result ≡ Err Missed.Input → GivesBytes R.remaining (source_block self.old) (source_block self.new) }
-        ensures wants { result ≡ Err Missed.Input → Wants R.remaining is_separator (source_block self.old) (source_block self.new) }
+        ensures ok { OnOk result (HasReached R.remaining self.old self.new) }
+        ensures fault { (kind : FaultSeen) → result ≡ Err (Missed.Fault kind) → (kind ≡ FaultKind.BadData) × IsGapPassed R.remaining (source_block self.old) (source_block self.new) (source_gap self.old) 1048577 }
+        ensures gives { result ≡ Err Missed.Input → HasGivenBytes R.remaining (source_block self.old) (source_block self.new) }
+        ensures wants { result ≡ Err Missed.Input → MustAskMore R.remaining is_separator (source_block self.old) (source_block self.new) }
         ensures missed { source_missed self.new ≡ source_missed self.old }
         ensures counted { R.faults (source_reader self.new) ≡ failures_after result (R.faults (source_reader self.old)) }
-        ensures unasked { Suffices is_separator (source_block self.old) → Unasked is_separator (source_block self.old) (source_block self.new) }
-        ensures end { KnowsEnd R.remaining (source_block self.old) → KnowsEnd R.remaining (source_block self.new) }
+        ensures unasked { IsEnough is_separator (source_block self.old) → IsUnasked is_separator (source_block self.old) (source_block self.new) }
+        ensures end { IsEndKnown R.remaining (source_block self.old) → IsEndKnown R.remaining (source_block self.new) }
     {
         match pass_gap(&mut self.block, self.gap.count) {
             Ok(Some(count)) => {
@@ -115,14 +115,14 @@ impl<R: FaultyRead> Source<R> {
     // Reads the next word, and answers how many bytes it has.
     fn read_word(&mut self, word: &mut [u8; WORD_LIMIT]) -> Result<usize, Missed>
         ensures ok { IfOk result (λ count. count ≤ WORD_LIMIT) }
-        ensures read { (count : ℕ) → result ≡ Ok count → Reads R.remaining self.old self.new (λ input rest. next_word input ≡ Ok (record { value = take count word.new; rest = rest })) }
-        ensures fault { (kind : FaultSeen) → result ≡ Err (Missed.Fault kind) → Finds R.remaining self.old self.new (λ input. next_word input ≡ Err kind) }
-        ensures gives { result ≡ Err Missed.Input → GivesBytes R.remaining (source_block self.old) (source_block self.new) }
-        ensures lacks { result ≡ Err Missed.Input → Lacks R.remaining (source_block self.old) (source_block self.new) }
+        ensures read { (count : ℕ) → result ≡ Ok count → HasReadInput R.remaining self.old self.new (λ input rest. next_word input ≡ Ok (record { value = take count word.new; rest = rest })) }
+        ensures fault { (kind : FaultSeen) → result ≡ Err (Missed.Fault kind) → HasFound R.remaining self.old self.new (λ input. next_word input ≡ Err kind) }
+        ensures gives { result ≡ Err Missed.Input → HasGivenBytes R.remaining (source_block self.old) (source_block self.new) }
+        ensures lacks { result ≡ Err Missed.Input → IsLackingWord R.remaining (source_block self.old) (source_block self.new) }
         ensures missed { source_missed self.new ≡ source_missed self.old }
         ensures counted { R.faults (source_reader self.new) ≡ failures_after result (R.faults (source_reader self.old)) }
         ensures unasked { HasWord (source_block self.old) → source_reader self.new ≡ source_reader self.old }
-        ensures end { KnowsEnd R.remaining (source_block self.old) → KnowsEnd R.remaining (source_block self.new) }
+        ensures end { IsEndKnown R.remaining (source_block self.old) → IsEndKnown R.remaining (source_block self.new) }
     {
         self.reach_word()?;
         if self.block.first().is_none() {
@@ -140,14 +140,14 @@ impl<R: FaultyRead> Source<R> {
 
     // Reads the next word as a value of a mode.
     fn read_value<V: WordValue>(&mut self) -> Result<V, Missed>
-        ensures read { (value : V) → result ≡ Ok value → Reads R.remaining self.old self.new (λ input rest. value_given V.mode input ≡ if_read (V.values (Some value)) rest) }
-        ensures fault { (kind : FaultSeen) → result ≡ Err (Missed.Fault kind) → Finds R.remaining self.old self.new (λ input. value_given V.mode input ≡ Err kind) }
-        ensures gives { result ≡ Err Missed.Input → GivesBytes R.remaining (source_block self.old) (source_block self.new) }
-        ensures lacks { result ≡ Err Missed.Input → Lacks R.remaining (source_block self.old) (source_block self.new) }
+        ensures read { (value : V) → result ≡ Ok value → HasReadInput R.remaining self.old self.new (λ input rest. value_given V.mode input ≡ if_read (V.values (Some value)) rest) }
+        ensures fault { (kind : FaultSeen) → result ≡ Err (Missed.Fault kind) → HasFound R.remaining self.old self.new (λ input. value_given V.mode input ≡ Err kind) }
+        ensures gives { result ≡ Err Missed.Input → HasGivenBytes R.remaining (source_block self.old) (source_block self.new) }
+        ensures lacks { result ≡ Err Missed.Input → IsLackingWord R.remaining (source_block self.old) (source_block self.new) }
         ensures missed { source_missed self.new ≡ source_missed self.old }
         ensures counted { R.faults (source_reader self.new) ≡ failures_after result (R.faults (source_reader self.old)) }
         ensures unasked { HasWord (source_block self.old) → source_reader self.new ≡ source_reader self.old }
-        ensures end { KnowsEnd R.remaining (source_block self.old) → KnowsEnd R.remaining (source_block self.new) }
+        ensures end { IsEndKnown R.remaining (source_block self.old) → IsEndKnown R.remaining (source_block self.new) }
     {
         let mut word = [0; WORD_LIMIT];
         let count = self.read_word(&mut word)?;
@@ -182,7 +182,7 @@ impl<R: FaultyRead> Source<R> {
     #[inline(always)]
     fn pass_number(&mut self, number: BufferedNumber)
         requires { IsBuffered self.old number.gap number.value number.count }
-        ensures read { Reads R.remaining self.old self.new (λ input rest. value_given Integer input ≡ Ok (record { value = Whole (pos number.value); rest = rest })) }
+        ensures read { HasReadInput R.remaining self.old self.new (λ input rest. value_given Integer input ≡ Ok (record { value = Whole (pos number.value); rest = rest })) }
         ensures reader { source_reader self.new ≡ source_reader self.old }
         ensures ended { (source_block self.new).ended ≡ (source_block self.old).ended }
         ensures missed { source_missed self.new ≡ source_missed self.old }
@@ -211,7 +211,7 @@ impl<R: FaultyRead> Source<R> {
     #[inline(always)]
     fn pass_buffered_gap(&mut self, gap: usize)
         requires { IsBeforeWord self.old gap }
-        ensures read { Reads R.remaining self.old self.new (λ input rest. (rest ≡ input) × (is_ended input ≡ Ok false)) }
+        ensures read { HasReadInput R.remaining self.old self.new (λ input rest. (rest ≡ input) × (is_ended input ≡ Ok false)) }
         ensures reader { source_reader self.new ≡ source_reader self.old }
         ensures ended { (source_block self.new).ended ≡ (source_block self.old).ended }
         ensures missed { source_missed self.new ≡ source_missed self.old }
@@ -238,16 +238,16 @@ impl<R: FaultyRead> Source<R> {
     // The next word as a value of a mode; what was missed is remembered.
     fn next_value<V: WordValue>(&mut self) -> Result<V, Missed>
         requires { source_missed self.old ≡ None }
-        ensures read { (value : V) → result ≡ Ok value → Reads R.remaining self.old self.new (λ input rest. value_given V.mode input ≡ if_read (V.values (Some value)) rest) }
-        ensures fault { (kind : FaultSeen) → result ≡ Err (Missed.Fault kind) → Finds R.remaining self.old self.new (λ input. value_given V.mode input ≡ Err kind) }
+        ensures read { (value : V) → result ≡ Ok value → HasReadInput R.remaining self.old self.new (λ input rest. value_given V.mode input ≡ if_read (V.values (Some value)) rest) }
+        ensures fault { (kind : FaultSeen) → result ≡ Err (Missed.Fault kind) → HasFound R.remaining self.old self.new (λ input. value_given V.mode input ≡ Err kind) }
         ensures input { result ≡ Err Missed.Input → HasRisen (R.faults (source_reader self.old)) (R.faults (source_reader self.new)) }
-        ensures lost { result ≡ Err Missed.Input → Finds R.remaining self.old self.new (λ input. Unit {0}) }
-        ensures lacks { result ≡ Err Missed.Input → Lacks R.remaining (source_block self.old) (source_block self.new) }
+        ensures lost { result ≡ Err Missed.Input → HasFound R.remaining self.old self.new (λ input. Unit {0}) }
+        ensures lacks { result ≡ Err Missed.Input → IsLackingWord R.remaining (source_block self.old) (source_block self.new) }
         ensures missed { source_missed self.new ≡ missed_of result }
         ensures counted { R.faults (source_reader self.new) ≡ failures_after result (R.faults (source_reader self.old)) }
         ensures never_falls { HasRisenBy 0 (R.faults (source_reader self.old)) (R.faults (source_reader self.new)) }
         ensures unasked { HasWord (source_block self.old) → source_reader self.new ≡ source_reader self.old }
-        ensures end { KnowsEnd R.remaining (source_block self.old) → KnowsEnd R.remaining (source_block self.new) }
+        ensures end { IsEndKnown R.remaining (source_block self.old) → IsEndKnown R.remaining (source_block self.new) }
     {
         let answer = self.read_value::<V>();
         self.remember(answer)
@@ -261,16 +261,16 @@ impl<R: FaultyRead> Source<R> {
     /// within the buffered bytes. After a `Missed` every call answers the same and reads nothing.
     pub fn integer(&mut self) -> Result<i64, Missed>
         ensures again { (missed : MissedSeen) → source_missed self.old ≡ Some missed → (result ≡ Err missed) × (self.new ≡ self.old) }
-        ensures read { (number : ℤ) → result ≡ Ok number → Reads R.remaining self.old self.new (λ input rest. value_given Integer input ≡ Ok (record { value = Whole number; rest = rest })) }
-        ensures fault { source_missed self.old ≡ None → (kind : FaultSeen) → result ≡ Err (Missed.Fault kind) → Finds R.remaining self.old self.new (λ input. value_given Integer input ≡ Err kind) }
+        ensures read { (number : ℤ) → result ≡ Ok number → HasReadInput R.remaining self.old self.new (λ input rest. value_given Integer input ≡ Ok (record { value = Whole number; rest = rest })) }
+        ensures fault { source_missed self.old ≡ None → (kind : FaultSeen) → result ≡ Err (Missed.Fault kind) → HasFound R.remaining self.old self.new (λ input. value_given Integer input ≡ Err kind) }
         ensures input { source_missed self.old ≡ None → result ≡ Err Missed.Input → HasRisen (R.faults (source_reader self.old)) (R.faults (source_reader self.new)) }
-        ensures lost { source_missed self.old ≡ None → result ≡ Err Missed.Input → Finds R.remaining self.old self.new (λ input. Unit {0}) }
-        ensures lacks { source_missed self.old ≡ None → result ≡ Err Missed.Input → Lacks R.remaining (source_block self.old) (source_block self.new) }
+        ensures lost { source_missed self.old ≡ None → result ≡ Err Missed.Input → HasFound R.remaining self.old self.new (λ input. Unit {0}) }
+        ensures lacks { source_missed self.old ≡ None → result ≡ Err Missed.Input → IsLackingWord R.remaining (source_block self.old) (source_block self.new) }
         ensures missed { source_missed self.old ≡ None → source_missed self.new ≡ missed_of result }
         ensures counted { source_missed self.old ≡ None → R.faults (source_reader self.new) ≡ failures_after result (R.faults (source_reader self.old)) }
         ensures never_falls { HasRisenBy 0 (R.faults (source_reader self.old)) (R.faults (source_reader self.new)) }
         ensures unasked { HasWord (source_block self.old) → source_reader self.new ≡ source_reader self.old }
-        ensures end { KnowsEnd R.remaining (source_block self.old) → KnowsEnd R.remaining (source_block self.new) }
+        ensures end { IsEndKnown R.remaining (source_block self.old) → IsEndKnown R.remaining (source_block self.new) }
     {
         if let Some(missed) = self.missed {
             return Err(missed);
@@ -285,16 +285,16 @@ impl<R: FaultyRead> Source<R> {
     /// The text that the next word is: 1 to 16 bytes from 33 to 126. Its errors are those of `integer`, and it reads as that does.
     pub fn alpha(&mut self) -> Result<Alpha, Missed>
         ensures again { (missed : MissedSeen) → source_missed self.old ≡ Some missed → (result ≡ Err missed) × (self.new ≡ self.old) }
-        ensures read { (text : List ℕ) → result ≡ Ok text → Reads R.remaining self.old self.new (λ input rest. value_given AlphaMode input ≡ Ok (record { value = Text text; rest = rest })) }
-        ensures fault { source_missed self.old ≡ None → (kind : FaultSeen) → result ≡ Err (Missed.Fault kind) → Finds R.remaining self.old self.new (λ input. value_given AlphaMode input ≡ Err kind) }
+        ensures read { (text : List ℕ) → result ≡ Ok text → HasReadInput R.remaining self.old self.new (λ input rest. value_given AlphaMode input ≡ Ok (record { value = Text text; rest = rest })) }
+        ensures fault { source_missed self.old ≡ None → (kind : FaultSeen) → result ≡ Err (Missed.Fault kind) → HasFound R.remaining self.old self.new (λ input. value_given AlphaMode input ≡ Err kind) }
         ensures input { source_missed self.old ≡ None → result ≡ Err Missed.Input → HasRisen (R.faults (source_reader self.old)) (R.faults (source_reader self.new)) }
-        ensures lost { source_missed self.old ≡ None → result ≡ Err Missed.Input → Finds R.remaining self.old self.new (λ input. Unit {0}) }
-        ensures lacks { source_missed self.old ≡ None → result ≡ Err Missed.Input → Lacks R.remaining (source_block self.old) (source_block self.new) }
+        ensures lost { source_missed self.old ≡ None → result ≡ Err Missed.Input → HasFound R.remaining self.old self.new (λ input. Unit {0}) }
+        ensures lacks { source_missed self.old ≡ None → result ≡ Err Missed.Input → IsLackingWord R.remaining (source_block self.old) (source_block self.new) }
         ensures missed { source_missed self.old ≡ None → source_missed self.new ≡ missed_of result }
         ensures counted { source_missed self.old ≡ None → R.faults (source_reader self.new) ≡ failures_after result (R.faults (source_reader self.old)) }
         ensures never_falls { HasRisenBy 0 (R.faults (source_reader self.old)) (R.faults (source_reader self.new)) }
         ensures unasked { HasWord (source_block self.old) → source_reader self.new ≡ source_reader self.old }
-        ensures end { KnowsEnd R.remaining (source_block self.old) → KnowsEnd R.remaining (source_block self.new) }
+        ensures end { IsEndKnown R.remaining (source_block self.old) → IsEndKnown R.remaining (source_block self.new) }
     {
         if let Some(missed) = self.missed {
             return Err(missed);
@@ -304,14 +304,14 @@ impl<R: FaultyRead> Source<R> {
 
     // Whether no word is left.
     fn find_end(&mut self) -> Result<bool, Missed>
-        ensures read { (ended : Bool) → result ≡ Ok ended → Reads R.remaining self.old self.new (λ input rest. (rest ≡ input) × (is_ended input ≡ Ok ended)) }
-        ensures fault { (kind : FaultSeen) → result ≡ Err (Missed.Fault kind) → Finds R.remaining self.old self.new (λ input. is_ended input ≡ Err kind) }
-        ensures gives { result ≡ Err Missed.Input → GivesBytes R.remaining (source_block self.old) (source_block self.new) }
-        ensures wants { result ≡ Err Missed.Input → Wants R.remaining is_separator (source_block self.old) (source_block self.new) }
+        ensures read { (ended : Bool) → result ≡ Ok ended → HasReadInput R.remaining self.old self.new (λ input rest. (rest ≡ input) × (is_ended input ≡ Ok ended)) }
+        ensures fault { (kind : FaultSeen) → result ≡ Err (Missed.Fault kind) → HasFound R.remaining self.old self.new (λ input. is_ended input ≡ Err kind) }
+        ensures gives { result ≡ Err Missed.Input → HasGivenBytes R.remaining (source_block self.old) (source_block self.new) }
+        ensures wants { result ≡ Err Missed.Input → MustAskMore R.remaining is_separator (source_block self.old) (source_block self.new) }
         ensures missed { source_missed self.new ≡ source_missed self.old }
         ensures counted { R.faults (source_reader self.new) ≡ failures_after result (R.faults (source_reader self.old)) }
-        ensures unasked { Suffices is_separator (source_block self.old) → Unasked is_separator (source_block self.old) (source_block self.new) }
-        ensures end { KnowsEnd R.remaining (source_block self.old) → KnowsEnd R.remaining (source_block self.new) }
+        ensures unasked { IsEnough is_separator (source_block self.old) → IsUnasked is_separator (source_block self.old) (source_block self.new) }
+        ensures end { IsEndKnown R.remaining (source_block self.old) → IsEndKnown R.remaining (source_block self.new) }
     {
         self.reach_word()?;
         Ok(self.block.first().is_none())
@@ -326,16 +326,16 @@ impl<R: FaultyRead> Source<R> {
     /// nothing.
     pub fn ended(&mut self) -> Result<bool, Missed>
         ensures again { (missed : MissedSeen) → source_missed self.old ≡ Some missed → (result ≡ Err missed) × (self.new ≡ self.old) }
-        ensures read { (ended : Bool) → result ≡ Ok ended → Reads R.remaining self.old self.new (λ input rest. (rest ≡ input) × (is_ended input ≡ Ok ended)) }
-        ensures fault { source_missed self.old ≡ None → (kind : FaultSeen) → result ≡ Err (Missed.Fault kind) → Finds R.remaining self.old self.new (λ input. is_ended input ≡ Err kind) }
+        ensures read { (ended : Bool) → result ≡ Ok ended → HasReadInput R.remaining self.old self.new (λ input rest. (rest ≡ input) × (is_ended input ≡ Ok ended)) }
+        ensures fault { source_missed self.old ≡ None → (kind : FaultSeen) → result ≡ Err (Missed.Fault kind) → HasFound R.remaining self.old self.new (λ input. is_ended input ≡ Err kind) }
         ensures input { source_missed self.old ≡ None → result ≡ Err Missed.Input → HasRisen (R.faults (source_reader self.old)) (R.faults (source_reader self.new)) }
-        ensures lost { source_missed self.old ≡ None → result ≡ Err Missed.Input → Finds R.remaining self.old self.new (λ input. Unit {0}) }
-        ensures wants { source_missed self.old ≡ None → result ≡ Err Missed.Input → Wants R.remaining is_separator (source_block self.old) (source_block self.new) }
+        ensures lost { source_missed self.old ≡ None → result ≡ Err Missed.Input → HasFound R.remaining self.old self.new (λ input. Unit {0}) }
+        ensures wants { source_missed self.old ≡ None → result ≡ Err Missed.Input → MustAskMore R.remaining is_separator (source_block self.old) (source_block self.new) }
         ensures missed { source_missed self.old ≡ None → source_missed self.new ≡ missed_of result }
         ensures counted { source_missed self.old ≡ None → R.faults (source_reader self.new) ≡ failures_after result (R.faults (source_reader self.old)) }
         ensures never_falls { HasRisenBy 0 (R.faults (source_reader self.old)) (R.faults (source_reader self.new)) }
-        ensures unasked { Suffices is_separator (source_block self.old) → source_reader self.new ≡ source_reader self.old }
-        ensures end { KnowsEnd R.remaining (source_block self.old) → KnowsEnd R.remaining (source_block self.new) }
+        ensures unasked { IsEnough is_separator (source_block self.old) → source_reader self.new ≡ source_reader self.old }
+        ensures end { IsEndKnown R.remaining (source_block self.old) → IsEndKnown R.remaining (source_block self.new) }
     {
         if let Some(missed) = self.missed {
             return Err(missed);

@@ -4,7 +4,7 @@ use Rattle.std.specs.List.{prefix_len, list_all}
 use Rattle.std.proofs.lemmas.Bool.{eqb-true}
 use Rattle.std.proofs.lemmas.List.{append-nil, drop-drop}
 use Rattle.ss_base.specs.Values.{is_text_byte}
-use Rattle.ss_lex.specs.Pieces.{LinePiece, separator, word, comment, open_comment, quoted, open_quoted, single, spelled, is_blank_byte, is_word_part, is_quotable, is_apostrophe, passes_first, opens_comment, is_apart, is_closed, FitsBefore, IsCutInto, piece_meaning}
+use Rattle.ss_lex.specs.Pieces.{LinePiece, separator, word, comment, open_comment, quoted, open_quoted, single, spelled, is_blank_byte, is_word_part, is_quotable, is_apostrophe, passes_first, opens_comment, is_apart, is_closed, IsFitBefore, IsCutInto, piece_meaning}
 use Rattle.ss_lex.specs.declared.meaning.PieceMeaning.TheVariants as meanings
 use Rattle.ss_lex.specs.Reading.{longer, comment_at, quotable_length, quoted_at, run_length, piece_at, cut, pieces}
 
@@ -83,7 +83,7 @@ comment_is (b ∷ bs) = go (opens_comment b bs) refl (comment_is bs)
         rw e (λ i. eqb-true b 39 two.0 i ∷ apostrophe_there bs two.1 i, refl)
     go false e ih = rw e (longer_comment b bs (comment_at bs) e ih)
 
-comment_fits : (bs : List ℕ) (c : LinePiece × List ℕ) → IsComment bs c → (39 ∷ 39 ∷ bs ≡ spelled c.0 ++ c.1) × FitsBefore c.0 c.1
+comment_fits : (bs : List ℕ) (c : LinePiece × List ℕ) → IsComment bs c → (39 ∷ 39 ∷ bs ≡ spelled c.0 ++ c.1) × IsFitBefore c.0 c.1
 comment_fits bs (comment body, rest) (h, k) = (ap (λ l. 39 ∷ 39 ∷ l) (h ∙ sym (append_assoc body (39 ∷ 39 ∷ []) rest)), k)
 comment_fits bs (open_comment body, rest) (h, k, r) = (ap (λ l. 39 ∷ 39 ∷ l) (h ∙ sym (append-nil body) ∙ ap (λ r. body ++ r) (sym r)), (k, r))
 comment_fits bs (separator c, rest) h = absurd h
@@ -137,7 +137,7 @@ quote_there : (bs : List ℕ) → passes_first (λ b. b == 34) bs ≡ true → b
 quote_there [] e = absurd cc
 quote_there (c ∷ bs) e = ap (λ x. x ∷ bs) (eqb-true c 34 e)
 
-quoted_fits : (bs : List ℕ) → (34 ∷ bs ≡ spelled (quoted_at bs).0 ++ (quoted_at bs).1) × FitsBefore (quoted_at bs).0 (quoted_at bs).1
+quoted_fits : (bs : List ℕ) → (34 ∷ bs ≡ spelled (quoted_at bs).0 ++ (quoted_at bs).1) × IsFitBefore (quoted_at bs).0 (quoted_at bs).1
 unfolding quoted_at
 quoted_fits bs =
     elim (which (is_closed bs)) [
@@ -176,7 +176,7 @@ open_again body rest f b bs e =
 
 -- ---- a line
 
-piece_fits : (b : ℕ) (bs : List ℕ) → ((b ∷ bs) ≡ spelled (piece_at b bs).0 ++ (piece_at b bs).1) × FitsBefore (piece_at b bs).0 (piece_at b bs).1
+piece_fits : (b : ℕ) (bs : List ℕ) → ((b ∷ bs) ≡ spelled (piece_at b bs).0 ++ (piece_at b bs).1) × IsFitBefore (piece_at b bs).0 (piece_at b bs).1
 unfolding piece_at
 piece_fits b bs =
     elim (which (is_blank_byte b)) [
@@ -200,7 +200,7 @@ piece_fits b bs =
     ]
 
 -- a piece takes a byte at least
-spelled_some : (p : LinePiece) (rest : List ℕ) → FitsBefore p rest → 0 < length (spelled p)
+spelled_some : (p : LinePiece) (rest : List ℕ) → IsFitBefore p rest → 0 < length (spelled p)
 spelled_some (separator b) rest f = omega arith
 spelled_some (word w) rest f = f.0
 spelled_some (comment body) rest f = omega arith
@@ -238,7 +238,7 @@ word_no_separator b w = go (is_blank_byte b) refl
               ]
         ]
 
-piece_again : (p : LinePiece) (rest : List ℕ) → FitsBefore p rest → (b : ℕ) (bs : List ℕ) → b ∷ bs ≡ spelled p ++ rest → piece_at b bs ≡ (p, rest)
+piece_again : (p : LinePiece) (rest : List ℕ) → IsFitBefore p rest → (b : ℕ) (bs : List ℕ) → b ∷ bs ≡ spelled p ++ rest → piece_at b bs ≡ (p, rest)
 unfolding piece_at
 piece_again (separator c) rest f b bs e =
     let h = split b c bs rest e in

@@ -67,19 +67,19 @@ is_closed [] = false
 is_closed (b ∷ bs) = b == 34 || (is_text_byte b && is_closed bs)
 
 -- the piece is right where this follows it on its line
-abbrev pub FitsBefore : LinePiece → List ℕ → Type 0
-FitsBefore (separator b) rest = is_blank_byte b ≡ true
-FitsBefore (word w) rest = (0 < length w) × (list_all is_word_part w ≡ true) × (passes_first is_word_part rest ≡ false)
-FitsBefore (comment body) rest = is_apart (body ++ 39 ∷ []) ≡ true
-FitsBefore (open_comment body) rest = (is_apart body ≡ true) × (rest ≡ [])
-FitsBefore (quoted body) rest = list_all is_quotable body ≡ true
-FitsBefore (open_quoted body) rest = (is_closed body ≡ false) × (rest ≡ [])
-FitsBefore (single b) rest = (is_blank_byte b ≡ false) × (is_word_part b ≡ false) × ((b == 34) ≡ false) × (opens_comment b rest ≡ false)
+abbrev pub IsFitBefore : LinePiece → List ℕ → Type 0
+IsFitBefore (separator b) rest = is_blank_byte b ≡ true
+IsFitBefore (word w) rest = (0 < length w) × (list_all is_word_part w ≡ true) × (passes_first is_word_part rest ≡ false)
+IsFitBefore (comment body) rest = is_apart (body ++ 39 ∷ []) ≡ true
+IsFitBefore (open_comment body) rest = (is_apart body ≡ true) × (rest ≡ [])
+IsFitBefore (quoted body) rest = list_all is_quotable body ≡ true
+IsFitBefore (open_quoted body) rest = (is_closed body ≡ false) × (rest ≡ [])
+IsFitBefore (single b) rest = (is_blank_byte b ≡ false) × (is_word_part b ≡ false) × ((b == 34) ≡ false) × (opens_comment b rest ≡ false)
 
 -- the line is these pieces, one after the other
 abbrev pub IsCutInto : List LinePiece → List ℕ → Type 0
 IsCutInto [] line = line ≡ []
-IsCutInto (p ∷ ps) line = (rest : List ℕ) × (line ≡ spelled p ++ rest) × FitsBefore p rest × IsCutInto ps rest
+IsCutInto (p ∷ ps) line = (rest : List ℕ) × (line ≡ spelled p ++ rest) × IsFitBefore p rest × IsCutInto ps rest
 
 -- the token that a character is
 abbrev pub symbol_of : ℕ → Symbol

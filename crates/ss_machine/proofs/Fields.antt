@@ -7,7 +7,7 @@ use Rattle.ss_picture.specs.declared.field.Field.{Field}
 use Rattle.ss_picture.specs.declared.items.Item.{Item}
 use Rattle.ss_picture.specs.declared.items.Item.TheVariants.{Is, Mean}
 use Rattle.ss_picture.specs.Pictures.{picture_fields}
-use Rattle.ss_picture.specs.Suited.{SuitsField, EachSuits}
+use Rattle.ss_picture.specs.Suited.{IsSuitedItem, AreSuitedItems}
 use Rattle.ss_meaning.specs.Values.{takes, take_all}
 use Rattle.ss_machine.specs.Shown.{IsPrintable}
 
@@ -26,34 +26,34 @@ then_true : (a b : Bool) → (a && b) ≡ true → b ≡ true
 then_true true b e = e
 then_true false b e = absurd cc
 
-suits : (f : Field) (x : Item) → takes f x ≡ true → IsPrintable x → SuitsField f.decimals x
+suits : (f : Field) (x : Item) → takes f x ≡ true → IsPrintable x → IsSuitedItem f.decimals x
 suits f (Is v) t p = eqb-true f.decimals 0 t
 suits f (Mean sum number) t p = (leb-true f.decimals 9 t, p)
 
-pub each_suits : (fields : List Field) (items : List Item) → take_all fields items ≡ true → AllByRecursion IsPrintable items → EachSuits fields items
+pub each_suits : (fields : List Field) (items : List Item) → take_all fields items ≡ true → AllByRecursion IsPrintable items → AreSuitedItems fields items
 each_suits [] [] t p = tt
 each_suits [] (x ∷ xs) t p = tt
 each_suits (f ∷ fields) [] t p = tt
 each_suits (f ∷ fields) (x ∷ xs) t p = (suits f x (first_true (takes f x) (take_all fields xs) t) p.0, each_suits fields xs (then_true (takes f x) (take_all fields xs) t) p.1)
 
 -- those of the first fields, and those after them
-suits_front : (fields more : List Field) (items : List Item) → EachSuits (fields ++ more) items → EachSuits fields (take (length fields) items)
+suits_front : (fields more : List Field) (items : List Item) → AreSuitedItems (fields ++ more) items → AreSuitedItems fields (take (length fields) items)
 suits_front [] more items h = tt
 suits_front (f ∷ fields) more [] h = tt
 suits_front (f ∷ fields) more (x ∷ xs) h = (h.0, suits_front fields more xs h.1)
 
-suits_back : (fields more : List Field) (items : List Item) → EachSuits (fields ++ more) items → EachSuits more (drop (length fields) items)
+suits_back : (fields more : List Field) (items : List Item) → AreSuitedItems (fields ++ more) items → AreSuitedItems more (drop (length fields) items)
 suits_back [] more items h = h
 suits_back (f ∷ fields) more [] h = tt
 suits_back (f ∷ fields) more (x ∷ xs) h = suits_back fields more xs h.1
 
-module _ (ps : List (List ℕ)) (i : ℕ) (p : List ℕ) (xs : List Item) (count : ℕ) (lt : i < length ps) (is : p ≡ get_or ps i p) (e : count ≡ min (length (picture_fields p)) (length xs)) (h : EachSuits (flat_map picture_fields (drop i ps)) xs) where
-  parted : EachSuits (picture_fields p ++ flat_map picture_fields (drop (i + 1) ps)) xs
-  parted = subst (λ fs. EachSuits fs xs) (one_picture ps i p lt is) h
+module _ (ps : List (List ℕ)) (i : ℕ) (p : List ℕ) (xs : List Item) (count : ℕ) (lt : i < length ps) (is : p ≡ get_or ps i p) (e : count ≡ min (length (picture_fields p)) (length xs)) (h : AreSuitedItems (flat_map picture_fields (drop i ps)) xs) where
+  parted : AreSuitedItems (picture_fields p ++ flat_map picture_fields (drop (i + 1) ps)) xs
+  parted = subst (λ fs. AreSuitedItems fs xs) (one_picture ps i p lt is) h
 
   -- the items of the next picture, and those of the others
-  pub now_suits : EachSuits (picture_fields p) (take count xs)
-  now_suits = subst (EachSuits (picture_fields p)) (sym (ap (λ k. take k xs) e ∙ take_min (length (picture_fields p)) xs)) (suits_front (picture_fields p) (flat_map picture_fields (drop (i + 1) ps)) xs parted)
+  pub now_suits : AreSuitedItems (picture_fields p) (take count xs)
+  now_suits = subst (AreSuitedItems (picture_fields p)) (sym (ap (λ k. take k xs) e ∙ take_min (length (picture_fields p)) xs)) (suits_front (picture_fields p) (flat_map picture_fields (drop (i + 1) ps)) xs parted)
 
-  pub later_suits : EachSuits (flat_map picture_fields (drop (i + 1) ps)) (drop count xs)
-  later_suits = subst (EachSuits (flat_map picture_fields (drop (i + 1) ps))) (sym (ap (λ k. drop k xs) e ∙ drop_min (length (picture_fields p)) xs)) (suits_back (picture_fields p) (flat_map picture_fields (drop (i + 1) ps)) xs parted)
+  pub later_suits : AreSuitedItems (flat_map picture_fields (drop (i + 1) ps)) (drop count xs)
+  later_suits = subst (AreSuitedItems (flat_map picture_fields (drop (i + 1) ps))) (sym (ap (λ k. drop k xs) e ∙ drop_min (length (picture_fields p)) xs)) (suits_back (picture_fields p) (flat_map picture_fields (drop (i + 1) ps)) xs parted)

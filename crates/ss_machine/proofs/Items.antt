@@ -11,14 +11,14 @@ use Rattle.ss_picture.specs.declared.items.Item.TheVariants.{Is, Mean}
 use Rattle.ss_meaning.specs.Values.{Failure, Fails, TypeError, due}
 use Rattle.ss_meaning.specs.Store.{Store}
 use Rattle.ss_meaning.specs.Statistics.{mean}
-use Rattle.ss_meaning.specs.Fitting.{Hold}
+use Rattle.ss_meaning.specs.Fitting.{AreOfModes}
 use Rattle.ss_code_instructions.specs.declared.item.ItemKind.{ItemKind}
 use Rattle.ss_code_instructions.specs.declared.item.ItemKind.TheVariants as shows
 use Rattle.ss_code_instructions.specs.Machine.{item_before, mean_item, values_shown}
 use Rattle.ss_code_instructions.specs.Carried.{item_modes, kind_of_item}
 use Rattle.ss_machine_world.specs.Seen.{Seen, with_seen, IsRight}
 use Rattle.ss_machine_frames.specs.Rows.{TwoRows}
-use Rattle.ss_machine_frames.specs.Holding.{AllAt}
+use Rattle.ss_machine_frames.specs.Holding.{AreValuesAt}
 use Rattle.ss_machine.specs.Shown.{IsPrintable, AreShown, IsShown, CanShow, CanShowOne, cells_of}
 
 -- ## One item
@@ -62,7 +62,7 @@ module _ (e : Seen) (r : TwoRows) (at : ℕ) where
   mean_first j item h s ks vs given lie modes shown =
       let b = before_item item (mean_item (mean j None (with_seen s e))) (values_shown (map kind_of_item ks) vs (with_seen s e)) given (h s) shown in
       let n : at ≡ at + 0 = omega arith in
-      record { later = b.later; rest = vs; is = b.is; lie = subst (λ k. AllAt r k vs) n lie; modes = modes; shown = b.there }
+      record { later = b.later; rest = vs; is = b.is; lie = subst (λ k. AreValuesAt r k vs) n lie; modes = modes; shown = b.there }
 
   pub mean_of_first : (j : ℕ) (n : ℤ) (item : Item) → slice_get r.numbers at ≡ Some n → ((s : Store) (x : Item) → mean_item (mean j (Some (Whole n)) (with_seen s e)) ≡ Some x → x ≡ item) → IsShown e r at (shows.MeanOf j) item
   mean_of_first j n item has h s ks [] given lie modes shown = absurd cc
@@ -104,13 +104,13 @@ pub record ShownSoFar (e : Seen) (r : TwoRows) (at : ℕ) (ks : List ItemKind) (
   pub later : List Item
   pub rest : List Value
   pub is : given ≡ xs ++ later
-  pub lie : AllAt r at rest
-  pub modes : Hold rest (item_modes ks)
+  pub lie : AreValuesAt r at rest
+  pub modes : AreOfModes rest (item_modes ks)
   pub shown : values_shown (map kind_of_item ks) rest (with_seen s e) ≡ Some later
 
 abbrev pub AreSoFar : Seen → TwoRows → (from at : ℕ) → (all ks : List ItemKind) → List Item → Type 0
 AreSoFar e r from at all ks xs =
-    (s : Store) (vs : List Value) (given : List Item) → AllAt r from vs → Hold vs (item_modes all) →
+    (s : Store) (vs : List Value) (given : List Item) → AreValuesAt r from vs → AreOfModes vs (item_modes all) →
     values_shown (map kind_of_item all) vs (with_seen s e) ≡ Some given → ShownSoFar e r at ks xs s given
 
 module _ (e : Seen) (r : TwoRows) (from : ℕ) (all : List ItemKind) where
@@ -136,7 +136,7 @@ module _ (e : Seen) (r : TwoRows) (from : ℕ) (all : List ItemKind) where
     more : (xs : List Item) (item : Item) → AreSoFar e r from at all (drop i all) xs → IsShown e r at kind item → AreSoFar e r from (at + cells_of kind) all (drop (i + 1) all) (xs ++ item ∷ [])
     more xs item h first s vs given lie modes shown =
         let f = h s vs given lie modes shown in
-        let ms : Hold f.rest (item_modes (kind ∷ drop (i + 1) all)) = subst (λ ks. Hold f.rest (item_modes ks)) left f.modes in
+        let ms : AreOfModes f.rest (item_modes (kind ∷ drop (i + 1) all)) = subst (λ ks. AreOfModes f.rest (item_modes ks)) left f.modes in
         let sh : values_shown (map kind_of_item (kind ∷ drop (i + 1) all)) f.rest (with_seen s e) ≡ Some f.later = subst (λ ks. values_shown (map kind_of_item ks) f.rest (with_seen s e) ≡ Some f.later) left f.shown in
         let n = first s (drop (i + 1) all) f.rest f.later f.lie ms sh in
         record {

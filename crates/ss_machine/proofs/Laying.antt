@@ -7,8 +7,8 @@ use Rattle.ss_base.specs.declared.value.Value.{Value}
 use Rattle.ss_base.specs.declared.value.Value.TheVariants.{Whole, Text}
 use Rattle.ss_base.specs.Layout.{first_value}
 use Rattle.ss_meaning.specs.Store.{first_values}
-use Rattle.ss_machine_frames.specs.Rows.{TwoRows, ValueAt, Agree, with_last}
-use Rattle.ss_machine_frames.specs.Holding.{AllAt}
+use Rattle.ss_machine_frames.specs.Rows.{TwoRows, IsValueAt, AreAlike, with_last}
+use Rattle.ss_machine_frames.specs.Holding.{AreValuesAt}
 use Rattle.ss_machine_frames.proofs.Places.{agree_on, agree_same, agree_within, value_agrees}
 use Rattle.ss_machine.specs.Beginning.{values_laid, firsts_laid}
 
@@ -55,16 +55,16 @@ seam : {A : Type 0} (xs : List A) (x : A) → slice_get (xs ++ x ∷ []) (length
 seam [] x = refl
 seam (y ∷ xs) x = seam xs x
 
-last_agrees : (r : TwoRows) (v : Value) → length r.texts ≡ length r.numbers → Agree r (with_last r v) 0 (length r.numbers)
+last_agrees : (r : TwoRows) (v : Value) → length r.texts ≡ length r.numbers → AreAlike r (with_last r v) 0 (length r.numbers)
 last_agrees r (Whole z) e = record { numbers = λ j a b. front_get r.numbers _ j b; texts = λ j a b. front_get r.texts _ j (omega (arith, b, e)) }
 last_agrees r (Text t) e = record { numbers = λ j a b. front_get r.numbers _ j b; texts = λ j a b. front_get r.texts _ j (omega (arith, b, e)) }
 
-last_at : (r : TwoRows) (v : Value) → length r.texts ≡ length r.numbers → ValueAt (with_last r v) (length r.numbers) v
+last_at : (r : TwoRows) (v : Value) → length r.texts ≡ length r.numbers → IsValueAt (with_last r v) (length r.numbers) v
 last_at r (Whole z) e = seam r.numbers z
 last_at r (Text t) e = subst (λ n. slice_get (r.texts ++ t ∷ []) n ≡ Some t) e (seam r.texts t)
 
 -- what lay there lies there still
-pub laid_agrees : (r : TwoRows) (vs : List Value) → length r.texts ≡ length r.numbers → Agree r (values_laid r vs) 0 (length r.numbers)
+pub laid_agrees : (r : TwoRows) (vs : List Value) → length r.texts ≡ length r.numbers → AreAlike r (values_laid r vs) 0 (length r.numbers)
 laid_agrees r [] e = agree_same r 0 (length r.numbers)
 laid_agrees r (v ∷ vs) e =
     let s = with_last r v in
@@ -72,12 +72,12 @@ laid_agrees r (v ∷ vs) e =
     (agree_within s (values_laid s vs) 0 (length s.numbers) 0 (length r.numbers) (omega arith) (omega (arith, last_long r v)) (laid_agrees s vs (last_even r v e)))
 
 -- and then the values lie
-pub laid_at : (r : TwoRows) (vs : List Value) → length r.texts ≡ length r.numbers → AllAt (values_laid r vs) (length r.numbers) vs
+pub laid_at : (r : TwoRows) (vs : List Value) → length r.texts ≡ length r.numbers → AreValuesAt (values_laid r vs) (length r.numbers) vs
 laid_at r [] e = tt
 laid_at r (v ∷ vs) e =
     let s = with_last r v in (
       value_agrees s (values_laid s vs) (length r.numbers) 0 (length s.numbers) v (omega arith) (omega (arith, last_long r v)) (laid_agrees s vs (last_even r v e)) (last_at r v e),
-      subst (λ n. AllAt (values_laid s vs) n vs) (last_long r v) (laid_at s vs (last_even r v e)),
+      subst (λ n. AreValuesAt (values_laid s vs) n vs) (last_long r v) (laid_at s vs (last_even r v e)),
     )
 
 pub firsts_long : (ms : List Mode) → length (first_values ms) ≡ length ms

@@ -5,7 +5,7 @@ use Rattle.ss_code_instructions.specs.declared.instruction.Instruction.{Instruct
 use Rattle.ss_code_instructions.specs.declared.instruction.Instruction.TheVariants as r
 use Rattle.ss_code_instructions.specs.Instructions.{Instruction, Placed}
 use Rattle.ss_code_instructions.specs.Machine.{Code, is_due}
-use Rattle.ss_code_instructions.specs.Carried.{Carries}
+use Rattle.ss_code_instructions.specs.Carried.{IsCarriedOut}
 use Rattle.ss_machine.specs.Counts.{takes_tick, reads, writes}
 use Rattle.ss_machine.specs.Runs.{does_read, does_write}
 
@@ -18,7 +18,7 @@ module _ (code : Code) (constants : List Value) (x : Placed) where
   like : (y : Instruction) (i : Running) → x.instruction ≡ y → is_due y ≡ takes_tick i → does_read y ≡ reads i → does_write y ≡ writes i → IsLike x.instruction i
   like y i e due reading writing = record { due = ap is_due e ∙ due; reading = ap does_read e ∙ reading; writing = ap does_write e ∙ writing }
 
-  pub is_like : (i : Running) → Carries code constants x i → IsLike x.instruction i
+  pub is_like : (i : Running) → IsCarriedOut code constants x i → IsLike x.instruction i
   is_like (r.Move from to) z = like _ (r.Move from to) z.2.1.2 refl refl refl
   is_like (r.MoveText from to) z = like _ (r.MoveText from to) z.2.1.2 refl refl refl
   is_like (r.Keep from variable) z = like _ (r.Keep from variable) z.2 refl refl refl

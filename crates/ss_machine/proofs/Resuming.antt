@@ -8,14 +8,14 @@ use Rattle.ss_machine_instructions.specs.declared.state.State.{State}
 use Rattle.ss_machine_instructions.specs.Doing.{Compiled}
 use Rattle.ss_machine.specs.declared.stop.Stop.{Stop}
 use Rattle.ss_machine.specs.declared.stop.Stop.TheVariants.{Ended, Fault, Paused, Memory, Output, Input, Failed}
-use Rattle.ss_machine.specs.Situations.{Situation, situated, Represents, IsSituated}
-use Rattle.ss_machine.specs.Runs.{Comes, IsFinished, Ran}
+use Rattle.ss_machine.specs.Situations.{Situation, situated, IsRepresented, IsSituated}
+use Rattle.ss_machine.specs.Runs.{HasCome, IsFinished, IsRunResult}
 use Rattle.ss_meaning.specs.Meaning as endings
 use Rattle.ss_machine.proofs.Inputs.{reads_so, finds_so}
 
 -- ## Ticks are handed out
 
-pub stands_ticked : (w : Compiled) (c : Core) (here : Here) (s : State) (t : ℕ) → Represents w c (situated here s) → Represents w c (situated here (record s { ticks = t }))
+pub stands_ticked : (w : Compiled) (c : Core) (here : Here) (s : State) (t : ℕ) → IsRepresented w c (situated here s) → IsRepresented w c (situated here (record s { ticks = t }))
 stands_ticked w c here s t h = record {
   reached = h.reached;
   holds = record { place = h.holds.place; held = h.holds.held; world = h.holds.world; even = h.holds.even; line = h.holds.line };
@@ -25,8 +25,8 @@ pub situated_ticked : (code : Generated) (here : Here) (s : State) (t : ℕ) →
 situated_ticked code here s t z = (z.0, z.1, (z.2.0, stands_ticked z.0 z.2.0 here s t z.2.1))
 
 -- what is so of a situation is so of one that holds no other states
-module _ {R : Type 0} (remaining : R → Option (List ℕ)) (code : Generated) (old old' new : Situation) (source last : Source R) (before after : Option (List ℕ)) (taken made : ℕ) (from : (w : Compiled) (c : Core) → Represents w c old → Represents w c old') where
-  comes_from : Comes remaining code old' new source last before after taken made → Comes remaining code old new source last before after taken made
+module _ {R : Type 0} (remaining : R → Option (List ℕ)) (code : Generated) (old old' new : Situation) (source last : Source R) (before after : Option (List ℕ)) (taken made : ℕ) (from : (w : Compiled) (c : Core) → IsRepresented w c old → IsRepresented w c old') where
+  comes_from : HasCome remaining code old' new source last before after taken made → HasCome remaining code old new source last before after taken made
   comes_from h = record {
     bytes = h.bytes;
     took = h.took;
@@ -40,7 +40,7 @@ module _ {R : Type 0} (remaining : R → Option (List ℕ)) (code : Generated) (
     says = finds_so remaining source last _ _ (λ input g w of c e st. g w of c e (from w c st)) h.says;
   }
 
-  pub ran_from : (stop : Stop) → Ran remaining stop code old' new source last before after taken made → Ran remaining stop code old new source last before after taken made
+  pub ran_from : (stop : Stop) → IsRunResult remaining stop code old' new source last before after taken made → IsRunResult remaining stop code old new source last before after taken made
   ran_from Ended h = finished_from endings.Ended h
   ran_from (Fault kind line) h = finished_from (endings.Fault kind line) h
   ran_from Paused h = (comes_from h.0, h.1)
@@ -50,7 +50,7 @@ module _ {R : Type 0} (remaining : R → Option (List ℕ)) (code : Generated) (
   ran_from Failed h = absurd h
 
 -- no run is ever stuck
-pub never : {R : Type 0} (remaining : R → Option (List ℕ)) (stop : Stop) (code : Generated) (old new : Situation) (source last : Source R) (before after : Option (List ℕ)) (taken made : ℕ) → Ran remaining stop code old new source last before after taken made → stop ≡ Failed → ⊥
+pub never : {R : Type 0} (remaining : R → Option (List ℕ)) (stop : Stop) (code : Generated) (old new : Situation) (source last : Source R) (before after : Option (List ℕ)) (taken made : ℕ) → IsRunResult remaining stop code old new source last before after taken made → stop ≡ Failed → ⊥
 never remaining Failed code old new source last before after taken made h e = h
 never remaining Ended code old new source last before after taken made h e = cc
 never remaining (Fault kind line) code old new source last before after taken made h e = cc

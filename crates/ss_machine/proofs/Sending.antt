@@ -12,18 +12,18 @@ use Rattle.ss_machine_frames.specs.Rows.{TwoRows}
 use Rattle.ss_machine_instructions.specs.declared.flow.Ending.{Ending}
 use Rattle.ss_machine_instructions.specs.declared.flow.Here.{Here}
 use Rattle.ss_machine_instructions.specs.declared.state.State.{State}
-use Rattle.ss_machine_instructions.specs.Doing.{Compiled, Ready}
-use Rattle.ss_machine.specs.Sent.{TookPart}
-use Rattle.ss_machine.specs.Shown.{AreShown, SentAll, SentPart}
-use Rattle.ss_machine.specs.Writing.{Sending, Wrote, WrotePart}
+use Rattle.ss_machine_instructions.specs.Doing.{Compiled, IsReadyFor}
+use Rattle.ss_machine.specs.Sent.{HasTakenPart}
+use Rattle.ss_machine.specs.Shown.{AreShown, HasSentAll, HasSentPart}
+use Rattle.ss_machine.specs.Writing.{IsSending, HasWrittenAll, HasWrittenPart}
 use Rattle.ss_machine.proofs.Written.{sends_shown, goes_on}
 
 module _ (e : Seen) (rows : TwoRows) (at : ℕ) (l : RunningLines) (items : List Item) (shown : AreShown e rows at l.items items) (before after : Option (List ℕ)) where
-  pub sent_all : (answer : Result (Unit {0}) Ending) (bytes : List ℕ) → bytes ≡ lines_with l.pictures items → OnOk answer (Appends before after bytes) → OnOk answer (SentAll e rows at l before after)
+  pub sent_all : (answer : Result (Unit {0}) Ending) (bytes : List ℕ) → bytes ≡ lines_with l.pictures items → OnOk answer (Appends before after bytes) → OnOk answer (HasSentAll e rows at l before after)
   sent_all (Ok u) bytes q h = record { items = items; shown = shown; took = subst (Appends before after) q h }
   sent_all (Err k) bytes q h = h
 
-  pub sent_part : (answer : Result (Unit {0}) Ending) (bytes : List ℕ) → bytes ≡ lines_with l.pictures items → OnErr answer (TookPart before after bytes) → OnErr answer (SentPart e rows at l before after)
+  pub sent_part : (answer : Result (Unit {0}) Ending) (bytes : List ℕ) → bytes ≡ lines_with l.pictures items → OnErr answer (HasTakenPart before after bytes) → OnErr answer (HasSentPart e rows at l before after)
   sent_part (Ok u) bytes q h = h
   sent_part (Err k) bytes q h = record { part = h.part; took = h.took; within = inr (items, h.rest, shown, sym q ∙ h.whole) }
 
@@ -32,17 +32,17 @@ module _ (here : Here) (s : State) (number cell : ℕ) (l : RunningLines) (befor
   abbrev pub Hands : Compiled → Type 0
   Hands w = slice_get w.run.prints number ≡ Some l
 
-  pub all_sent : SentAll s.world s.rows (here.frame + cell) l before after → Wrote Hands here s (r.Print number cell) before after s (record { place = here.place + 1; frame = here.frame })
+  pub all_sent : HasSentAll s.world s.rows (here.frame + cell) l before after → HasWrittenAll Hands here s (r.Print number cell) before after s (record { place = here.place + 1; frame = here.frame })
   all_sent h = record {
     bytes = lines_with l.pictures h.items;
     took = h.took;
     goes = λ w c there ready. goes_on w c here s number cell ready l there h.items h.shown;
   }
 
-  pub part_sent : SentPart s.world s.rows (here.frame + cell) l before after → WrotePart Hands here s (r.Print number cell) before after
+  pub part_sent : HasSentPart s.world s.rows (here.frame + cell) l before after → HasWrittenPart Hands here s (r.Print number cell) before after
   part_sent h = record { part = h.part; took = h.took; within = by h.within }
     where
       by : (h.part ≡ []) ⊎ ((items : List Item) × (rest : List ℕ) × AreShown s.world s.rows (here.frame + cell) l.items items × (lines_with l.pictures items ≡ h.part ++ rest))
-          → (h.part ≡ []) ⊎ ((w : Compiled) (c : Core) → Hands w → (ready : Ready w c here s (r.Print number cell)) → (rest : List ℕ) × Sending here s (r.Print number cell) w c ready (h.part ++ rest))
+          → (h.part ≡ []) ⊎ ((w : Compiled) (c : Core) → Hands w → (ready : IsReadyFor w c here s (r.Print number cell)) → (rest : List ℕ) × IsSending here s (r.Print number cell) w c ready (h.part ++ rest))
       by (inl none) = inl none
-      by (inr x) = inr (λ w c there ready. (x.1, subst (Sending here s (r.Print number cell) w c ready) x.3 (sends_shown w c here s number cell ready l there x.0 x.2)))
+      by (inr x) = inr (λ w c there ready. (x.1, subst (IsSending here s (r.Print number cell) w c ready) x.3 (sends_shown w c here s number cell ready l there x.0 x.2)))

@@ -21,8 +21,8 @@ use Rattle.ss_program.specs.declared.sections.Statistic.{Statistic}
 use Rattle.ss_meaning.specs.Store.{Notices}
 use Rattle.ss_world.specs.declared.ties.TieShape.{TieShape}
 use Rattle.std.specs.declared.alloc.AllocError.{AllocError}
-use Rattle.ss_machine_frames.specs.Rows.{TwoRows, Agree, Grown, with_value, cleared}
-use Rattle.ss_machine_frames.specs.Holding.{AllAt, CallsAt}
+use Rattle.ss_machine_frames.specs.Rows.{TwoRows, AreAlike, AreGrown, with_value, cleared}
+use Rattle.ss_machine_frames.specs.Holding.{AreValuesAt, AreCallsAt}
 use Rattle.ss_machine_frames.proofs.Entering.{cleared_all, cleared_below, cleared_long, value_texts}
 use Rattle.ss_machine_frames.proofs.Places.{agree_on, agree_within, all_agree}
 use Rattle.ss_machine_instructions.specs.declared.state.State.{State}
@@ -54,29 +54,29 @@ module _ (code : Generated) (rows : TwoRows) (h : IsLaidOut code rows) where
   all_long = omega (arith, laid_long variables code.run.constants, variables_long)
 
   -- what was laid lies there still
-  stays : Agree all rows 0 from
+  stays : AreAlike all rows 0 from
   stays =
-      let up = subst (λ n. Agree all h.grown 0 n) all_long h.grows.same in
+      let up = subst (λ n. AreAlike all h.grown 0 n) all_long h.grows.same in
       let down = cleared_below h.grown from code.run.main.others.items in
-      subst (λ r. Agree all r 0 from) (sym h.is) (agree_on all h.grown (cleared h.grown from code.run.main.others.items) 0 from up down)
+      subst (λ r. AreAlike all r 0 from) (sym h.is) (agree_on all h.grown (cleared h.grown from code.run.main.others.items) 0 from up down)
 
-  pub globals_lie : AllAt rows 0 (first_values code.globals)
+  pub globals_lie : AreValuesAt rows 0 (first_values code.globals)
   globals_lie =
       let vs = first_values code.globals in
       let long = firsts_long code.globals in
       let first = laid_at none_laid vs refl in
-      let up = subst (λ n. Agree variables all 0 n) variables_long (laid_agrees variables code.run.constants variables_even) in
+      let up = subst (λ n. AreAlike variables all 0 n) variables_long (laid_agrees variables code.run.constants variables_even) in
       let mid = all_agree variables all 0 vs (agree_within variables all 0 (length code.globals) 0 (0 + length vs) (omega arith) (omega (arith, long)) up) first in
       all_agree all rows 0 vs (agree_within all rows 0 from 0 (0 + length vs) (omega arith) (omega (arith, long)) stays) mid
 
-  pub constants_lie : AllAt rows (length code.globals) code.run.constants
+  pub constants_lie : AreValuesAt rows (length code.globals) code.run.constants
   constants_lie =
       let vs = code.run.constants in
-      let first = subst (λ n. AllAt all n vs) variables_long (laid_at variables vs variables_even) in
+      let first = subst (λ n. AreValuesAt all n vs) variables_long (laid_at variables vs variables_even) in
       all_agree all rows (length code.globals) vs (agree_within all rows 0 from (length code.globals) (length code.globals + length vs) (omega arith) (omega arith) stays) first
 
-  pub locals_lie : from + length code.run.main.others.items ≤ length h.grown.numbers → AllAt rows from (first_values code.run.main.others.items)
-  locals_lie room = subst (λ r. AllAt r from (first_values code.run.main.others.items)) (sym h.is) (cleared_all h.grown from code.run.main.others.items h.even room)
+  pub locals_lie : from + length code.run.main.others.items ≤ length h.grown.numbers → AreValuesAt rows from (first_values code.run.main.others.items)
+  locals_lie room = subst (λ r. AreValuesAt r from (first_values code.run.main.others.items)) (sym h.is) (cleared_all h.grown from code.run.main.others.items h.even room)
 
   pub rows_long : length rows.numbers ≡ length h.grown.numbers
   rows_long = ap (λ (r : TwoRows). length r.numbers) h.is ∙ cleared_long h.grown from code.run.main.others.items
@@ -124,18 +124,18 @@ at_start code s first w of input =
     let from = length code.globals + length code.run.constants in
     let low : length (first_values w.code.globals) ≡ length code.globals = omega (arith, firsts, wide) in
     let room : from + length w.code.locals + w.run.depth ≤ length h.grown.numbers = omega (arith, h.room, main.room, given) in
-    let locals = subst (λ ms. AllAt s.rows from (first_values ms)) main.others (locals_lie code s.rows h (omega (arith, room, others))) in
+    let locals = subst (λ ms. AreValuesAt s.rows from (first_values ms)) main.others (locals_lie code s.rows h (omega (arith, room, others))) in
     let long = rows_long code s.rows h in
     record {
       reached = (0, (input, refl));
       holds = record {
         place = main.place;
         held = record {
-          globals = subst (λ ms. AllAt s.rows 0 (first_values ms)) globals (globals_lie code s.rows h);
-          fixed = subst (λ n. AllAt s.rows n w.run.constants) (sym low) (subst (λ vs. AllAt s.rows (length code.globals) vs) (sym constants) (constants_lie code s.rows h));
+          globals = subst (λ ms. AreValuesAt s.rows 0 (first_values ms)) globals (globals_lie code s.rows h);
+          fixed = subst (λ n. AreValuesAt s.rows n w.run.constants) (sym low) (subst (λ vs. AreValuesAt s.rows (length code.globals) vs) (sym constants) (constants_lie code s.rows h));
           locals = locals;
           cells = tt;
-          open_calls = subst (λ gs. CallsAt s.rows (length (first_values w.code.globals) + length w.run.constants) from gs []) (sym first.frames) (omega (arith, low, many));
+          open_calls = subst (λ gs. AreCallsAt s.rows (length (first_values w.code.globals) + length w.run.constants) from gs []) (sym first.frames) (omega (arith, low, many));
           room = omega (arith, room, size, long);
           small = omega (arith, h.small, long);
         };
@@ -170,14 +170,14 @@ world_made code layout disciplines notices shapes statistics (Ok world) l d n t 
 world_made code layout disciplines notices shapes statistics (Err e) l d n t s is histories = is
 
 -- rows as they are laid
-pub laid : (code : Generated) (all grown rows : TwoRows) → all ≡ values_laid (firsts_laid none_laid code.globals) code.run.constants → Grown all grown → length grown.texts ≡ length grown.numbers
+pub laid : (code : Generated) (all grown rows : TwoRows) → all ≡ values_laid (firsts_laid none_laid code.globals) code.run.constants → AreGrown all grown → length grown.texts ≡ length grown.numbers
     → length all.numbers + code.run.main.room ≤ length grown.numbers → length grown.numbers < 2 ^ 63 → rows ≡ cleared grown (length all.numbers) code.run.main.others.items → IsLaidOut code rows
 laid code all grown rows is grows even room small made =
     let first : length (firsts_laid none_laid code.globals).numbers ≡ length code.globals = omega (arith, laid_long none_laid (first_values code.globals), firsts_long code.globals) in
     let long : length all.numbers ≡ length code.globals + length code.run.constants = ap (λ (r : TwoRows). length r.numbers) is ∙ omega (arith, laid_long (firsts_laid none_laid code.globals) code.run.constants, first) in
     record {
       grown = grown;
-      grows = subst (λ r. Grown r grown) is grows;
+      grows = subst (λ r. AreGrown r grown) is grows;
       even = even;
       room = omega (arith, room, long);
       small = small;

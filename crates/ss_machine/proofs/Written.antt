@@ -20,10 +20,10 @@ use Rattle.ss_code_instructions.specs.Instructions as d
 use Rattle.ss_code_instructions.specs.Instructions.{Lines}
 use Rattle.ss_code_instructions.specs.States.{Core, Moved, Sends, Rest, Stuck, Breaks, did, fit, core_at, with_block, at_height}
 use Rattle.ss_code_instructions.specs.Machine.{act, values_shown, print_lines, cells_of_kinds}
-use Rattle.ss_code_instructions.specs.Shape.{Suits, ItemsFit, modes_onto}
-use Rattle.ss_code_instructions.specs.Carried.{RunningLines, lines_of_running, kind_of_item, item_modes, onto, WithCell, From, Is}
+use Rattle.ss_code_instructions.specs.Shape.{IsSuited, AreFitForItems, modes_onto}
+use Rattle.ss_code_instructions.specs.Carried.{RunningLines, lines_of_running, kind_of_item, item_modes, onto, HasCell, HasOperand, Is}
 use Rattle.ss_machine_frames.specs.Rows.{place_at}
-use Rattle.ss_machine_frames.specs.Holding.{AllAt}
+use Rattle.ss_machine_frames.specs.Holding.{AreValuesAt}
 use Rattle.ss_machine_frames.proofs.Entering.{Cut, cut}
 use Rattle.ss_machine_frames.proofs.Reading.{Reads, reads, read_within, only_number, own_is, hold_length}
 use Rattle.ss_machine_frames.proofs.Writing.{cells_held}
@@ -31,14 +31,14 @@ use Rattle.ss_machine_instructions.specs.declared.flow.Ending.{Ending}
 use Rattle.ss_machine_instructions.specs.declared.flow.Ending.TheVariants.{Ended, Paused, Faulted, NoMemory, NoOutput, NoInput}
 use Rattle.ss_machine_instructions.specs.declared.flow.Here.{Here}
 use Rattle.ss_machine_instructions.specs.declared.state.State.{State}
-use Rattle.ss_machine_instructions.specs.Doing.{Compiled, Holds, Ready}
+use Rattle.ss_machine_instructions.specs.Doing.{Compiled, IsHeld, IsReadyFor}
 use Rattle.ss_machine_instructions.specs.Ways.{stopped}
 use Rattle.ss_machine_instructions.proofs.Calling.{Blocked, blocked, cells_long}
 use Rattle.ss_machine_instructions.proofs.Seeing.{seen_is}
 use Rattle.ss_machine_instructions.proofs.Figuring.{has_subject, refers_to}
 use Rattle.ss_machine_instructions.proofs.Placing.{site, located, suits, deep_here, goes_with}
-use Rattle.ss_machine.specs.Shown.{CanShow, AreShown, TakeAll}
-use Rattle.ss_machine.specs.Writing.{IsUnsent, Sending, SendingOn, WrotePart, StopsWriting, DidWrite}
+use Rattle.ss_machine.specs.Shown.{CanShow, AreShown, CanTakeAll}
+use Rattle.ss_machine.specs.Writing.{IsUnsent, IsSending, IsSendingOn, HasWrittenPart, HasStoppedWriting, HasWritten}
 
 -- ## What a PRINT finds
 
@@ -58,7 +58,7 @@ lines_there n [] l e = absurd cc
 lines_there zero (x ∷ ls) l e = let q : x ≡ l = cc in ap (λ y. Some (lines_of_running y)) q
 lines_there (suc n) (x ∷ ls) l e = lines_there n ls l e
 
-module _ (w : Compiled) (c : Core) (here : Here) (s : State) (number cell : ℕ) (ready : Ready w c here s (r.Print number cell)) (l : RunningLines) (there : slice_get w.run.prints number ≡ Some l) where
+module _ (w : Compiled) (c : Core) (here : Here) (s : State) (number cell : ℕ) (ready : IsReadyFor w c here s (r.Print number cell)) (l : RunningLines) (there : slice_get w.run.prints number ≡ Some l) where
   abbrev modes : List Mode
   modes = item_modes l.items
 
@@ -68,7 +68,7 @@ module _ (w : Compiled) (c : Core) (here : Here) (s : State) (number cell : ℕ)
   lines_is : slice_get w.code.prints number ≡ Some (lines_of_running l)
   lines_is = ap (λ ls. slice_get ls number) (sym ready.compiled.run.prints) ∙ lines_there number w.run.prints l there
 
-  abbrev z : WithCell w.code w.run.constants ready.placed cell (λ h. Is w.code w.run.constants ready.placed (d.Print number h))
+  abbrev z : HasCell w.code w.run.constants ready.placed cell (λ h. Is w.code w.run.constants ready.placed (d.Print number h))
   z = ready.runs.carries
 
   pub shown_by : (rest : List Mode) × (ready.placed.cells ≡ onto modes rest)
@@ -132,8 +132,8 @@ module _ (w : Compiled) (c : Core) (here : Here) (s : State) (number cell : ℕ)
   parts : Cut s.rows low block.taken
   parts = cut s.rows low (length modes) c.cells [] block.taken ready.holds.held.cells tt block.is
 
-  lie : AllAt s.rows (here.frame + cell) values
-  lie = subst (λ k. AllAt s.rows k values) (sym begins) parts.values
+  lie : AreValuesAt s.rows (here.frame + cell) values
+  lie = subst (λ k. AreValuesAt s.rows k values) (sym begins) parts.values
 
   -- whatever items are shown of what lies there, the lines are made of them
   pub given_are : (items : List Item) → AreShown s.world s.rows (here.frame + cell) l.items items → prints.given ≡ items
@@ -141,34 +141,34 @@ module _ (w : Compiled) (c : Core) (here : Here) (s : State) (number cell : ℕ)
       shown c.store values prints.given lie block.values
       (ap (values_shown (map kind_of_item l.items) values) (sym (seen_is w c here s (r.Print number cell) ready)) ∙ prints.shown)
 
-  pub take_given : TakeAll s.world s.rows (here.frame + cell) l
+  pub take_given : CanTakeAll s.world s.rows (here.frame + cell) l
   take_given items shown = subst (λ xs. take_all (flat_map picture_fields l.pictures) xs ≡ true) (given_are items shown) prints.fields
 
-  pub sends_shown : (items : List Item) → AreShown s.world s.rows (here.frame + cell) l.items items → Sending here s (r.Print number cell) w c ready (lines_with l.pictures items)
+  pub sends_shown : (items : List Item) → AreShown s.world s.rows (here.frame + cell) l.items items → IsSending here s (r.Print number cell) w c ready (lines_with l.pictures items)
   sends_shown items shown = record {
     core = core_at (c.place + 1) below c.frames c.store;
     sends = subst (λ xs. act w.code ready.placed.line ready.placed.instruction c ≡ Sends (lines_with l.pictures xs) (core_at (c.place + 1) below c.frames c.store)) (given_are items shown) prints.sends;
     input = refl;
   }
 
-  pub goes_on : (items : List Item) (shown : AreShown s.world s.rows (here.frame + cell) l.items items) → SendingOn here s (r.Print number cell) w c ready (lines_with l.pictures items) s (record { place = here.place + 1; frame = here.frame })
+  pub goes_on : (items : List Item) (shown : AreShown s.world s.rows (here.frame + cell) l.items items) → IsSendingOn here s (r.Print number cell) w c ready (lines_with l.pictures items) s (record { place = here.place + 1; frame = here.frame })
   unfolding sends_shown
   goes_on items shown = record {
     sending = sends_shown items shown;
-    holds = subst (λ p. Holds w (core_at (c.place + 1) below c.frames c.store) (record { place = p; frame = here.frame }) s) (ap (λ p. p + 1) (sym ready.holds.place))
+    holds = subst (λ p. IsHeld w (core_at (c.place + 1) below c.frames c.store) (record { place = p; frame = here.frame }) s) (ap (λ p. p + 1) (sym ready.holds.place))
         (goes_with w c here s (r.Print number cell) ready (c.place + 1) below
         (cells_held (site w c here s (r.Print number cell) ready) (located w c here s (r.Print number cell) ready) (c.place + 1) below parts.below));
   }
 
   -- and they can be shown
-  kinds_fit : ItemsFit w.program (map kind_of_item l.items) (subst (Suits w.program w.code c.place ready.placed.locals ready.placed.cells) z.2 (suits w c here s (r.Print number cell) ready)).2.0
+  kinds_fit : AreFitForItems w.program (map kind_of_item l.items) (subst (IsSuited w.program w.code c.place ready.placed.locals ready.placed.cells) z.2 (suits w c here s (r.Print number cell) ready)).2.0
   kinds_fit =
-      let y = subst (Suits w.program w.code c.place ready.placed.locals ready.placed.cells) z.2 (suits w c here s (r.Print number cell) ready) in
+      let y = subst (IsSuited w.program w.code c.place ready.placed.locals ready.placed.cells) z.2 (suits w c here s (r.Print number cell) ready) in
       let q : Some y.0 ≡ Some (lines_of_running l) = sym y.1 ∙ lines_is in
       let same : y.0 ≡ lines_of_running l = cc in
-      subst (λ (x : Lines). ItemsFit w.program x.items y.2.0) same y.2.1
+      subst (λ (x : Lines). AreFitForItems w.program x.items y.2.0) same y.2.1
 
-  can_from : (ks : List ItemKind) (ms : List Mode) (k : ℕ) → ItemsFit w.program (map kind_of_item ks) ms → k + length (item_modes ks) ≤ length s.rows.numbers → CanShow s.world s.rows k ks
+  can_from : (ks : List ItemKind) (ms : List Mode) (k : ℕ) → AreFitForItems w.program (map kind_of_item ks) ms → k + length (item_modes ks) ≤ length s.rows.numbers → CanShow s.world s.rows k ks
   can_from [] ms k fit room = tt
   can_from (shows.Number ∷ ks) [] k fit room = absurd fit
   can_from (shows.Number ∷ ks) (m ∷ ms) k fit room = (omega (arith, room), can_from ks ms (k + 1) fit (omega (arith, room)))
@@ -193,12 +193,12 @@ module _ (w : Compiled) (c : Core) (here : Here) (s : State) (number cell : ℕ)
 
 -- ## SKIP
 
-module _ (w : Compiled) (c : Core) (here : Here) (s : State) (count : Address) (ready : Ready w c here s (r.Skip count)) where
-  abbrev from : From w.code w.run.constants ready.placed count (λ y. Is w.code w.run.constants ready.placed (d.Skip y))
+module _ (w : Compiled) (c : Core) (here : Here) (s : State) (count : Address) (ready : IsReadyFor w c here s (r.Skip count)) where
+  abbrev from : HasOperand w.code w.run.constants ready.placed count (λ y. Is w.code w.run.constants ready.placed (d.Skip y))
   from = ready.runs.carries
 
-  abbrev suited : Suits w.program w.code c.place ready.placed.locals ready.placed.cells (d.Skip from.0)
-  suited = subst (Suits w.program w.code c.place ready.placed.locals ready.placed.cells) from.2 (suits w c here s (r.Skip count) ready)
+  abbrev suited : IsSuited w.program w.code c.place ready.placed.locals ready.placed.cells (d.Skip from.0)
+  suited = subst (IsSuited w.program w.code c.place ready.placed.locals ready.placed.cells) from.2 (suits w c here s (r.Skip count) ready)
 
   pub count_within : place_at here.frame count < length s.rows.numbers
   count_within = read_within (site w c here s (r.Skip count) ready) (located w c here s (r.Skip count) ready) from.0 Integer ready.placed.cells suited.0 count suited.1 from.1 (deep_here w c here s (r.Skip count) ready)
@@ -215,18 +215,18 @@ module _ (w : Compiled) (c : Core) (here : Here) (s : State) (count : Address) (
     pub skip_fails : empty_lines (Whole n) ≡ Err (Fails BadCount) → act w.code ready.placed.line ready.placed.instruction c ≡ Rest (Breaks BadCount ready.placed.line)
     skip_fails e = skips ∙ ap (λ q. did ready.placed.line q (λ bytes. Sends bytes (core_at (c.place + 1) one.below c.frames c.store))) e
 
-    pub skip_sends : (bytes : List ℕ) → empty_lines (Whole n) ≡ Ok bytes → Sending here s (r.Skip count) w c ready bytes
+    pub skip_sends : (bytes : List ℕ) → empty_lines (Whole n) ≡ Ok bytes → IsSending here s (r.Skip count) w c ready bytes
     skip_sends bytes e = record {
       core = core_at (c.place + 1) one.below c.frames c.store;
       sends = skips ∙ ap (λ q. did ready.placed.line q (λ bytes. Sends bytes (core_at (c.place + 1) one.below c.frames c.store))) e;
       input = refl;
     }
 
-    pub skip_on : (bytes : List ℕ) → empty_lines (Whole n) ≡ Ok bytes → SendingOn here s (r.Skip count) w c ready bytes s (record { place = here.place + 1; frame = here.frame })
+    pub skip_on : (bytes : List ℕ) → empty_lines (Whole n) ≡ Ok bytes → IsSendingOn here s (r.Skip count) w c ready bytes s (record { place = here.place + 1; frame = here.frame })
     unfolding skip_sends
     skip_on bytes e = record {
       sending = skip_sends bytes e;
-      holds = subst (λ p. Holds w (core_at (c.place + 1) one.below c.frames c.store) (record { place = p; frame = here.frame }) s) (ap (λ p. p + 1) (sym ready.holds.place))
+      holds = subst (λ p. IsHeld w (core_at (c.place + 1) one.below c.frames c.store) (record { place = p; frame = here.frame }) s) (ap (λ p. p + 1) (sym ready.holds.place))
           (goes_with w c here s (r.Skip count) ready (c.place + 1) one.below
           (cells_held (site w c here s (r.Skip count) ready) (located w c here s (r.Skip count) ready) (c.place + 1) one.below one.cells));
     }
@@ -247,12 +247,12 @@ bad_lines (negsuc k) e = refl
 -- ## Stops
 
 -- lines that were not all sent
-pub unsent : (P : Compiled → Type 0) (here : Here) (old : State) (i : Running) (before after : Option (List ℕ)) (e : Ending) (new : State) (result : Option Here) → IsUnsent e → WrotePart P here old i before after → new ≡ stopped e old → result ≡ None → DidWrite P here old i before after new result
+pub unsent : (P : Compiled → Type 0) (here : Here) (old : State) (i : Running) (before after : Option (List ℕ)) (e : Ending) (new : State) (result : Option Here) → IsUnsent e → HasWrittenPart P here old i before after → new ≡ stopped e old → result ≡ None → HasWritten P here old i before after new result
 unsent P here old i before after e new result un part is none =
-    subst (λ o. DidWrite P here old i before after new o) (sym none)
-    (subst (λ n. StopsWriting P here old i before after n n.ending) (sym is) (by e un))
+    subst (λ o. HasWritten P here old i before after new o) (sym none)
+    (subst (λ n. HasStoppedWriting P here old i before after n n.ending) (sym is) (by e un))
   where
-    by : (e : Ending) → IsUnsent e → StopsWriting P here old i before after (stopped e old) e
+    by : (e : Ending) → IsUnsent e → HasStoppedWriting P here old i before after (stopped e old) e
     by NoMemory u = part
     by NoOutput u = part
     by Ended u = absurd u

@@ -11,7 +11,7 @@ use Rattle.ss_meaning.specs.Histories.{no_histories, starting}
 use Rattle.ss_code.specs.Running.{Generated}
 use Rattle.ss_machine_time.specs.Records.{columns_of}
 use Rattle.ss_machine_world.specs.Seen.{Seen}
-use Rattle.ss_machine_frames.specs.Rows.{TwoRows, Grown, with_last, cleared}
+use Rattle.ss_machine_frames.specs.Rows.{TwoRows, AreGrown, with_last, cleared}
 use Rattle.ss_machine_instructions.specs.declared.flow.Here.{Here}
 use Rattle.ss_machine_instructions.specs.declared.state.State.{State}
 
@@ -31,7 +31,7 @@ none_laid = record { numbers = []; texts = [] }
 -- The global variables and the constants lie there, and above them is room for the frame of MAIN, whose variables hold their first values.
 pub record IsLaidOut (code : Generated) (rows : TwoRows) : Type 0 where
   pub grown : TwoRows
-  pub grows : Grown (values_laid (firsts_laid none_laid code.globals) code.run.constants) grown
+  pub grows : AreGrown (values_laid (firsts_laid none_laid code.globals) code.run.constants) grown
   pub even : length grown.texts ≡ length grown.numbers
   pub room : length code.globals + length code.run.constants + code.run.main.room ≤ length grown.numbers
   pub small : length grown.numbers < 2 ^ 63

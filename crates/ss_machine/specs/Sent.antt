@@ -4,7 +4,7 @@ use Rattle.std.specs.declared.option.Option.{Option}
 use Rattle.std.specs.Io.KnownBytes.{Appends}
 
 -- a writer that had taken `old`, where it can say so, and has now taken `new`, took the first of these bytes
-pub record TookPart (old new : Option (List ℕ)) (bytes : List ℕ) : Type 0 where
+pub record HasTakenPart (old new : Option (List ℕ)) (bytes : List ℕ) : Type 0 where
   pub part : List ℕ
   pub rest : List ℕ
   pub whole : bytes ≡ part ++ rest

@@ -9,7 +9,7 @@ use Rattle.ss_machine_instructions.specs.declared.flow.Ending.{Ending}
 use Rattle.ss_machine_instructions.specs.declared.flow.Ending.TheVariants.{Ended, Paused, Faulted, NoMemory, NoOutput, NoInput}
 use Rattle.ss_machine_instructions.specs.declared.flow.Here.{Here}
 use Rattle.ss_machine_instructions.specs.declared.state.State.{State}
-use Rattle.ss_machine_instructions.specs.Doing.{Compiled, Holds, Ready, line_or}
+use Rattle.ss_machine_instructions.specs.Doing.{Compiled, IsHeld, IsReadyFor, line_or}
 
 -- why lines were not all sent
 abbrev pub IsUnsent : Ending → Type 0
@@ -22,43 +22,43 @@ IsUnsent NoInput = ⊥
 
 module _ (here : Here) (old : State) (i : Running) where
   -- the definition sends these bytes, and the rest of the input stays
-  pub record Sending (w : Compiled) (c : Core) (r : Ready w c here old i) (bytes : List ℕ) : Type 0 where
+  pub record IsSending (w : Compiled) (c : Core) (r : IsReadyFor w c here old i) (bytes : List ℕ) : Type 0 where
     pub core : Core
     pub sends : act w.code r.placed.line r.placed.instruction c ≡ Sends bytes core
     pub input : input_of core ≡ input_of c
 
   -- and the machine goes on
-  pub record SendingOn (w : Compiled) (c : Core) (r : Ready w c here old i) (bytes : List ℕ) (new : State) (there : Here) : Type 0 where
-    pub sending : Sending w c r bytes
-    pub holds : Holds w sending.core there new
+  pub record IsSendingOn (w : Compiled) (c : Core) (r : IsReadyFor w c here old i) (bytes : List ℕ) (new : State) (there : Here) : Type 0 where
+    pub sending : IsSending w c r bytes
+    pub holds : IsHeld w sending.core there new
 
 -- P says of what is run what a function is handed of it, as the lines of a PRINT
 module _ (P : Compiled → Type 0) (here : Here) (old : State) (i : Running) (before after : Option (List ℕ)) where
-  abbrev pub ForReady : ((w : Compiled) → (c : Core) → Ready w c here old i → Type 0) → Type 0
-  ForReady So = (w : Compiled) (c : Core) → P w → (r : Ready w c here old i) → So w c r
+  abbrev pub ForReady : ((w : Compiled) → (c : Core) → IsReadyFor w c here old i → Type 0) → Type 0
+  ForReady So = (w : Compiled) (c : Core) → P w → (r : IsReadyFor w c here old i) → So w c r
 
   -- the writer took all of them
-  pub record Wrote (new : State) (there : Here) : Type 0 where
+  pub record HasWrittenAll (new : State) (there : Here) : Type 0 where
     pub bytes : List ℕ
     pub took : Appends before after bytes
-    pub goes : ForReady (λ w c r. SendingOn here old i w c r bytes new there)
+    pub goes : ForReady (λ w c r. IsSendingOn here old i w c r bytes new there)
 
   -- the writer took nothing, or the first of them
-  pub record WrotePart : Type 0 where
+  pub record HasWrittenPart : Type 0 where
     pub part : List ℕ
     pub took : Appends before after part
-    pub within : (part ≡ []) ⊎ ForReady (λ w c r. (rest : List ℕ) × Sending here old i w c r (part ++ rest))
+    pub within : (part ≡ []) ⊎ ForReady (λ w c r. (rest : List ℕ) × IsSending here old i w c r (part ++ rest))
 
-  abbrev pub StopsWriting : State → Ending → Type 0
-  StopsWriting new Faulted =
+  abbrev pub HasStoppedWriting : State → Ending → Type 0
+  HasStoppedWriting new Faulted =
       Keeps before after × ForReady (λ w c r. act w.code r.placed.line r.placed.instruction c ≡ Rest (Breaks new.fault (line_or r.placed.line new.fault_line)))
-  StopsWriting new NoMemory = WrotePart
-  StopsWriting new NoOutput = WrotePart
-  StopsWriting new Ended = ⊥
-  StopsWriting new Paused = ⊥
-  StopsWriting new NoInput = ⊥
+  HasStoppedWriting new NoMemory = HasWrittenPart
+  HasStoppedWriting new NoOutput = HasWrittenPart
+  HasStoppedWriting new Ended = ⊥
+  HasStoppedWriting new Paused = ⊥
+  HasStoppedWriting new NoInput = ⊥
 
   -- the result
-  abbrev pub DidWrite : State → Option Here → Type 0
-  DidWrite new (Some there) = Wrote new there
-  DidWrite new None = StopsWriting new new.ending
+  abbrev pub HasWritten : State → Option Here → Type 0
+  HasWritten new (Some there) = HasWrittenAll new there
+  HasWritten new None = HasStoppedWriting new new.ending

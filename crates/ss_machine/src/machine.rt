@@ -2,10 +2,10 @@
 
 ghost use Rattle.std.specs.Prelude.{◌≡◌, ◌+◌, ◌-◌, ◌*◌, ◌^◌, ◌≤◌, min, length, IfOk, Ok, Some, None};
 ghost use Rattle.ss_base.specs.Failures.{HasRisen, HasRisenBy};
-ghost use Rattle.ss_input.specs.Blocks.{KnowsEnd};
+ghost use Rattle.ss_input.specs.Blocks.{IsEndKnown};
 ghost use Rattle.ss_input.specs.Inputs.{source_block, source_missed, source_reader};
 ghost use Rattle.ss_machine.specs.Situations.{IsSituated};
-ghost use Rattle.ss_machine.specs.Runs.{Ran};
+ghost use Rattle.ss_machine.specs.Runs.{IsRunResult};
 ghost use Rattle.ss_machine.specs.Held.{IsFirst, answer_again, kept_after};
 
 use crate::first::{first_place, first_state, release_state, stands_first};
@@ -129,7 +129,7 @@ impl Machine {
     ) -> Stop
         requires { self.old.stopped ≡ None → source_missed source.old ≡ None }
         ensures again { (before : Stop) → self.old.stopped ≡ Some before → (result ≡ answer_again before) × (self.new ≡ self.old) × (source.new ≡ source.old) × (sink.new ≡ sink.old) }
-        ensures ran { self.old.stopped ≡ None → Ran R.remaining result self.old.code self.old.at self.new.at source.old source.new (W.contents sink.old.writer) (W.contents sink.new.writer) (self.new.used - self.old.used) (self.new.steps - self.old.steps) }
+        ensures ran { self.old.stopped ≡ None → IsRunResult R.remaining result self.old.code self.old.at self.new.at source.old source.new (W.contents sink.old.writer) (W.contents sink.new.writer) (self.new.used - self.old.used) (self.new.steps - self.old.steps) }
         ensures code { self.new.code ≡ self.old.code }
         ensures situated { self.new.stopped ≡ None → IsSituated self.new.code self.new.at }
         ensures stopped { self.old.stopped ≡ None → self.new.stopped ≡ kept_after result }
@@ -145,7 +145,7 @@ impl Machine {
         ensures input { self.old.stopped ≡ None → result ≡ Stop.Input → HasRisen (R.faults (source_reader source.old)) (R.faults (source_reader source.new)) }
         ensures never_falls { HasRisenBy 0 (W.faults sink.old.writer) (W.faults sink.new.writer) }
         ensures read_never_falls { HasRisenBy 0 (R.faults (source_reader source.old)) (R.faults (source_reader source.new)) }
-        ensures end { KnowsEnd R.remaining (source_block source.old) → KnowsEnd R.remaining (source_block source.new) }
+        ensures end { IsEndKnown R.remaining (source_block source.old) → IsEndKnown R.remaining (source_block source.new) }
     {
         if let Some(stop) = self.stopped {
             return again(stop);

@@ -6,13 +6,13 @@ ghost use Rattle.std.specs.Io.KnownBytes.{Appends};
 ghost use Rattle.ss_base.specs.Failures.{HasRisen, HasRisenBy};
 ghost use Rattle.ss_meaning.specs.Values.{lines_with, line_end};
 ghost use Rattle.ss_picture.specs.Pictures.{filled, field_count, picture_fields};
-ghost use Rattle.ss_picture.specs.Suited.{EachSuits};
+ghost use Rattle.ss_picture.specs.Suited.{AreSuitedItems};
 ghost use Rattle.ss_machine_instructions.specs.declared.flow.Ending.{Ending as EndingSeen};
 ghost use Rattle.ss_machine_instructions.specs.Doing.{Can, CanWhere};
 ghost use Rattle.ss_machine.specs.Reading.{IsQuiet};
-ghost use Rattle.ss_machine.specs.Sent.{TookPart};
-ghost use Rattle.ss_machine.specs.Shown.{CanShow, TakeAll, SentAll, SentPart};
-ghost use Rattle.ss_machine.specs.Writing.{IsUnsent, DidWrite};
+ghost use Rattle.ss_machine.specs.Sent.{HasTakenPart};
+ghost use Rattle.ss_machine.specs.Shown.{CanShow, CanTakeAll, HasSentAll, HasSentPart};
+ghost use Rattle.ss_machine.specs.Writing.{IsUnsent, HasWritten};
 ghost use Rattle.ss_machine_instructions.specs.Ways.{on_after};
 
 use crate::showing::{Buffers, show};
@@ -35,9 +35,9 @@ fn print_line<W: FaultyWrite>(
     sink: &mut Sink<W>,
 ) -> Result<(), Ending>
     requires fields { length items.now ≤ field_count picture.now }
-    requires suited { EachSuits (picture_fields picture.now) items.now }
+    requires suited { AreSuitedItems (picture_fields picture.now) items.now }
     ensures ok { OnOk result (Appends (W.contents sink.old.writer) (W.contents sink.new.writer) (filled picture.now items.now ++ line_end ∷ [])) }
-    ensures err { OnErr result (TookPart (W.contents sink.old.writer) (W.contents sink.new.writer) (filled picture.now items.now ++ line_end ∷ [])) }
+    ensures err { OnErr result (HasTakenPart (W.contents sink.old.writer) (W.contents sink.new.writer) (filled picture.now items.now ++ line_end ∷ [])) }
     ensures unsent { (e : EndingSeen) → result ≡ Err e → IsUnsent e }
     ensures output { IsErrOf result Ending.NoOutput → HasRisen (W.faults sink.old.writer) (W.faults sink.new.writer) }
     ensures never_falls { HasRisenBy 0 (W.faults sink.old.writer) (W.faults sink.new.writer) }
@@ -59,9 +59,9 @@ fn print_lines<W: FaultyWrite>(
     items: &[Item],
     sink: &mut Sink<W>,
 ) -> Result<(), Ending>
-    requires suited { EachSuits (flat_map picture_fields pictures.now) items.now }
+    requires suited { AreSuitedItems (flat_map picture_fields pictures.now) items.now }
     ensures ok { OnOk result (Appends (W.contents sink.old.writer) (W.contents sink.new.writer) (lines_with pictures.now items.now)) }
-    ensures err { OnErr result (TookPart (W.contents sink.old.writer) (W.contents sink.new.writer) (lines_with pictures.now items.now)) }
+    ensures err { OnErr result (HasTakenPart (W.contents sink.old.writer) (W.contents sink.new.writer) (lines_with pictures.now items.now)) }
     ensures unsent { (e : EndingSeen) → result ≡ Err e → IsUnsent e }
     ensures output { IsErrOf result Ending.NoOutput → HasRisen (W.faults sink.old.writer) (W.faults sink.new.writer) }
     ensures never_falls { HasRisenBy 0 (W.faults sink.old.writer) (W.faults sink.new.writer) }
@@ -87,9 +87,9 @@ fn print_from<W: FaultyWrite>(
 ) -> Result<(), Ending>
     requires can { CanShow state.now.world state.now.rows from lines.now.items }
     requires small { length state.now.rows.numbers < 2 ^ 63 }
-    requires fields { TakeAll state.now.world state.now.rows from lines.now }
-    ensures ok { OnOk result (SentAll state.now.world state.now.rows from lines.now (W.contents sink.old.writer) (W.contents sink.new.writer)) }
-    ensures err { OnErr result (SentPart state.now.world state.now.rows from lines.now (W.contents sink.old.writer) (W.contents sink.new.writer)) }
+    requires fields { CanTakeAll state.now.world state.now.rows from lines.now }
+    ensures ok { OnOk result (HasSentAll state.now.world state.now.rows from lines.now (W.contents sink.old.writer) (W.contents sink.new.writer)) }
+    ensures err { OnErr result (HasSentPart state.now.world state.now.rows from lines.now (W.contents sink.old.writer) (W.contents sink.new.writer)) }
     ensures unsent { (e : EndingSeen) → result ≡ Err e → IsUnsent e }
     ensures output { IsErrOf result Ending.NoOutput → HasRisen (W.faults sink.old.writer) (W.faults sink.new.writer) }
     ensures never_falls { HasRisenBy 0 (W.faults sink.old.writer) (W.faults sink.new.writer) }
@@ -111,7 +111,7 @@ pub(crate) fn print<W: FaultyWrite>(
     sink: &mut Sink<W>,
 ) -> Option<()>
     requires { (number : ℕ) × CanWhere (λ w. slice_get w.run.prints number ≡ Some lines.now) here state.old (Instruction.Print number cell) }
-    ensures written { (number : ℕ) → DidWrite (λ w. slice_get w.run.prints number ≡ Some lines.now) here state.old (Instruction.Print number cell) (W.contents sink.old.writer) (W.contents sink.new.writer) state.new (on_after here result) }
+    ensures written { (number : ℕ) → HasWritten (λ w. slice_get w.run.prints number ≡ Some lines.now) here state.old (Instruction.Print number cell) (W.contents sink.old.writer) (W.contents sink.new.writer) state.new (on_after here result) }
     ensures quiet { IsQuiet state.old state.new }
     ensures output { result ≡ None → state.new.ending ≡ Ending.NoOutput → HasRisen (W.faults sink.old.writer) (W.faults sink.new.writer) }
     ensures never_falls { HasRisenBy 0 (W.faults sink.old.writer) (W.faults sink.new.writer) }
@@ -127,7 +127,7 @@ pub(crate) fn print<W: FaultyWrite>(
 #[inline(never)]
 fn send_empty<W: FaultyWrite>(lines: usize, sink: &mut Sink<W>) -> Result<(), Ending>
     ensures ok { OnOk result (Appends (W.contents sink.old.writer) (W.contents sink.new.writer) (replicate lines line_end)) }
-    ensures err { OnErr result (TookPart (W.contents sink.old.writer) (W.contents sink.new.writer) (replicate lines line_end)) }
+    ensures err { OnErr result (HasTakenPart (W.contents sink.old.writer) (W.contents sink.new.writer) (replicate lines line_end)) }
     ensures reason { (e : EndingSeen) → result ≡ Err e → e ≡ Ending.NoOutput }
     ensures risen { OnErr result (HasRisen (W.faults sink.old.writer) (W.faults sink.new.writer)) }
     ensures never_falls { HasRisenBy 0 (W.faults sink.old.writer) (W.faults sink.new.writer) }
@@ -167,7 +167,7 @@ pub(crate) fn skip<W: FaultyWrite>(
     sink: &mut Sink<W>,
 ) -> Option<()>
     requires { Can here state.old (Instruction.Skip count.now) }
-    ensures written { DidWrite (λ w. Unit {0}) here state.old (Instruction.Skip count.now) (W.contents sink.old.writer) (W.contents sink.new.writer) state.new (on_after here result) }
+    ensures written { HasWritten (λ w. Unit {0}) here state.old (Instruction.Skip count.now) (W.contents sink.old.writer) (W.contents sink.new.writer) state.new (on_after here result) }
     ensures quiet { IsQuiet state.old state.new }
     ensures output { result ≡ None → state.new.ending ≡ Ending.NoOutput → HasRisen (W.faults sink.old.writer) (W.faults sink.new.writer) }
     ensures never_falls { HasRisenBy 0 (W.faults sink.old.writer) (W.faults sink.new.writer) }

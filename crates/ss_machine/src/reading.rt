@@ -5,11 +5,11 @@ ghost use Rattle.ss_base.specs.declared.fault.FaultKind.{FaultKind as FaultSeen}
 ghost use Rattle.ss_base.specs.declared.layout.Mode.TheVariants.{Integer, Alpha as AlphaMode};
 ghost use Rattle.ss_base.specs.declared.value.Value.TheVariants.{Whole, Text};
 ghost use Rattle.ss_base.specs.Failures.{HasRisen, HasRisenBy};
-ghost use Rattle.ss_input.specs.Blocks.{KnowsEnd};
-ghost use Rattle.ss_input.specs.Inputs.{source_block, source_missed, source_reader, Reads, Finds, missed_of};
+ghost use Rattle.ss_input.specs.Blocks.{IsEndKnown};
+ghost use Rattle.ss_input.specs.Inputs.{source_block, source_missed, source_reader, HasReadInput, HasFound, missed_of};
 ghost use Rattle.ss_input.specs.Words.{value_given, is_ended};
 ghost use Rattle.ss_machine_instructions.specs.Doing.{Can};
-ghost use Rattle.ss_machine.specs.Reading.{missed_by, DidRead, IsQuiet};
+ghost use Rattle.ss_machine.specs.Reading.{missed_by, HasRead, IsQuiet};
 ghost use Rattle.ss_machine_instructions.specs.Ways.{on_after, tested_at};
 
 use ss_base::{Alpha, FaultyRead};
@@ -35,13 +35,13 @@ fn unread<T>(state: &mut State, missed: Missed) -> Option<T>
 #[inline(never)]
 fn next_number<R: FaultyRead>(source: &mut Source<R>) -> Result<i64, Missed>
     requires { source_missed source.old ≡ None }
-    ensures read { (number : ℤ) → result ≡ Ok number → Reads R.remaining source.old source.new (λ input rest. value_given Integer input ≡ Ok (record { value = Whole number; rest = rest })) }
-    ensures fault { (kind : FaultSeen) → result ≡ Err (Missed.Fault kind) → Finds R.remaining source.old source.new (λ input. value_given Integer input ≡ Err kind) }
-    ensures lost { result ≡ Err Missed.Input → Finds R.remaining source.old source.new (λ input. Unit {0}) }
+    ensures read { (number : ℤ) → result ≡ Ok number → HasReadInput R.remaining source.old source.new (λ input rest. value_given Integer input ≡ Ok (record { value = Whole number; rest = rest })) }
+    ensures fault { (kind : FaultSeen) → result ≡ Err (Missed.Fault kind) → HasFound R.remaining source.old source.new (λ input. value_given Integer input ≡ Err kind) }
+    ensures lost { result ≡ Err Missed.Input → HasFound R.remaining source.old source.new (λ input. Unit {0}) }
     ensures input { result ≡ Err Missed.Input → HasRisen (R.faults (source_reader source.old)) (R.faults (source_reader source.new)) }
     ensures missed { source_missed source.new ≡ missed_of result }
     ensures never_falls { HasRisenBy 0 (R.faults (source_reader source.old)) (R.faults (source_reader source.new)) }
-    ensures end { KnowsEnd R.remaining (source_block source.old) → KnowsEnd R.remaining (source_block source.new) }
+    ensures end { IsEndKnown R.remaining (source_block source.old) → IsEndKnown R.remaining (source_block source.new) }
 {
     source.integer()
 }
@@ -50,13 +50,13 @@ fn next_number<R: FaultyRead>(source: &mut Source<R>) -> Result<i64, Missed>
 #[inline(never)]
 fn next_text<R: FaultyRead>(source: &mut Source<R>) -> Result<Alpha, Missed>
     requires { source_missed source.old ≡ None }
-    ensures read { (text : List ℕ) → result ≡ Ok text → Reads R.remaining source.old source.new (λ input rest. value_given AlphaMode input ≡ Ok (record { value = Text text; rest = rest })) }
-    ensures fault { (kind : FaultSeen) → result ≡ Err (Missed.Fault kind) → Finds R.remaining source.old source.new (λ input. value_given AlphaMode input ≡ Err kind) }
-    ensures lost { result ≡ Err Missed.Input → Finds R.remaining source.old source.new (λ input. Unit {0}) }
+    ensures read { (text : List ℕ) → result ≡ Ok text → HasReadInput R.remaining source.old source.new (λ input rest. value_given AlphaMode input ≡ Ok (record { value = Text text; rest = rest })) }
+    ensures fault { (kind : FaultSeen) → result ≡ Err (Missed.Fault kind) → HasFound R.remaining source.old source.new (λ input. value_given AlphaMode input ≡ Err kind) }
+    ensures lost { result ≡ Err Missed.Input → HasFound R.remaining source.old source.new (λ input. Unit {0}) }
     ensures input { result ≡ Err Missed.Input → HasRisen (R.faults (source_reader source.old)) (R.faults (source_reader source.new)) }
     ensures missed { source_missed source.new ≡ missed_of result }
     ensures never_falls { HasRisenBy 0 (R.faults (source_reader source.old)) (R.faults (source_reader source.new)) }
-    ensures end { KnowsEnd R.remaining (source_block source.old) → KnowsEnd R.remaining (source_block source.new) }
+    ensures end { IsEndKnown R.remaining (source_block source.old) → IsEndKnown R.remaining (source_block source.new) }
 {
     source.alpha()
 }
@@ -65,13 +65,13 @@ fn next_text<R: FaultyRead>(source: &mut Source<R>) -> Result<Alpha, Missed>
 #[inline(never)]
 fn is_ended<R: FaultyRead>(source: &mut Source<R>) -> Result<bool, Missed>
     requires { source_missed source.old ≡ None }
-    ensures read { (ended : Bool) → result ≡ Ok ended → Reads R.remaining source.old source.new (λ input rest. (rest ≡ input) × (is_ended input ≡ Ok ended)) }
-    ensures fault { (kind : FaultSeen) → result ≡ Err (Missed.Fault kind) → Finds R.remaining source.old source.new (λ input. is_ended input ≡ Err kind) }
-    ensures lost { result ≡ Err Missed.Input → Finds R.remaining source.old source.new (λ input. Unit {0}) }
+    ensures read { (ended : Bool) → result ≡ Ok ended → HasReadInput R.remaining source.old source.new (λ input rest. (rest ≡ input) × (is_ended input ≡ Ok ended)) }
+    ensures fault { (kind : FaultSeen) → result ≡ Err (Missed.Fault kind) → HasFound R.remaining source.old source.new (λ input. is_ended input ≡ Err kind) }
+    ensures lost { result ≡ Err Missed.Input → HasFound R.remaining source.old source.new (λ input. Unit {0}) }
     ensures input { result ≡ Err Missed.Input → HasRisen (R.faults (source_reader source.old)) (R.faults (source_reader source.new)) }
     ensures missed { source_missed source.new ≡ missed_of result }
     ensures never_falls { HasRisenBy 0 (R.faults (source_reader source.old)) (R.faults (source_reader source.new)) }
-    ensures end { KnowsEnd R.remaining (source_block source.old) → KnowsEnd R.remaining (source_block source.new) }
+    ensures end { IsEndKnown R.remaining (source_block source.old) → IsEndKnown R.remaining (source_block source.new) }
 {
     source.ended()
 }
@@ -86,12 +86,12 @@ pub(crate) fn read_number<R: FaultyRead>(
 ) -> Option<()>
     requires can { Can here state.old (Instruction.Read to.now) }
     requires unmissed { source_missed source.old ≡ None }
-    ensures read { DidRead R.remaining here state.old (Instruction.Read to.now) source.old source.new state.new (on_after here result) }
+    ensures read { HasRead R.remaining here state.old (Instruction.Read to.now) source.old source.new state.new (on_after here result) }
     ensures quiet { IsQuiet state.old state.new }
     ensures unmissed { is_some result ≡ true → source_missed source.new ≡ None }
     ensures input { result ≡ None → state.new.ending ≡ Ending.NoInput → HasRisen (R.faults (source_reader source.old)) (R.faults (source_reader source.new)) }
     ensures never_falls { HasRisenBy 0 (R.faults (source_reader source.old)) (R.faults (source_reader source.new)) }
-    ensures end { KnowsEnd R.remaining (source_block source.old) → KnowsEnd R.remaining (source_block source.new) }
+    ensures end { IsEndKnown R.remaining (source_block source.old) → IsEndKnown R.remaining (source_block source.new) }
 {
     match next_number(source) {
         Err(missed) => unread(state, missed),
@@ -112,12 +112,12 @@ pub(crate) fn read_text<R: FaultyRead>(
 ) -> Option<()>
     requires can { Can here state.old (Instruction.ReadText to.now) }
     requires unmissed { source_missed source.old ≡ None }
-    ensures read { DidRead R.remaining here state.old (Instruction.ReadText to.now) source.old source.new state.new (on_after here result) }
+    ensures read { HasRead R.remaining here state.old (Instruction.ReadText to.now) source.old source.new state.new (on_after here result) }
     ensures quiet { IsQuiet state.old state.new }
     ensures unmissed { is_some result ≡ true → source_missed source.new ≡ None }
     ensures input { result ≡ None → state.new.ending ≡ Ending.NoInput → HasRisen (R.faults (source_reader source.old)) (R.faults (source_reader source.new)) }
     ensures never_falls { HasRisenBy 0 (R.faults (source_reader source.old)) (R.faults (source_reader source.new)) }
-    ensures end { KnowsEnd R.remaining (source_block source.old) → KnowsEnd R.remaining (source_block source.new) }
+    ensures end { IsEndKnown R.remaining (source_block source.old) → IsEndKnown R.remaining (source_block source.new) }
 {
     match next_text(source) {
         Err(missed) => unread(state, missed),
@@ -138,12 +138,12 @@ pub(crate) fn unless_ended<R: FaultyRead>(
 ) -> Option<bool>
     requires can { (skip : ℕ) × Can here state.old (Instruction.UnlessEnded skip negated) }
     requires unmissed { source_missed source.old ≡ None }
-    ensures read { (skip : ℕ) → DidRead R.remaining here state.old (Instruction.UnlessEnded skip negated) source.old source.new state.new (tested_at here result skip) }
+    ensures read { (skip : ℕ) → HasRead R.remaining here state.old (Instruction.UnlessEnded skip negated) source.old source.new state.new (tested_at here result skip) }
     ensures quiet { IsQuiet state.old state.new }
     ensures unmissed { is_some result ≡ true → source_missed source.new ≡ None }
     ensures input { result ≡ None → state.new.ending ≡ Ending.NoInput → HasRisen (R.faults (source_reader source.old)) (R.faults (source_reader source.new)) }
     ensures never_falls { HasRisenBy 0 (R.faults (source_reader source.old)) (R.faults (source_reader source.new)) }
-    ensures end { KnowsEnd R.remaining (source_block source.old) → KnowsEnd R.remaining (source_block source.new) }
+    ensures end { IsEndKnown R.remaining (source_block source.old) → IsEndKnown R.remaining (source_block source.new) }
 {
     match is_ended(source) {
         Err(missed) => unread(state, missed),

@@ -7,7 +7,7 @@ ghost use Rattle.ss_code_instructions.specs.Machine.{mean_item};
 ghost use Rattle.ss_meaning.specs.Statistics.{mean};
 ghost use Rattle.ss_meaning.specs.Store.{Store};
 ghost use Rattle.ss_machine_world.specs.Seen.{with_seen};
-ghost use Rattle.ss_machine_world.specs.Numbers.{HasValidSubject, RefersToSubject};
+ghost use Rattle.ss_machine_world.specs.Numbers.{HasValidSubject, IsReferenceToSubject};
 ghost use Rattle.ss_picture.specs.declared.items.Item.{Item as ItemSeen};
 ghost use Rattle.ss_machine.specs.Shown.{IsPrintable, CanShowOne, CanShow, AreShown, IsShown, cells_of};
 
@@ -38,7 +38,7 @@ impl Buffers {
 // A mean as an item. It was looked at before, so that there is one.
 fn mean_item(state: &State, statistic: usize, entity: i64) -> Item
     requires { HasValidSubject state.now.world statistic }
-    ensures shown { (o : Option ValueSeen) → RefersToSubject state.now.world statistic o entity → (s : Store) (x : ItemSeen) → mean_item (mean statistic o (with_seen s state.now.world)) ≡ Some x → x ≡ result }
+    ensures shown { (o : Option ValueSeen) → IsReferenceToSubject state.now.world statistic o entity → (s : Store) (x : ItemSeen) → mean_item (mean statistic o (with_seen s state.now.world)) ≡ Some x → x ≡ result }
     ensures printable { IsPrintable result }
 {
     match state.world.mean(statistic, entity) {

@@ -13,8 +13,8 @@ use Rattle.ss_meaning.specs.Values.{Failure, if_ok, sure}
 use Rattle.ss_meaning.specs.Store.{Notices, Store}
 use Rattle.ss_meaning.specs.Events.{Ranked, ranked, ranked_from, ties_of, filed_notice}
 use Rattle.ss_machine_world.specs.Classes.{has_keys}
-use Rattle.ss_machine_world.specs.Seen.{Seen, with_seen, ChangesWithMemory}
-use Rattle.ss_machine_events.specs.Scheduled.{IsNoticeClass, IsUntied, DoesIf, scheduled_known, IsUnfiled}
+use Rattle.ss_machine_world.specs.Seen.{Seen, with_seen, HasChangedWithMemory}
+use Rattle.ss_machine_events.specs.Scheduled.{IsNoticeClass, IsUntied, IsDoneIf, scheduled_known, IsUnfiled}
 use Rattle.ss_machine_events.proofs.Frozen.{is_there, not_there, ties_there}
 
 pub one : {A : Type 0} {x y : A} → Some x ≡ Some y → x ≡ y
@@ -51,7 +51,7 @@ module _ (e : Seen) (class : ℕ) (n t : ℤ) (c : IsNoticeClass e class) where
   by_rank s m o = if_ok (sure o) (λ r. if_ok (ties_of class (Whole n) (with_seen s e) r.said.ties) (λ ties. scheduled_known (record { time = t; rank = r.rank; ties = ties }) m (with_seen s e)))
 
   -- the notice is not there
-  pub none_filed : (kind : FaultKind) → known_in e.heap class n ≡ Err kind → ChangesWithMemory (filed_notice class (Whole n) t) e e (Err (Fault kind))
+  pub none_filed : (kind : FaultKind) → known_in e.heap class n ≡ Err kind → HasChangedWithMemory (filed_notice class (Whole n) t) e e (Err (Fault kind))
   none_filed kind known = (λ s. ap (λ (r : OkOr ℤ Failure). if_ok {B = Store} r (λ m. by_rank s m (ranked class (with_seen s e)))) (not_there e class n s c.within kind known), refl)
 
   module _ (known : known_in e.heap class n ≡ Ok tt) where
@@ -66,16 +66,16 @@ module _ (e : Seen) (class : ℕ) (n t : ℤ) (c : IsNoticeClass e class) where
         ∙ ap (λ (r : OkOr (List Tie) Failure). if_ok {B = Store} r (λ ties. scheduled_known (key ties) n (with_seen s e))) frozen
 
     -- it is filed under its key, or is not
-    pub files : (ties : List Tie) (new : Seen) (b : Bool) → ((s : Store) → ties_of class (Whole n) (with_seen s e) c.ranked.said.ties ≡ Ok ties) → DoesIf (scheduled_known (key ties) n) b e new → DoesIf (filed_notice class (Whole n) t) b e new
+    pub files : (ties : List Tie) (new : Seen) (b : Bool) → ((s : Store) → ties_of class (Whole n) (with_seen s e) c.ranked.said.ties ≡ Ok ties) → IsDoneIf (scheduled_known (key ties) n) b e new → IsDoneIf (filed_notice class (Whole n) t) b e new
     files ties new true frozen did = λ s. filed_by s ties (frozen s) ∙ did s
     files ties new false frozen did = did
 
     -- and where it has no ties
-    pub files_untied : IsUntied e.notices class → (new : Seen) (b : Bool) → DoesIf (scheduled_known (key []) n) b e new → DoesIf (filed_notice class (Whole n) t) b e new
+    pub files_untied : IsUntied e.notices class → (new : Seen) (b : Bool) → IsDoneIf (scheduled_known (key []) n) b e new → IsDoneIf (filed_notice class (Whole n) t) b e new
     files_untied untied new b did = files [] new b (λ s. ap (ties_of class (Whole n) (with_seen s e)) (untied c.ranked c.is)) did
 
     -- why it is not filed
-    pub not_filed : (u : Refused) → IsUnfiled t n e u → ChangesWithMemory (filed_notice class (Whole n) t) e e (Err u)
+    pub not_filed : (u : Refused) → IsUnfiled t n e u → HasChangedWithMemory (filed_notice class (Whole n) t) e e (Err u)
     not_filed (Fault kind) h = (
       λ s.
           let ties = ties_there e class n s c.within known c.ranked.said.ties c.fields in

@@ -16,7 +16,7 @@ use Rattle.ss_meaning.specs.Store.{Store}
 use Rattle.ss_meaning.specs.Entities.{field_at, entity, attribute}
 use Rattle.ss_meaning.specs.Events.{ties_of}
 use Rattle.ss_machine_world.specs.Seen.{Seen, with_seen}
-use Rattle.ss_machine_events.specs.Scheduled.{HasKeyField, IsTied, AddsTie}
+use Rattle.ss_machine_events.specs.Scheduled.{HasKeyField, IsTied, HasAddedTie}
 
 -- ## An attribute of an entity that is there
 
@@ -62,7 +62,7 @@ module _ (e : Seen) (class : ℕ) (n : ℤ) (s : Store) (within : class < length
 
 -- ## One tie after the other
 
-pub adds_tie : (f : Store → OkOr Value Failure) (v : Value) (high : Bool) (e : Seen) (old new : List Tie) (r : OkOr (Unit {0}) Refused) → ((s : Store) → f (with_seen s e) ≡ Ok v) → IsTied v high old new r → AddsTie f high e old new r
+pub adds_tie : (f : Store → OkOr Value Failure) (v : Value) (high : Bool) (e : Seen) (old new : List Tie) (r : OkOr (Unit {0}) Refused) → ((s : Store) → f (with_seen s e) ≡ Ok v) → IsTied v high old new r → HasAddedTie f high e old new r
 adds_tie f v high e old new (Ok u) found h = (v, h, found)
 adds_tie f v high e old new (Err refused) found h = tt
 

@@ -12,7 +12,7 @@ use Rattle.ss_world.specs.State.{State}
 use Rattle.ss_meaning.specs.Values.{Fails, turned, due, unless_fault}
 use Rattle.ss_meaning.specs.Store.{Notices, Store, with_pending}
 use Rattle.ss_meaning.specs.Events.{not_past}
-use Rattle.ss_machine_time.specs.Times.{Times, Schedules, TakesNext}
+use Rattle.ss_machine_time.specs.Times.{Times, HasScheduled, HasTakenNext}
 use Rattle.ss_machine_world.specs.Seen.{Seen, IsRight}
 
 -- a world, by what passes in time in it
@@ -62,11 +62,11 @@ module _ (past : Bool) (r : OkOr PendingList FaultKind) (s : Store) where
       by false (Err k) e = cc
 
 -- no statistic changes
-pub scheduled_statistics : (t u : Times) (key : SortKey) (n : ℤ) (r : OkOr (Unit {0}) Refused) → Schedules key n t u r → u.histories.statistics ≡ t.histories.statistics
+pub scheduled_statistics : (t u : Times) (key : SortKey) (n : ℤ) (r : OkOr (Unit {0}) Refused) → HasScheduled key n t u r → u.histories.statistics ≡ t.histories.statistics
 scheduled_statistics t u key n (Ok done) e = ap (λ (w : Times). w.histories.statistics) e.1
 scheduled_statistics t u key n (Err (Fault kind)) e = ap (λ (w : Times). w.histories.statistics) e.1
 scheduled_statistics t u key n (Err Memory) e = ap (λ (w : Times). w.histories.statistics) e.1
 
-pub next_statistics : (t u : Times) (r : Option ℤ) → TakesNext t u r → u.histories.statistics ≡ t.histories.statistics
+pub next_statistics : (t u : Times) (r : Option ℤ) → HasTakenNext t u r → u.histories.statistics ≡ t.histories.statistics
 next_statistics t u None e = ap (λ (w : Times). w.histories.statistics) e.1
 next_statistics t u (Some n) e = ap (λ (w : Times). w.histories.statistics) e.1

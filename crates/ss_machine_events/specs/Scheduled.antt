@@ -15,7 +15,7 @@ use Rattle.ss_world.specs.State.{modes_of}
 use Rattle.ss_meaning.specs.Values.{Failure, Fails, if_ok, turned, due, unless_fault}
 use Rattle.ss_meaning.specs.Store.{Notices, Store, with_pending}
 use Rattle.ss_meaning.specs.Events.{Ranked, ranked_from, not_past}
-use Rattle.ss_machine_world.specs.Seen.{Seen, GoesWell, with_seen}
+use Rattle.ss_machine_world.specs.Seen.{Seen, IsAlwaysOk, with_seen}
 
 -- ## Times
 
@@ -48,16 +48,16 @@ IsTied v high old new (Ok u) = new ≡ old ++ record { value = v; high = high } 
 IsTied v high old new (Err refused) = Unit {0}
 
 -- the value that an operation finds is added after other ties, or there is a reason why not
-abbrev pub AddsTie : (Store → Result Value Failure) → (high : Bool) → Seen → (old new : List Tie) → Result (Unit {0}) Refused → Type 0
-AddsTie f high e old new (Ok u) = (v : Value) × (new ≡ old ++ record { value = v; high = high } ∷ []) × ((s : Store) → f (with_seen s e) ≡ Ok v)
-AddsTie f high e old new (Err refused) = Unit {0}
+abbrev pub HasAddedTie : (Store → Result Value Failure) → (high : Bool) → Seen → (old new : List Tie) → Result (Unit {0}) Refused → Type 0
+HasAddedTie f high e old new (Ok u) = (v : Value) × (new ≡ old ++ record { value = v; high = high } ∷ []) × ((s : Store) → f (with_seen s e) ≡ Ok v)
+HasAddedTie f high e old new (Err refused) = Unit {0}
 
 -- ## Filing
 
 -- an operation says whether it did what it does; if not, nothing has changed
-abbrev pub DoesIf : (Store → Result Store Failure) → (is_done : Bool) → (old new : Seen) → Type 0
-DoesIf f true old new = (s : Store) → f (with_seen s old) ≡ Ok (with_seen s new)
-DoesIf f false old new = new ≡ old
+abbrev pub IsDoneIf : (Store → Result Store Failure) → (is_done : Bool) → (old new : Seen) → Type 0
+IsDoneIf f true old new = (s : Store) → f (with_seen s old) ≡ Ok (with_seen s new)
+IsDoneIf f false old new = new ≡ old
 
 -- what filing a notice does once its key is known
 abbrev pub scheduled_known : SortKey → (notice : ℤ) → Store → Result Store Failure
@@ -66,4 +66,4 @@ scheduled_known key n s = unless_fault (int_lt key.time s.world.time) PastTime (
 -- why a notice is not filed for a time: for the fault that is due to each key of this time, or none is
 abbrev pub IsUnfiled : (time notice : ℤ) → Seen → Refused → Type 0
 IsUnfiled t n e (Fault kind) = (key : SortKey) → key.time ≡ t → (s : Store) → scheduled_known key n (with_seen s e) ≡ Err (Fails kind)
-IsUnfiled t n e Memory = (key : SortKey) → key.time ≡ t → GoesWell (scheduled_known key n) e
+IsUnfiled t n e Memory = (key : SortKey) → key.time ≡ t → IsAlwaysOk (scheduled_known key n) e

@@ -7,8 +7,8 @@ ghost use Rattle.ss_world.specs.State.{known_in};
 ghost use Rattle.ss_meaning.specs.Entities.{attribute};
 ghost use Rattle.ss_meaning.specs.Events.{not_past, ties_of, filed_notice};
 ghost use Rattle.ss_meaning.specs.Store.{Notices, Store as StoreSeen};
-ghost use Rattle.ss_machine_world.specs.Seen.{Looks, ChangesWithMemory, with_seen};
-ghost use Rattle.ss_machine_events.specs.Scheduled.{time_after, HasKeyField, IsNoticeClass, IsUntied, IsTied, AddsTie, DoesIf, scheduled_known, IsUnfiled};
+ghost use Rattle.ss_machine_world.specs.Seen.{HasAnswer, HasChangedWithMemory, with_seen};
+ghost use Rattle.ss_machine_events.specs.Scheduled.{time_after, HasKeyField, IsNoticeClass, IsUntied, IsTied, HasAddedTie, IsDoneIf, scheduled_known, IsUnfiled};
 
 use ss_base::{FaultKind, RankKey, Refused, Value, plus};
 use ss_events::Key;
@@ -19,7 +19,7 @@ use std::alloc::Global;
 /// A time that is not past. Faults: 13.
 #[inline(always)]
 pub fn time_at(world: &World, time: i64) -> Result<i64, FaultKind>
-    ensures { Looks (not_past time) world.now result }
+    ensures { HasAnswer (not_past time) world.now result }
 {
     if time < world.timeline.time() {
         return Err(FaultKind::PastTime);
@@ -30,7 +30,7 @@ pub fn time_at(world: &World, time: i64) -> Result<i64, FaultKind>
 /// The time that is so many units from now. Faults: 14, then 13.
 #[inline(always)]
 pub fn time_in(world: &World, units: i64) -> Result<i64, FaultKind>
-    ensures { Looks (time_after units) world.now result }
+    ensures { HasAnswer (time_after units) world.now result }
 {
     match plus(world.timeline.time(), units) {
         Ok(time) => time_at(world, time),
@@ -61,7 +61,7 @@ fn freeze_one(
     requires class { class < length world.now.heap.layout.classes }
     requires known { known_in world.now.heap class notice ≡ Ok tt }
     requires field { HasKeyField world.now.heap.layout class key }
-    ensures { AddsTie (attribute class key.field (Whole notice)) key.high world.now ties.old.items ties.new.items result }
+    ensures { HasAddedTie (attribute class key.field (Whole notice)) key.high world.now ties.old.items ties.new.items result }
 {
     match world.population.value(class, key.field, notice) {
         Err(kind) => Err(Refused::Fault(kind)),
@@ -95,7 +95,7 @@ fn frozen(
 // A notice is pending under a key; and says whether it is.
 #[inline(always)]
 fn file_under(world: &mut World, key: Key, notice: i64) -> bool
-    ensures { DoesIf (scheduled_known key notice) result world.old world.new }
+    ensures { IsDoneIf (scheduled_known key notice) result world.old world.new }
 {
     match world.timeline.schedule(key, notice) {
         Ok(()) => true,
@@ -119,7 +119,7 @@ fn keys_of(world: &World, rank: usize) -> &[RankKey]
 fn schedule_tied(world: &mut World, alloc: Global, class: usize, notice: i64, time: i64) -> bool
     requires notices { IsNoticeClass world.old class }
     requires known { known_in world.old.heap class notice ≡ Ok tt }
-    ensures { DoesIf (filed_notice class (Whole notice) time) result world.old world.new }
+    ensures { IsDoneIf (filed_notice class (Whole notice) time) result world.old world.new }
 {
     let rank = world.rank(class);
     let keys = keys_of(world, rank);
@@ -135,7 +135,7 @@ fn schedule_untied(world: &mut World, alloc: Global, class: usize, notice: i64, 
     requires notices { IsNoticeClass world.old class }
     requires known { known_in world.old.heap class notice ≡ Ok tt }
     requires untied { IsUntied world.old.notices class }
-    ensures { DoesIf (filed_notice class (Whole notice) time) result world.old world.new }
+    ensures { IsDoneIf (filed_notice class (Whole notice) time) result world.old world.new }
 {
     let rank = world.rank(class);
     file_under(world, Key::with_ties(time, rank, Vec::new(alloc)), notice)
@@ -146,7 +146,7 @@ fn schedule_untied(world: &mut World, alloc: Global, class: usize, notice: i64, 
 fn file(world: &mut World, alloc: Global, class: usize, notice: i64, time: i64) -> bool
     requires notices { IsNoticeClass world.old class }
     requires known { known_in world.old.heap class notice ≡ Ok tt }
-    ensures { DoesIf (filed_notice class (Whole notice) time) result world.old world.new }
+    ensures { IsDoneIf (filed_notice class (Whole notice) time) result world.old world.new }
 {
     if world.has_ties(class) {
         schedule_tied(world, alloc, class, notice, time)
@@ -179,7 +179,7 @@ pub fn schedule(
     time: i64,
 ) -> Result<(), Refused>
     requires notices { IsNoticeClass world.old class }
-    ensures { ChangesWithMemory (filed_notice class (Whole notice) time) world.old world.new result }
+    ensures { HasChangedWithMemory (filed_notice class (Whole notice) time) world.old world.new result }
 {
     match world.population.known(class, notice) {
         Err(kind) => Err(Refused::Fault(kind)),

@@ -7,28 +7,28 @@ use Rattle.ss_base.specs.declared.value.Value.TheVariants.{Whole, Text}
 use Rattle.ss_base.specs.Layout.{mode_of, first_value}
 use Rattle.ss_meaning.specs.Values.{same_mode}
 use Rattle.ss_meaning.specs.Store.{Store, first_values, prepended, taken_by_modes, appended, opened}
-use Rattle.ss_meaning.specs.Fitting.{Hold}
+use Rattle.ss_meaning.specs.Fitting.{AreOfModes}
 use Rattle.ss_code_instructions.specs.States.{Called, Core, TakenOff, take_off}
 use Rattle.ss_machine_frames.specs.declared.frames.Frame.{Frame as Call}
-use Rattle.ss_machine_frames.specs.Rows.{TwoRows, with_value, cleared, Agree, Grown}
-use Rattle.ss_machine_frames.specs.Holding.{AllAt, CellsAt, CallsAt, HoldsCore}
+use Rattle.ss_machine_frames.specs.Rows.{TwoRows, with_value, cleared, AreAlike, AreGrown}
+use Rattle.ss_machine_frames.specs.Holding.{AreValuesAt, AreCellsAt, AreCallsAt, IsCoreHeld}
 use Rattle.ss_machine_frames.proofs.Lists.{set_length}
 use Rattle.ss_machine_frames.proofs.Places.{agree_out, agree_within, agree_on, elsewhere_value, value_same, value_agrees, all_agree, cells_agree, low_under, calls_agree}
 
 -- ## Values that lie one after the other
 
-pub all_append : (r : TwoRows) (i : ℕ) (vs ws : List Value) → AllAt r i vs → AllAt r (i + length vs) ws → AllAt r i (vs ++ ws)
-all_append r i [] ws h g = let e : i + 0 ≡ i = omega arith in subst (λ j. AllAt r j ws) e g
+pub all_append : (r : TwoRows) (i : ℕ) (vs ws : List Value) → AreValuesAt r i vs → AreValuesAt r (i + length vs) ws → AreValuesAt r i (vs ++ ws)
+all_append r i [] ws h g = let e : i + 0 ≡ i = omega arith in subst (λ j. AreValuesAt r j ws) e g
 all_append r i (v ∷ vs) ws h g =
     let e : i + length (v ∷ vs) ≡ i + 1 + length vs = omega arith in
-    (h.0, all_append r (i + 1) vs ws h.1 (subst (λ j. AllAt r j ws) e g))
+    (h.0, all_append r (i + 1) vs ws h.1 (subst (λ j. AreValuesAt r j ws) e g))
 
 -- the topmost cells lie where the first variables of a frame lie that begins at the lowest of them
 pub record Cut (r : TwoRows) (i : ℕ) (b : TakenOff) : Type 0 where
-  pub values : AllAt r (i + length b.below) b.values
-  pub below : CellsAt r i b.below
+  pub values : AreValuesAt r (i + length b.below) b.values
+  pub below : AreCellsAt r i b.below
 
-pub cut : (r : TwoRows) (i count : ℕ) (cells vs : List Value) (b : TakenOff) → CellsAt r i cells → AllAt r (i + length cells) vs → take_off count cells vs ≡ Some b → Cut r i b
+pub cut : (r : TwoRows) (i count : ℕ) (cells vs : List Value) (b : TakenOff) → AreCellsAt r i cells → AreValuesAt r (i + length cells) vs → take_off count cells vs ≡ Some b → Cut r i b
 cut r i zero cells vs b h g e =
     let d : TakenOff = record { values = vs; below = cells } in
     let q : d ≡ b = cc in
@@ -36,7 +36,7 @@ cut r i zero cells vs b h g e =
 cut r i (suc k) [] vs b h g e = absurd cc
 cut r i (suc k) (v ∷ cells) vs b h g e =
     let n : i + length (v ∷ cells) ≡ i + length cells + 1 = omega arith in
-    cut r i k cells (v ∷ vs) b h.1 (h.0, subst (λ j. AllAt r j vs) n g) e
+    cut r i k cells (v ∷ vs) b h.1 (h.0, subst (λ j. AreValuesAt r j vs) n g) e
 
 -- ## First values
 
@@ -52,14 +52,14 @@ pub cleared_long : (r : TwoRows) (i : ℕ) (ms : List Mode) → length (cleared 
 cleared_long r i [] = refl
 cleared_long r i (m ∷ ms) = cleared_long (with_value r i (first_value m)) (i + 1) ms ∙ value_long r i (first_value m)
 
-pub cleared_below : (r : TwoRows) (i : ℕ) (ms : List Mode) → Agree r (cleared r i ms) 0 i
+pub cleared_below : (r : TwoRows) (i : ℕ) (ms : List Mode) → AreAlike r (cleared r i ms) 0 i
 cleared_below r i [] = record { numbers = λ j a b. refl; texts = λ j a b. refl }
 cleared_below r i (m ∷ ms) =
     let s = with_value r i (first_value m) in
     agree_on r s (cleared s (i + 1) ms) 0 i (agree_out r s i 0 i (elsewhere_value r i (first_value m)) (inr (omega arith)))
     (agree_within s (cleared s (i + 1) ms) 0 (i + 1) 0 i (omega arith) (omega arith) (cleared_below s (i + 1) ms))
 
-pub cleared_all : (r : TwoRows) (i : ℕ) (ms : List Mode) → length r.texts ≡ length r.numbers → i + length ms ≤ length r.numbers → AllAt (cleared r i ms) i (first_values ms)
+pub cleared_all : (r : TwoRows) (i : ℕ) (ms : List Mode) → length r.texts ≡ length r.numbers → i + length ms ≤ length r.numbers → AreValuesAt (cleared r i ms) i (first_values ms)
 cleared_all r i [] e h = tt
 cleared_all r i (m ∷ ms) e h =
     let v = first_value m in
@@ -71,7 +71,7 @@ cleared_all r i (m ∷ ms) e h =
 -- ## Variables of a section
 
 -- what is given is of the modes that are wanted
-pub taken_is : (modes : List Mode) (vs : List Value) → Hold vs modes → taken_by_modes modes vs ≡ Some vs
+pub taken_is : (modes : List Mode) (vs : List Value) → AreOfModes vs modes → taken_by_modes modes vs ≡ Some vs
 taken_is [] [] h = refl
 taken_is [] (v ∷ vs) h = absurd cc
 taken_is (m ∷ modes) [] h = absurd cc
@@ -87,29 +87,29 @@ taken_is (m ∷ modes) (v ∷ vs) h =
     same : mode_of v ≡ m → same_mode (mode_of v) m ≡ true
     same e = subst (λ n. same_mode (mode_of v) n ≡ true) e (itself (mode_of v))
 
-pub opened_is : (given others : List Mode) (vs : List Value) → Hold vs given → opened given others vs ≡ Some (vs ++ first_values others)
+pub opened_is : (given others : List Mode) (vs : List Value) → AreOfModes vs given → opened given others vs ≡ Some (vs ++ first_values others)
 opened_is given others vs h = ap (λ o. appended o (first_values others)) (taken_is given vs h)
 
 -- ## The new frame
 
 -- What is held once a section is entered with these variables: the rows are as they were below the new frame, which begins where the cells end that stay.
-pub entered : (constants : List Value) (depth frame frame' : ℕ) (r s : TwoRows) (calls : List Call) (g : Call) (c : Core) (st : Store) (below variables : List Value) (place back first count : ℕ) (called : Called) → HoldsCore constants depth frame r calls c → CellsAt r (frame + length c.store.locals) below → frame' ≡ frame + length c.store.locals + length below → Agree r s 0 frame' → AllAt s frame' variables → frame' + length variables + depth ≤ length s.numbers → length s.numbers < 2 ^ 63 → st.globals ≡ c.store.globals → g.back ≡ back → g.caller ≡ frame → g.given ≡ first → g.yielding ≡ count → HoldsCore constants depth frame' s (g ∷ calls) (record { place = place; cells = []; frames = record { back = back; cells = below; locals = c.store.locals; first = first; count = count; called = called } ∷ c.frames; store = record st { locals = variables } })
+pub entered : (constants : List Value) (depth frame frame' : ℕ) (r s : TwoRows) (calls : List Call) (g : Call) (c : Core) (st : Store) (below variables : List Value) (place back first count : ℕ) (called : Called) → IsCoreHeld constants depth frame r calls c → AreCellsAt r (frame + length c.store.locals) below → frame' ≡ frame + length c.store.locals + length below → AreAlike r s 0 frame' → AreValuesAt s frame' variables → frame' + length variables + depth ≤ length s.numbers → length s.numbers < 2 ^ 63 → st.globals ≡ c.store.globals → g.back ≡ back → g.caller ≡ frame → g.given ≡ first → g.yielding ≡ count → IsCoreHeld constants depth frame' s (g ∷ calls) (record { place = place; cells = []; frames = record { back = back; cells = below; locals = c.store.locals; first = first; count = count; called = called } ∷ c.frames; store = record st { locals = variables } })
 entered constants depth frame frame' r s calls g c st below variables place back first count called h here begin a all room small globals g_back g_caller g_given g_yielding =
     let under = low_under r (length c.store.globals + length constants) frame calls c.frames h.open_calls in
     let n = c.store.globals in
     record {
-      globals = subst (λ vs. AllAt s 0 vs) (sym globals) (all_agree r s 0 n (agree_within r s 0 frame' 0 (0 + length n) (omega arith) (omega (arith, under, begin)) a) h.globals);
-      fixed = subst (λ (vs : List Value). AllAt s (length vs) constants) (sym globals) (all_agree r s (length n) constants (agree_within r s 0 frame' (length n) (length n + length constants) (omega arith) (omega (arith, under, begin)) a) h.fixed);
+      globals = subst (λ vs. AreValuesAt s 0 vs) (sym globals) (all_agree r s 0 n (agree_within r s 0 frame' 0 (0 + length n) (omega arith) (omega (arith, under, begin)) a) h.globals);
+      fixed = subst (λ (vs : List Value). AreValuesAt s (length vs) constants) (sym globals) (all_agree r s (length n) constants (agree_within r s 0 frame' (length n) (length n + length constants) (omega arith) (omega (arith, under, begin)) a) h.fixed);
       locals = all;
       cells = tt;
-      open_calls = subst (λ (vs : List Value). CallsAt s (length vs + length constants) frame' (g ∷ calls) (record { back = back; cells = below; locals = c.store.locals; first = first; count = count; called = called } ∷ c.frames)) (sym globals) (
+      open_calls = subst (λ (vs : List Value). AreCallsAt s (length vs + length constants) frame' (g ∷ calls) (record { back = back; cells = below; locals = c.store.locals; first = first; count = count; called = called } ∷ c.frames)) (sym globals) (
         g_back,
         g_given,
         g_yielding,
-        subst (λ j. AllAt s j c.store.locals) (sym g_caller) (all_agree r s frame c.store.locals (agree_within r s 0 frame' frame (frame + length c.store.locals) (omega arith) (omega (arith, begin)) a) h.locals),
-        subst (λ j. CellsAt s (j + length c.store.locals) below) (sym g_caller) (cells_agree r s (frame + length c.store.locals) below (agree_within r s 0 frame' (frame + length c.store.locals) (frame + length c.store.locals + length below) (omega arith) (omega (arith, begin)) a) here),
+        subst (λ j. AreValuesAt s j c.store.locals) (sym g_caller) (all_agree r s frame c.store.locals (agree_within r s 0 frame' frame (frame + length c.store.locals) (omega arith) (omega (arith, begin)) a) h.locals),
+        subst (λ j. AreCellsAt s (j + length c.store.locals) below) (sym g_caller) (cells_agree r s (frame + length c.store.locals) below (agree_within r s 0 frame' (frame + length c.store.locals) (frame + length c.store.locals + length below) (omega arith) (omega (arith, begin)) a) here),
         begin ∙ ap (λ j. j + length c.store.locals + length below) (sym g_caller),
-        subst (λ j. CallsAt s (length n + length constants) j calls c.frames) (sym g_caller) (calls_agree r s (length n + length constants) frame calls c.frames (agree_within r s 0 frame' (length n + length constants) frame (omega arith) (omega (arith, begin)) a) h.open_calls),
+        subst (λ j. AreCallsAt s (length n + length constants) j calls c.frames) (sym g_caller) (calls_agree r s (length n + length constants) frame calls c.frames (agree_within r s 0 frame' (length n + length constants) frame (omega arith) (omega (arith, begin)) a) h.open_calls),
       );
       room = room;
       small = small;
@@ -117,10 +117,10 @@ entered constants depth frame frame' r s calls g c st below variables place back
 
 -- the rows of a section that was called: they have grown, and then its other variables got their first values
 pub record Opened (r s : TwoRows) (frame : ℕ) (variables : List Value) : Type 0 where
-  pub agree : Agree r s 0 frame
-  pub all : AllAt s frame variables
+  pub agree : AreAlike r s 0 frame
+  pub all : AreValuesAt s frame variables
 
-pub opened_rows : (r grown : TwoRows) (frame count : ℕ) (given : List Value) (others : List Mode) → Grown r grown → length grown.texts ≡ length grown.numbers → frame + length given ≤ length r.numbers → AllAt r frame given → frame + count + length others ≤ length grown.numbers → length given ≡ count → Opened r (cleared grown (frame + count) others) frame (given ++ first_values others)
+pub opened_rows : (r grown : TwoRows) (frame count : ℕ) (given : List Value) (others : List Mode) → AreGrown r grown → length grown.texts ≡ length grown.numbers → frame + length given ≤ length r.numbers → AreValuesAt r frame given → frame + count + length others ≤ length grown.numbers → length given ≡ count → Opened r (cleared grown (frame + count) others) frame (given ++ first_values others)
 opened_rows r grown frame count given others g even there here room long =
     let from = frame + count in
     let s = cleared grown from others in
@@ -130,5 +130,5 @@ opened_rows r grown frame count given others g even there here room long =
     let at : from ≡ frame + length given = omega (arith, long) in
     record {
       agree = agree_within r s 0 (frame + length given) 0 frame (omega arith) (omega arith) both;
-      all = all_append s frame given (first_values others) (all_agree r s frame given (agree_within r s 0 (frame + length given) frame (frame + length given) (omega arith) (omega arith) both) here) (subst (λ j. AllAt s j (first_values others)) at (cleared_all grown from others even room));
+      all = all_append s frame given (first_values others) (all_agree r s frame given (agree_within r s 0 (frame + length given) frame (frame + length given) (omega arith) (omega arith) both) here) (subst (λ j. AreValuesAt s j (first_values others)) at (cleared_all grown from others even room));
     }

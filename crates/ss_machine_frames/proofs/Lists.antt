@@ -4,7 +4,7 @@ use Rattle.std.specs.Prelude.{slice_get, slice_set, reverse, ℤ}
 use Rattle.std.specs.Vec.{with_items}
 use Rattle.std.proofs.lemmas.Option.{slice_get-get_or}
 use Rattle.std.proofs.lemmas.List.{length-take-le, length-reverse, length-drop, get_or-reverse, with_items_is}
-use Rattle.ss_machine_frames.specs.Rows.{TwoRows, Grown, Turned, MovedDown, TurnedDown}
+use Rattle.ss_machine_frames.specs.Rows.{TwoRows, AreGrown, IsTurned, IsMovedDown, IsTurnedDown}
 
 pub set_same : {A : Type 0} (xs : List A) (i : ℕ) (v : A) → i < length xs → slice_get (slice_set xs i v) i ≡ Some v
 set_same [] i v h = absurd (omega (arith, h))
@@ -59,7 +59,7 @@ get_reverse (d ∷ xs) k i e =
 -- ## Items that change their order and go down
 
 -- a part is turned where it lies
-pub turned_part : {A : Type 0} (xs new part : List A) (from count : ℕ) → from + count ≤ length xs → length new ≡ length xs → part ≡ reverse (take count (drop from xs)) → new ≡ take from xs ++ (part ++ drop count (drop from xs)) → Turned xs new from count
+pub turned_part : {A : Type 0} (xs new part : List A) (from count : ℕ) → from + count ≤ length xs → length new ≡ length xs → part ≡ reverse (take count (drop from xs)) → new ≡ take from xs ++ (part ++ drop count (drop from xs)) → IsTurned xs new from count
 turned_part xs new part from count le long p e = record {
   long = long;
   moved = λ k i s.
@@ -93,7 +93,7 @@ pub record GoingDown {A : Type 0} (old new : List A) (from to done : ℕ) : Type
   pub ahead : (j : ℕ) → to + done ≤ j → slice_get new j ≡ slice_get old j
 
 -- turned, and then moved
-pub turned_down : {A : Type 0} (old mid new : List A) (from to count : ℕ) → to ≤ from → Turned old mid from count → MovedDown mid new from to count → TurnedDown old new from to count
+pub turned_down : {A : Type 0} (old mid new : List A) (from to count : ℕ) → to ≤ from → IsTurned old mid from count → IsMovedDown mid new from to count → IsTurnedDown old new from to count
 turned_down old mid new from to count down t m = record {
   long = m.long ∙ t.long;
   moved = λ k i s. m.moved i (omega (arith, s)) ∙ t.moved k i s;
@@ -101,13 +101,13 @@ turned_down old mid new from to count down t m = record {
 }
 
 -- the items of a vector were turned as a slice, and then moved as one
-pub row_yielded : {A Z : Type 0} (v : Vec A Z) (first mid second new : List A) (from to count : ℕ) → to ≤ from → first ≡ v.items → Turned first mid from count → second ≡ (with_items v mid).items → MovedDown second new from to count → TurnedDown v.items (with_items (with_items v mid) new).items from to count
+pub row_yielded : {A Z : Type 0} (v : Vec A Z) (first mid second new : List A) (from to count : ℕ) → to ≤ from → first ≡ v.items → IsTurned first mid from count → second ≡ (with_items v mid).items → IsMovedDown second new from to count → IsTurnedDown v.items (with_items (with_items v mid) new).items from to count
 row_yielded v first mid second new from to count down f t s d =
     let mid_long : length mid ≡ v.len = t.long ∙ ap length f ∙ sym v.ok.0 in
     let second_is : second ≡ mid = s ∙ with_items_is v mid mid_long in
     let new_is = with_items_is (with_items v mid) new (d.long ∙ ap length second_is ∙ mid_long) in
-    subst (λ l. TurnedDown v.items l from to count) (sym new_is)
-    (turned_down v.items mid new from to count down (subst (λ l. Turned l mid from count) f t) (subst (λ l. MovedDown l new from to count) second_is d))
+    subst (λ l. IsTurnedDown v.items l from to count) (sym new_is)
+    (turned_down v.items mid new from to count down (subst (λ l. IsTurned l mid from count) f t) (subst (λ l. IsMovedDown l new from to count) second_is d))
 
 -- ## One place more
 
@@ -123,7 +123,7 @@ longer_texts r z t = length-append r.texts (t ∷ [])
 
 -- the rows are of one length, and have grown
 pub record GrownEven (old new : TwoRows) : Type 0 where
-  pub grown : Grown old new
+  pub grown : AreGrown old new
   pub even : length new.texts ≡ length new.numbers
 
 pub grown_more : (old r new : TwoRows) (z : ℤ) (t : List ℕ) → new ≡ one_longer r z t → GrownEven old r → GrownEven old new

@@ -1,7 +1,7 @@
 //! The rows in which values lie.
 
 ghost use Rattle.std.specs.Prelude.{◌≡◌, [], ◌∷◌, ◌++◌, ◌+◌, ◌<◌, ◌≤◌, ◌^◌, length, Some, slice_get, OnOk, OnErr};
-ghost use Rattle.ss_machine_frames.specs.Rows.{TwoRows, place_at, with_number, with_text, with_last, cleared, Grown, Turned, MovedDown, Yielded};
+ghost use Rattle.ss_machine_frames.specs.Rows.{TwoRows, place_at, with_number, with_text, with_last, cleared, AreGrown, IsTurned, IsMovedDown, AreYielded};
 
 use ss_base::{Alpha, Mode, Value};
 use ss_code_instructions::address::Address;
@@ -39,7 +39,7 @@ pub fn place_of(frame: usize, address: &Address) -> usize
 // So many numbers from a place on change their order.
 fn turn_numbers(row: &mut [i64], from: usize, count: usize)
     requires { from + count ≤ length row.old }
-    ensures { Turned row.old row.new from count }
+    ensures { IsTurned row.old row.new from count }
 {
     row[from..from + count].reverse();
 }
@@ -47,7 +47,7 @@ fn turn_numbers(row: &mut [i64], from: usize, count: usize)
 // So many texts from a place on change their order.
 fn turn_texts(row: &mut [Alpha], from: usize, count: usize)
     requires { from + count ≤ length row.old }
-    ensures { Turned row.old row.new from count }
+    ensures { IsTurned row.old row.new from count }
 {
     row[from..from + count].reverse();
 }
@@ -56,7 +56,7 @@ fn turn_texts(row: &mut [Alpha], from: usize, count: usize)
 fn move_numbers(row: &mut [i64], from: usize, to: usize, count: usize)
     requires down { to ≤ from }
     requires within { from + count ≤ length row.old }
-    ensures { MovedDown row.old row.new from to count }
+    ensures { IsMovedDown row.old row.new from to count }
 {
     for i in 0..count {
         row[to + i] = row[from + i];
@@ -67,7 +67,7 @@ fn move_numbers(row: &mut [i64], from: usize, to: usize, count: usize)
 fn move_texts(row: &mut [Alpha], from: usize, to: usize, count: usize)
     requires down { to ≤ from }
     requires within { from + count ≤ length row.old }
-    ensures { MovedDown row.old row.new from to count }
+    ensures { IsMovedDown row.old row.new from to count }
 {
     for i in 0..count {
         row[to + i] = row[from + i];
@@ -138,7 +138,7 @@ impl Rows {
     /// At least so many places. The error comes where memory was refused. Then there may be more places than before.
     #[inline(never)]
     pub fn lengthen(&mut self, count: usize) -> Result<(), AllocError>
-        ensures grown { Grown self.old self.new }
+        ensures grown { AreGrown self.old self.new }
         ensures even { length self.new.texts ≡ length self.new.numbers }
         ensures room { OnOk result (count ≤ length self.new.numbers) }
         ensures small { OnOk result (count < 2 ^ 63) }
@@ -154,7 +154,7 @@ impl Rows {
     /// At least so many places, as `lengthen`. Where there are as many, nothing changes.
     #[inline(always)]
     pub fn reach(&mut self, count: usize) -> Result<(), AllocError>
-        ensures grown { Grown self.old self.new }
+        ensures grown { AreGrown self.old self.new }
         ensures even { length self.new.texts ≡ length self.new.numbers }
         ensures room { OnOk result (count ≤ length self.new.numbers) }
         ensures small { OnOk result (length self.new.numbers < 2 ^ 63) }
@@ -250,7 +250,7 @@ impl Rows {
     pub fn yield_down(&mut self, from: usize, to: usize, count: usize)
         requires down { to ≤ from }
         requires within { from + count ≤ length self.old.numbers }
-        ensures { Yielded self.old self.new from to count }
+        ensures { AreYielded self.old self.new from to count }
     {
         turn_numbers(&mut self.numbers, from, count);
         turn_texts(&mut self.texts, from, count);

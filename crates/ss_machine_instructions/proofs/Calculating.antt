@@ -16,29 +16,29 @@ use Rattle.ss_code_instructions.specs.Instructions as i
 use Rattle.ss_code_instructions.specs.Instructions.{Instruction}
 use Rattle.ss_code_instructions.specs.States.{Core, deliver}
 use Rattle.ss_code_instructions.specs.Machine.{act}
-use Rattle.ss_code_instructions.specs.Shape.{Suits}
-use Rattle.ss_code_instructions.specs.Carried.{MovesValue, Calculates, From, To, Is}
+use Rattle.ss_code_instructions.specs.Shape.{IsSuited}
+use Rattle.ss_code_instructions.specs.Carried.{IsMovingValue, IsCalculating, HasOperand, HasTarget, Is}
 use Rattle.ss_machine_frames.specs.Rows.{place_at}
 use Rattle.ss_machine_frames.proofs.Reading.{Only, only_number, reads, read_within, reads_both, BothWithin, both_within}
 use Rattle.ss_machine_instructions.specs.declared.flow.Here.{Here}
 use Rattle.ss_machine_instructions.specs.declared.state.State.{State}
-use Rattle.ss_machine_instructions.specs.Doing.{Compiled, Ready, Delivers}
+use Rattle.ss_machine_instructions.specs.Doing.{Compiled, IsReadyFor, IsDelivering}
 use Rattle.ss_machine_instructions.proofs.Placing.{site, located, suits, deep_at, deep_here, gives_mode}
 use Rattle.ss_machine_instructions.proofs.Delivering.{delivers, deliver_is, number_right}
 use Rattle.ss_machine_world.specs.Seen.{as_value}
 
-module _ (w : Compiled) (c : Core) (here : Here) (s : State) (run : Running) (r : Ready w c here s run) where
+module _ (w : Compiled) (c : Core) (here : Here) (s : State) (run : Running) (r : IsReadyFor w c here s run) where
   abbrev SuitsHere : Instruction → Type 0
-  SuitsHere x = Suits w.program w.code c.place r.placed.locals r.placed.cells x
+  SuitsHere x = IsSuited w.program w.code c.place r.placed.locals r.placed.cells x
 
   -- ## Two numbers into one
 
-  pub calculates_in : (op : Operator) (left right to : Address) → Calculates w.code w.run.constants r.placed op left right to → BothWithin (site w c here s run r) (located w c here s run r) left right
+  pub calculates_in : (op : Operator) (left right to : Address) → IsCalculating w.code w.run.constants r.placed op left right to → BothWithin (site w c here s run r) (located w c here s run r) left right
   calculates_in op left right to z =
       let y = subst SuitsHere z.2.2.2 (suits w c here s run r) in
       both_within (site w c here s run r) (located w c here s run r) z.0 z.2.0 Integer Integer r.placed.cells y.0 left right y.1 z.1 z.2.1 (deep_here w c here s run r)
 
-  pub calculates : (op : Operator) (left right to : Address) (u v : ℤ) (answer : OkOr ℤ FaultKind) → Calculates w.code w.run.constants r.placed op left right to → slice_get s.rows.numbers (place_at here.frame left) ≡ Some u → slice_get s.rows.numbers (place_at here.frame right) ≡ Some v → computed op u v ≡ answer → Delivers w c r.placed.line (act w.code r.placed.line r.placed.instruction c) here s to (as_value answer)
+  pub calculates : (op : Operator) (left right to : Address) (u v : ℤ) (answer : OkOr ℤ FaultKind) → IsCalculating w.code w.run.constants r.placed op left right to → slice_get s.rows.numbers (place_at here.frame left) ≡ Some u → slice_get s.rows.numbers (place_at here.frame right) ≡ Some v → computed op u v ≡ answer → IsDelivering w c r.placed.line (act w.code r.placed.line r.placed.instruction c) here s to (as_value answer)
   calculates op left right to u v answer z at_left at_right e =
       let t = site w c here s run r in
       let st = located w c here s run r in
@@ -55,12 +55,12 @@ module _ (w : Compiled) (c : Core) (here : Here) (s : State) (run : Running) (r 
 
   -- ## One number into one
 
-  pub applies_in : (op : UnaryOperator) (of to : Address) → From w.code w.run.constants r.placed of (λ y. To w.code w.run.constants r.placed to (λ t. Is w.code w.run.constants r.placed (i.Unary op y t))) → place_at here.frame of < length s.rows.numbers
+  pub applies_in : (op : UnaryOperator) (of to : Address) → HasOperand w.code w.run.constants r.placed of (λ y. HasTarget w.code w.run.constants r.placed to (λ t. Is w.code w.run.constants r.placed (i.Unary op y t))) → place_at here.frame of < length s.rows.numbers
   applies_in op of to z =
       let y = subst SuitsHere z.2.2 (suits w c here s run r) in
       read_within (site w c here s run r) (located w c here s run r) z.0 Integer r.placed.cells y.0 of y.1 z.1 (deep_here w c here s run r)
 
-  pub applies : (op : UnaryOperator) (of to : Address) (u : ℤ) (answer : OkOr ℤ FaultKind) → From w.code w.run.constants r.placed of (λ y. To w.code w.run.constants r.placed to (λ t. Is w.code w.run.constants r.placed (i.Unary op y t))) → slice_get s.rows.numbers (place_at here.frame of) ≡ Some u → computed_alone op u ≡ answer → Delivers w c r.placed.line (act w.code r.placed.line r.placed.instruction c) here s to (as_value answer)
+  pub applies : (op : UnaryOperator) (of to : Address) (u : ℤ) (answer : OkOr ℤ FaultKind) → HasOperand w.code w.run.constants r.placed of (λ y. HasTarget w.code w.run.constants r.placed to (λ t. Is w.code w.run.constants r.placed (i.Unary op y t))) → slice_get s.rows.numbers (place_at here.frame of) ≡ Some u → computed_alone op u ≡ answer → IsDelivering w c r.placed.line (act w.code r.placed.line r.placed.instruction c) here s to (as_value answer)
   applies op of to u answer z at e =
       let t = site w c here s run r in
       let st = located w c here s run r in
@@ -77,12 +77,12 @@ module _ (w : Compiled) (c : Core) (here : Here) (s : State) (run : Running) (r 
 
   -- ## A value that is moved
 
-  pub moves_in : (mode : Mode) (from to : Address) → MovesValue w.code w.run.constants r.placed mode from to → place_at here.frame from < length s.rows.numbers
+  pub moves_in : (mode : Mode) (from to : Address) → IsMovingValue w.code w.run.constants r.placed mode from to → place_at here.frame from < length s.rows.numbers
   moves_in mode from to z =
       let y = subst SuitsHere z.2.1.2 (suits w c here s run r) in
       read_within (site w c here s run r) (located w c here s run r) z.0 y.0 r.placed.cells y.1.0 from y.1.1 z.1 (deep_here w c here s run r)
 
-  pub moves : (mode : Mode) (from to : Address) (v : Value) → MovesValue w.code w.run.constants r.placed mode from to → mode_of v ≡ mode → Only s.rows (place_at here.frame from) mode v → Delivers w c r.placed.line (act w.code r.placed.line r.placed.instruction c) here s to (Ok v)
+  pub moves : (mode : Mode) (from to : Address) (v : Value) → IsMovingValue w.code w.run.constants r.placed mode from to → mode_of v ≡ mode → Only s.rows (place_at here.frame from) mode v → IsDelivering w c r.placed.line (act w.code r.placed.line r.placed.instruction c) here s to (Ok v)
   moves mode from to v z right only =
       let t = site w c here s run r in
       let st = located w c here s run r in

@@ -13,10 +13,10 @@ use Rattle.ss_base.specs.declared.value.Value.{Value}
 use Rattle.ss_base.specs.declared.value.Value.TheVariants.{Whole}
 use Rattle.ss_base.specs.Layout.{mode_of}
 use Rattle.ss_program.specs.declared.statement.CountedClass.{CountedClass}
-use Rattle.ss_program.specs.WellTyped.{kind_of_class, is_created_singly, GoodCount}
+use Rattle.ss_program.specs.WellTyped.{kind_of_class, is_created_singly, IsTypedCount}
 use Rattle.ss_meaning.specs.Values.{sure, if_ok, number_of}
 use Rattle.ss_meaning.specs.Store.{Store}
-use Rattle.ss_meaning.specs.Fitting.{Fits}
+use Rattle.ss_meaning.specs.Fitting.{IsFittingStore}
 use Rattle.ss_meaning.specs.Entities.{comes_singly, is_single, is_permanent, made_one, without}
 use Rattle.ss_meaning.proofs.Fine.{Fine}
 use Rattle.ss_meaning.proofs.Entities.{class_said, single_said, count_said, made_one_fine}
@@ -26,23 +26,23 @@ use Rattle.ss_code_instructions.specs.Instructions as i
 use Rattle.ss_code_instructions.specs.Instructions.{Instruction}
 use Rattle.ss_code_instructions.specs.States.{Core, Moved, did, onward, deliver_with}
 use Rattle.ss_code_instructions.specs.Machine.{act, is_due}
-use Rattle.ss_code_instructions.specs.Shape.{Suits}
-use Rattle.ss_code_instructions.specs.Carried.{From, To, Is}
-use Rattle.ss_machine_world.specs.Seen.{Seen, Changes, Makes, ChangesWithMemory, with_seen}
+use Rattle.ss_code_instructions.specs.Shape.{IsSuited}
+use Rattle.ss_code_instructions.specs.Carried.{HasOperand, HasTarget, Is}
+use Rattle.ss_machine_world.specs.Seen.{Seen, HasChanged, HasMade, HasChangedWithMemory, with_seen}
 use Rattle.ss_machine_world.specs.Numbers.{created_all_known}
 use Rattle.ss_machine_frames.specs.Rows.{place_at}
 use Rattle.ss_machine_frames.proofs.Reading.{only_number, reads, read_within}
 use Rattle.ss_machine_instructions.specs.declared.flow.Here.{Here}
 use Rattle.ss_machine_instructions.specs.declared.state.State.{State}
-use Rattle.ss_machine_instructions.specs.Doing.{Compiled, Ready, Performs, Delivers, IsDelivered}
+use Rattle.ss_machine_instructions.specs.Doing.{Compiled, IsReadyFor, HasPerformed, IsDelivering, IsDelivered}
 use Rattle.ss_machine_instructions.specs.Ways.{on_at, on_after, done_unless_fault, faulted_by, refused_by}
 use Rattle.ss_machine_instructions.proofs.Placing.{site, located, suits, small, deep_at, deep_here, calm}
 use Rattle.ss_machine_instructions.proofs.Seeing.{makes_not, changes_not, seen_is, layout_is, goes_seeing, changes, refuses}
 use Rattle.ss_machine_instructions.proofs.Figuring.{global_within, global_is}
 
-module _ (w : Compiled) (c : Core) (here : Here) (s : State) (run : Running) (r : Ready w c here s run) where
+module _ (w : Compiled) (c : Core) (here : Here) (s : State) (run : Running) (r : IsReadyFor w c here s run) where
   abbrev SuitsHere : Instruction → Type 0
-  SuitsHere x = Suits w.program w.code c.place r.placed.locals r.placed.cells x
+  SuitsHere x = IsSuited w.program w.code c.place r.placed.locals r.placed.cells x
 
   abbrev does : Moved
   does = act w.code r.placed.line r.placed.instruction c
@@ -63,7 +63,7 @@ module _ (w : Compiled) (c : Core) (here : Here) (s : State) (run : Running) (r 
   -- ## Create
 
   abbrev pub Creates : (class : ℕ) → Address → Type 0
-  Creates class to = To w.code w.run.constants r.placed to (λ t. Is w.code w.run.constants r.placed (i.Create class t))
+  Creates class to = HasTarget w.code w.run.constants r.placed to (λ t. Is w.code w.run.constants r.placed (i.Create class t))
 
   pub creates_within : (class : ℕ) (to : Address) → Creates class to → class < length s.world.heap.layout.classes
   creates_within class to z = let y = subst SuitsHere z.2 (suits w c here s run r) in single_within class y.0
@@ -72,7 +72,7 @@ module _ (w : Compiled) (c : Core) (here : Here) (s : State) (run : Running) (r 
   creates_single class to z = let y = subst SuitsHere z.2 (suits w c here s run r) in single_here class y.0
 
   -- the number of the new entity goes to its target, in the store that has it
-  pub creates : (class : ℕ) (to : Address) (n : ℤ) (e : Seen) → Creates class to → Makes (made_one class) s.world e (Ok n) → Delivers w c r.placed.line does here (record s { world = e }) to (Ok (Whole n))
+  pub creates : (class : ℕ) (to : Address) (n : ℤ) (e : Seen) → Creates class to → HasMade (made_one class) s.world e (Ok n) → IsDelivering w c r.placed.line does here (record s { world = e }) to (Ok (Whole n))
   creates class to n e z made =
       let is = z.2 in
       let y = subst SuitsHere is (suits w c here s run r) in
@@ -80,8 +80,8 @@ module _ (w : Compiled) (c : Core) (here : Here) (s : State) (run : Running) (r 
       let store = with_seen c.store e in
       let h = r.holds.held in
       let made_it : made_one class c.store ≡ Ok (Whole n, store) = ap (made_one class) (seen_is w c here s run r) ∙ made c.store in
-      let fine : Fine (λ (b : Value × Store). (mode_of b.0 ≡ Integer) × Fits w.program r.placed.locals b.1) (made_one class c.store) = made_one_fine w.program r.compiled.typed r.placed.locals class c.store y.0 r.fits.store in
-      let fits : (mode_of (Whole n) ≡ Integer) × Fits w.program r.placed.locals store = subst (Fine (λ (b : Value × Store). (mode_of b.0 ≡ Integer) × Fits w.program r.placed.locals b.1)) made_it fine in
+      let fine : Fine (λ (b : Value × Store). (mode_of b.0 ≡ Integer) × IsFittingStore w.program r.placed.locals b.1) (made_one class c.store) = made_one_fine w.program r.compiled.typed r.placed.locals class c.store y.0 r.fits.store in
+      let fits : (mode_of (Whole n) ≡ Integer) × IsFittingStore w.program r.placed.locals store = subst (Fine (λ (b : Value × Store). (mode_of b.0 ≡ Integer) × IsFittingStore w.program r.placed.locals b.1)) made_it fine in
       record {
         compiled = r.compiled;
         placed = r.placed;
@@ -109,12 +109,12 @@ module _ (w : Compiled) (c : Core) (here : Here) (s : State) (run : Running) (r 
         };
       }
 
-  pub created : (class : ℕ) (to : Address) (n : ℤ) (e : Seen) (new : State) (result : Option (Unit {0})) → Creates class to → Makes (made_one class) s.world e (Ok n) → IsDelivered here (record s { world = e }) new result to (Ok (Whole n)) → Performs (is_due r.placed.instruction) w r.placed.line does s new (on_after here result)
+  pub created : (class : ℕ) (to : Address) (n : ℤ) (e : Seen) (new : State) (result : Option (Unit {0})) → Creates class to → HasMade (made_one class) s.world e (Ok n) → IsDelivered here (record s { world = e }) new result to (Ok (Whole n)) → HasPerformed (is_due r.placed.instruction) w r.placed.line does s new (on_after here result)
   created class to n e new result z made delivered =
       let h = delivered w c r.placed.line does (creates class to n e z made) in
       calm w c here s run r new (on_after here result) (ap is_due z.2) (record { leads = h.leads; ticks = h.ticks; steps = h.steps })
 
-  pub creates_not : (class : ℕ) (to : Address) (e : Seen) (refused : Refused) (new : State) (result : Option Here) → Creates class to → Makes (made_one class) s.world e (Err refused) → new ≡ refused_by refused (record s { world = e }) → result ≡ None → Performs (is_due r.placed.instruction) w r.placed.line does s new result
+  pub creates_not : (class : ℕ) (to : Address) (e : Seen) (refused : Refused) (new : State) (result : Option Here) → Creates class to → HasMade (made_one class) s.world e (Err refused) → new ≡ refused_by refused (record s { world = e }) → result ≡ None → HasPerformed (is_due r.placed.instruction) w r.placed.line does s new result
   creates_not class to e refused new result z made same none =
       calm w c here s run r new result (ap is_due z.2)
       (refuses w c here s run r (made_one class) e refused new result
@@ -129,7 +129,7 @@ module _ (w : Compiled) (c : Core) (here : Here) (s : State) (run : Running) (r 
   abbrev pub CreatesAll : (class variable : ℕ) → Type 0
   CreatesAll class variable = Is w.code w.run.constants r.placed (i.CreateAll (counted class variable))
 
-  good_count : (class variable : ℕ) → CreatesAll class variable → GoodCount w.program (counted class variable)
+  good_count : (class variable : ℕ) → CreatesAll class variable → IsTypedCount w.program (counted class variable)
   good_count class variable is =
       let y = subst SuitsHere is (suits w c here s run r) in
       count_said w.program r.compiled.typed r.placed.locals (counted class variable) y.0
@@ -153,14 +153,14 @@ module _ (w : Compiled) (c : Core) (here : Here) (s : State) (run : Running) (r 
       ap (λ x. act w.code r.placed.line x c) is
       ∙ ap (λ o. did r.placed.line (if_ok (sure o) (λ v. if_ok (number_of v) (λ n. created_all_known class n c.store))) (λ t. onward c.cells c t)) (global_is w c here s run r variable n (good_count class variable is).1 e)
 
-  pub creates_all : (class variable : ℕ) (n : ℤ) (e : Seen) (new : State) (result : Option Here) → CreatesAll class variable → slice_get s.rows.numbers variable ≡ Some n → ChangesWithMemory (created_all_known class n) s.world e (Ok tt) → new ≡ record s { world = e } → result ≡ on_at here → Performs (is_due r.placed.instruction) w r.placed.line does s new result
+  pub creates_all : (class variable : ℕ) (n : ℤ) (e : Seen) (new : State) (result : Option Here) → CreatesAll class variable → slice_get s.rows.numbers variable ≡ Some n → HasChangedWithMemory (created_all_known class n) s.world e (Ok tt) → new ≡ record s { world = e } → result ≡ on_at here → HasPerformed (is_due r.placed.instruction) w r.placed.line does s new result
   creates_all class variable n e new result is at made same q =
       calm w c here s run r new result (ap is_due is)
       (goes_seeing w c here s run r c.cells e new result
       (all_is class variable n is at ∙ ap (λ q. did r.placed.line q (λ t. onward c.cells c t)) (ap (created_all_known class n) (seen_is w c here s run r) ∙ made c.store))
       r.holds.held.cells same q)
 
-  pub creates_all_not : (class variable : ℕ) (n : ℤ) (e : Seen) (refused : Refused) (new : State) (result : Option Here) → CreatesAll class variable → slice_get s.rows.numbers variable ≡ Some n → ChangesWithMemory (created_all_known class n) s.world e (Err refused) → new ≡ refused_by refused (record s { world = e }) → result ≡ None → Performs (is_due r.placed.instruction) w r.placed.line does s new result
+  pub creates_all_not : (class variable : ℕ) (n : ℤ) (e : Seen) (refused : Refused) (new : State) (result : Option Here) → CreatesAll class variable → slice_get s.rows.numbers variable ≡ Some n → HasChangedWithMemory (created_all_known class n) s.world e (Err refused) → new ≡ refused_by refused (record s { world = e }) → result ≡ None → HasPerformed (is_due r.placed.instruction) w r.placed.line does s new result
   creates_all_not class variable n e refused new result is at made same none =
       calm w c here s run r new result (ap is_due is)
       (refuses w c here s run r (created_all_known class n) e refused new result
@@ -170,7 +170,7 @@ module _ (w : Compiled) (c : Core) (here : Here) (s : State) (run : Running) (r 
   -- ## Destroy
 
   abbrev pub Destroys : (class : ℕ) → Address → Type 0
-  Destroys class entity = From w.code w.run.constants r.placed entity (λ y. Is w.code w.run.constants r.placed (i.Destroy class y))
+  Destroys class entity = HasOperand w.code w.run.constants r.placed entity (λ y. Is w.code w.run.constants r.placed (i.Destroy class y))
 
   pub destroys_in : (class : ℕ) (entity : Address) → Destroys class entity → place_at here.frame entity < length s.rows.numbers
   destroys_in class entity z =
@@ -183,7 +183,7 @@ module _ (w : Compiled) (c : Core) (here : Here) (s : State) (run : Running) (r 
   pub destroys_single : (class : ℕ) (entity : Address) → Destroys class entity → is_single (slice_get s.world.heap.layout.classes class) ≡ true
   destroys_single class entity z = let y = subst SuitsHere z.2 (suits w c here s run r) in single_here class y.0
 
-  pub destroys : (class : ℕ) (entity : Address) (n : ℤ) (e : Seen) (answer : OkOr (Unit {0}) FaultKind) (new : State) (result : Option Here) → Destroys class entity → slice_get s.rows.numbers (place_at here.frame entity) ≡ Some n → Changes (without class (Whole n)) s.world e answer → new ≡ faulted_by answer (record s { world = e }) → result ≡ on_after here (done_unless_fault answer) → Performs (is_due r.placed.instruction) w r.placed.line does s new result
+  pub destroys : (class : ℕ) (entity : Address) (n : ℤ) (e : Seen) (answer : OkOr (Unit {0}) FaultKind) (new : State) (result : Option Here) → Destroys class entity → slice_get s.rows.numbers (place_at here.frame entity) ≡ Some n → HasChanged (without class (Whole n)) s.world e answer → new ≡ faulted_by answer (record s { world = e }) → result ≡ on_after here (done_unless_fault answer) → HasPerformed (is_due r.placed.instruction) w r.placed.line does s new result
   destroys class entity n e answer new result z at changed same q =
       let is = z.2 in
       let y = subst SuitsHere is (suits w c here s run r) in

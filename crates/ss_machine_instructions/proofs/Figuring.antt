@@ -21,7 +21,7 @@ use Rattle.ss_program.specs.declared.sections.Subject.{Subject}
 use Rattle.ss_program.specs.declared.sections.Subject.TheVariants.{OfVariable, OfAttribute, OfCount}
 use Rattle.ss_program.specs.declared.sections.Statistic.{Statistic}
 use Rattle.ss_program.specs.Program.{Program}
-use Rattle.ss_program.specs.WellTyped.{IsAlone, IsOfEntities, GoodSubject}
+use Rattle.ss_program.specs.WellTyped.{IsAlone, IsOfEntities, IsTypedSubject}
 use Rattle.ss_meaning.specs.Values.{Failure, if_ok, due}
 use Rattle.ss_meaning.specs.Store.{Store, put}
 use Rattle.ss_meaning.specs.Histories.{home, same_subject, noted}
@@ -36,25 +36,25 @@ use Rattle.ss_code_instructions.specs.Instructions as i
 use Rattle.ss_code_instructions.specs.Instructions.{Instruction, Bearer}
 use Rattle.ss_code_instructions.specs.States.{Core, Moved, did, core_at, onward, deliver}
 use Rattle.ss_code_instructions.specs.Machine.{act, is_due}
-use Rattle.ss_code_instructions.specs.Shape.{Suits, SubjectFits}
-use Rattle.ss_code_instructions.specs.Carried.{From, Of, To, Is}
+use Rattle.ss_code_instructions.specs.Shape.{IsSuited, IsStatisticBearer}
+use Rattle.ss_code_instructions.specs.Carried.{HasOperand, HasBearer, HasTarget, Is}
 use Rattle.ss_machine_time.specs.Figures.{subject_in, variable_in, statistic_variable, held_in}
 use Rattle.ss_machine_time.specs.Places.{is_about}
-use Rattle.ss_machine_world.specs.Seen.{Seen, IsRight, Looks, Changes, ChangesWhere, without_value, with_seen, as_value}
+use Rattle.ss_machine_world.specs.Seen.{Seen, IsRight, HasAnswer, HasChanged, HasChangedWhere, without_value, with_seen, as_value}
 use Rattle.ss_machine_world.specs.Seen as seen
-use Rattle.ss_machine_world.specs.Numbers.{RefersTo, RefersToSubject, IsSubject, HasValidSubject, HoldsSubject as VariableHolds, attribute_noted}
+use Rattle.ss_machine_world.specs.Numbers.{IsReferenceTo, IsReferenceToSubject, IsSubject, HasValidSubject, IsHeldBySubject as VariableHolds, attribute_noted}
 use Rattle.ss_machine_world.proofs.Composing.{unwatched}
 use Rattle.ss_machine_world.proofs.Reading.{value_once}
-use Rattle.ss_machine_frames.specs.Rows.{with_number, place_at, ValueAt}
-use Rattle.ss_machine_frames.specs.Holding.{HoldsCore}
+use Rattle.ss_machine_frames.specs.Rows.{with_number, place_at, IsValueAt}
+use Rattle.ss_machine_frames.specs.Holding.{IsCoreHeld}
 use Rattle.ss_machine_frames.proofs.Places.{Elsewhere, elsewhere_value, value_same, number_is, place_fixed}
 use Rattle.ss_machine_frames.proofs.Reading.{Refers, only_number, reads, read_within, reads_bearer, bearer_within, lies_at, variable_within}
 use Rattle.ss_machine_frames.proofs.Lists.{set_length}
 use Rattle.ss_machine_frames.proofs.Writing.{with_variable, put_is, variable_held}
 use Rattle.ss_machine_instructions.specs.declared.flow.Here.{Here}
 use Rattle.ss_machine_instructions.specs.declared.state.State.{State}
-use Rattle.ss_machine_instructions.specs.Doing.{Compiled, Holds, Ready, NoTick, Performs, Delivers}
-use Rattle.ss_machine_instructions.specs.Noted.{NotedIf, NotedAfter}
+use Rattle.ss_machine_instructions.specs.Doing.{Compiled, IsHeld, IsReadyFor, HasNoTick, HasPerformed, IsDelivering}
+use Rattle.ss_machine_instructions.specs.Noted.{IsNotedIf, IsNotedAfter}
 use Rattle.ss_machine_instructions.specs.Ways.{at_place, on_after, done_unless_fault, faulted_by}
 use Rattle.ss_machine_instructions.proofs.Placing.{site, located, suits, deep_at, deep_here, calm}
 use Rattle.ss_machine_instructions.proofs.Delivering.{faults, number_right}
@@ -79,7 +79,7 @@ owner_said None whose e = absurd cc
 owner_said (Some t) whose e = let same : t.owner ≡ whose = cc in same
 
 -- the subject of a well-typed program's statistic is one of its layout
-subject_good : (p : Program) (t : Subject) → GoodSubject p t → IsSubject p.layout t
+subject_good : (p : Program) (t : Subject) → IsTypedSubject p t → IsSubject p.layout t
 subject_good p (OfVariable k) g = tt
 subject_good p (OfAttribute class field) g =
     let mode : slice_get (modes_of p.layout class) field ≡ Some Integer = sym (field_is p class field) ∙ g in
@@ -113,9 +113,9 @@ attribute_quiet class field x v m mid mode value none t right =
     let read = ap (λ q. if_ok q (λ v. noted (OfAttribute class field) x v (with_seen t mid))) (value_once mid class field x t (ap is_some mode) ∙ ap due value) in
     read ∙ unwatched (OfAttribute class field) x v mid none t (λ wrong. right (read ∙ wrong))
 
-module _ (w : Compiled) (c : Core) (here : Here) (s : State) (run : Running) (r : Ready w c here s run) where
+module _ (w : Compiled) (c : Core) (here : Here) (s : State) (run : Running) (r : IsReadyFor w c here s run) where
   abbrev SuitsHere : Instruction → Type 0
-  SuitsHere x = Suits w.program w.code c.place r.placed.locals r.placed.cells x
+  SuitsHere x = IsSuited w.program w.code c.place r.placed.locals r.placed.cells x
 
   abbrev does : Moved
   does = act w.code r.placed.line r.placed.instruction c
@@ -129,22 +129,22 @@ module _ (w : Compiled) (c : Core) (here : Here) (s : State) (run : Running) (r 
       by None at e = absurd cc
       by (Some u) at e = let same : u.subject ≡ t = cc in (u, at, same)
 
-  good_there : (j : ℕ) (t : Subject) → subject_in s.world.statistics j ≡ Some t → GoodSubject w.program t
+  good_there : (j : ℕ) (t : Subject) → subject_in s.world.statistics j ≡ Some t → IsTypedSubject w.program t
   good_there j t e =
       let u = subject_there j t e in
-      subst (GoodSubject w.program) u.2 (every_get (λ (x : Statistic). GoodSubject w.program x.subject) w.program.statistics j u.0 r.compiled.typed.statistics u.1)
+      subst (IsTypedSubject w.program) u.2 (every_get (λ (x : Statistic). IsTypedSubject w.program x.subject) w.program.statistics j u.0 r.compiled.typed.statistics u.1)
 
   -- its subject is one of the layout
   pub has_subject : (j : ℕ) → HasValidSubject s.world j
   has_subject j = λ t e. subst (λ (l : Layout). IsSubject l t) (sym (layout_is w c here s run r)) (subject_good w.program t (good_there j t e))
 
   -- the number that is read at the address of a bearer is that of the entity
-  refers_alone : (t : Subject) → IsAlone w.program t → RefersTo (home w.program.layout t) None (pos 0)
+  refers_alone : (t : Subject) → IsAlone w.program t → IsReferenceTo (home w.program.layout t) None (pos 0)
   refers_alone (OfVariable k) f = refl
   refers_alone (OfAttribute class field) f = absurd f
   refers_alone (OfCount set) f = ap (λ (whose : Owner). owner_as whose None) (owner_said (slice_get w.program.layout.sets set) System f)
 
-  refers_one : (t : Subject) (z : ℤ) → IsOfEntities w.program t → RefersTo (home w.program.layout t) (Some (Whole z)) z
+  refers_one : (t : Subject) (z : ℤ) → IsOfEntities w.program t → IsReferenceTo (home w.program.layout t) (Some (Whole z)) z
   refers_one (OfVariable k) z f = absurd f
   refers_one (OfAttribute class field) z f = refl
   refers_one (OfCount set) z f = ap (λ (whose : Owner). owner_as whose (Some (Whole z))) (owner_said (slice_get w.program.layout.sets set) (Class f.0) f.1)
@@ -154,24 +154,24 @@ module _ (w : Compiled) (c : Core) (here : Here) (s : State) (run : Running) (r 
       let q : Some u.subject ≡ Some t = sym (ap (option_map (λ (x : Statistic). x.subject)) at) ∙ sym (ap (λ ss. subject_in ss j) (statistics_are w c here s run r)) ∙ e in
       cc
 
-  pub refers_to : (j : ℕ) (x : Bearer) (o : Option Value) (z : ℤ) → SubjectFits w.program j x → Refers x o z → RefersToSubject s.world j o z
+  pub refers_to : (j : ℕ) (x : Bearer) (o : Option Value) (z : ℤ) → IsStatisticBearer w.program j x → Refers x o z → IsReferenceToSubject s.world j o z
   refers_to j None o z fits refers = λ t e.
       let same = one_subject j t fits.0 e fits.1 in
-      let plain = subst (λ (l : Layout). RefersTo (home l t) None (pos 0)) (sym (layout_is w c here s run r)) (refers_alone t (subst (IsAlone w.program) same fits.2)) in
-      subst (λ o. RefersTo (home s.world.heap.layout t) o z) (sym refers.0) (subst (λ z. RefersTo (home s.world.heap.layout t) None z) (sym refers.1) plain)
+      let plain = subst (λ (l : Layout). IsReferenceTo (home l t) None (pos 0)) (sym (layout_is w c here s run r)) (refers_alone t (subst (IsAlone w.program) same fits.2)) in
+      subst (λ o. IsReferenceTo (home s.world.heap.layout t) o z) (sym refers.0) (subst (λ z. IsReferenceTo (home s.world.heap.layout t) None z) (sym refers.1) plain)
   refers_to j (Some x) o z fits refers = λ t e.
       let same = one_subject j t fits.0 e fits.1 in
-      let plain = subst (λ (l : Layout). RefersTo (home l t) (Some (Whole z)) z) (sym (layout_is w c here s run r)) (refers_one t z (subst (IsOfEntities w.program) same fits.2)) in
-      subst (λ o. RefersTo (home s.world.heap.layout t) o z) (sym refers) plain
+      let plain = subst (λ (l : Layout). IsReferenceTo (home l t) (Some (Whole z)) z) (sym (layout_is w c here s run r)) (refers_one t z (subst (IsOfEntities w.program) same fits.2)) in
+      subst (λ o. IsReferenceTo (home s.world.heap.layout t) o z) (sym refers) plain
 
   -- ## Figure
 
-  pub figures_in : (fold : Fold) (j : ℕ) (entity to : Address) → Of w.code w.run.constants r.placed entity (λ o. To w.code w.run.constants r.placed to (λ t. Is w.code w.run.constants r.placed (i.Figure fold j o t))) → place_at here.frame entity < length s.rows.numbers
+  pub figures_in : (fold : Fold) (j : ℕ) (entity to : Address) → HasBearer w.code w.run.constants r.placed entity (λ o. HasTarget w.code w.run.constants r.placed to (λ t. Is w.code w.run.constants r.placed (i.Figure fold j o t))) → place_at here.frame entity < length s.rows.numbers
   figures_in fold j entity to z =
       let y = subst SuitsHere z.2.2 (suits w c here s run r) in
       bearer_within (site w c here s run r) (located w c here s run r) z.0 r.placed.cells y.1.0 entity y.1.1 z.1 (deep_here w c here s run r)
 
-  pub figures : (fold : Fold) (j : ℕ) (entity to : Address) (n : ℤ) (answer : OkOr ℤ FaultKind) → Of w.code w.run.constants r.placed entity (λ o. To w.code w.run.constants r.placed to (λ t. Is w.code w.run.constants r.placed (i.Figure fold j o t))) → slice_get s.rows.numbers (place_at here.frame entity) ≡ Some n → ((o : Option Value) → RefersToSubject s.world j o n → Looks (figure fold j o) s.world (seen.as_value answer)) → Delivers w c r.placed.line does here s to (as_value answer)
+  pub figures : (fold : Fold) (j : ℕ) (entity to : Address) (n : ℤ) (answer : OkOr ℤ FaultKind) → HasBearer w.code w.run.constants r.placed entity (λ o. HasTarget w.code w.run.constants r.placed to (λ t. Is w.code w.run.constants r.placed (i.Figure fold j o t))) → slice_get s.rows.numbers (place_at here.frame entity) ≡ Some n → ((o : Option Value) → IsReferenceToSubject s.world j o n → HasAnswer (figure fold j o) s.world (seen.as_value answer)) → IsDelivering w c r.placed.line does here s to (as_value answer)
   figures fold j entity to n answer z e looks =
       let is = z.2.2 in
       let y = subst SuitsHere is (suits w c here s run r) in
@@ -179,17 +179,17 @@ module _ (w : Compiled) (c : Core) (here : Here) (s : State) (run : Running) (r 
       let target = z.2.0 in
       answers w c here s run r (figure fold j b.value) (as_value answer) to target Integer y.1.0 y.1.2.0 b.below
       (ap (λ x. act w.code r.placed.line x c) is ∙ b.is (λ x below. deliver r.placed.line target (figure fold j x c.store) below c))
-      (subst (Looks (figure fold j b.value) s.world) (same_value answer) (looks b.value (refers_to j z.0 b.value n y.0 b.refers)))
+      (subst (HasAnswer (figure fold j b.value) s.world) (same_value answer) (looks b.value (refers_to j z.0 b.value n y.0 b.refers)))
       y.1.2.1 z.2.1 (deep_at w c here s run r (c.place + 1) r.placed.locals y.1.2.0 y.1.2.2) (number_right answer) b.modes b.cells
 
   -- ## LookMean
 
-  pub looks_in_mean : (j : ℕ) (entity : Address) → Of w.code w.run.constants r.placed entity (λ o. Is w.code w.run.constants r.placed (i.LookMean j o)) → place_at here.frame entity < length s.rows.numbers
+  pub looks_in_mean : (j : ℕ) (entity : Address) → HasBearer w.code w.run.constants r.placed entity (λ o. Is w.code w.run.constants r.placed (i.LookMean j o)) → place_at here.frame entity < length s.rows.numbers
   looks_in_mean j entity z =
       let y = subst SuitsHere z.2 (suits w c here s run r) in
       bearer_within (site w c here s run r) (located w c here s run r) z.0 r.placed.cells y.1.0 entity y.1.1 z.1 (deep_here w c here s run r)
 
-  pub looks_at_mean : (j : ℕ) (entity : Address) (n : ℤ) (answer : OkOr (Unit {0}) FaultKind) (new : State) (result : Option Here) → Of w.code w.run.constants r.placed entity (λ o. Is w.code w.run.constants r.placed (i.LookMean j o)) → slice_get s.rows.numbers (place_at here.frame entity) ≡ Some n → ((o : Option Value) → RefersToSubject s.world j o n → Looks (without_value (mean j o)) s.world answer) → new ≡ faulted_by answer s → result ≡ on_after here (done_unless_fault answer) → Performs (is_due r.placed.instruction) w r.placed.line does s new result
+  pub looks_at_mean : (j : ℕ) (entity : Address) (n : ℤ) (answer : OkOr (Unit {0}) FaultKind) (new : State) (result : Option Here) → HasBearer w.code w.run.constants r.placed entity (λ o. Is w.code w.run.constants r.placed (i.LookMean j o)) → slice_get s.rows.numbers (place_at here.frame entity) ≡ Some n → ((o : Option Value) → IsReferenceToSubject s.world j o n → HasAnswer (without_value (mean j o)) s.world answer) → new ≡ faulted_by answer s → result ≡ on_after here (done_unless_fault answer) → HasPerformed (is_due r.placed.instruction) w r.placed.line does s new result
   looks_at_mean j entity n answer new result z e looks same q =
       let is = z.2 in
       let y = subst SuitsHere is (suits w c here s run r) in
@@ -236,12 +236,12 @@ module _ (w : Compiled) (c : Core) (here : Here) (s : State) (run : Running) (r 
 
   -- ## Reset
 
-  pub resets_in : (j : ℕ) (entity : Address) → Of w.code w.run.constants r.placed entity (λ o. Is w.code w.run.constants r.placed (i.Reset j o)) → place_at here.frame entity < length s.rows.numbers
+  pub resets_in : (j : ℕ) (entity : Address) → HasBearer w.code w.run.constants r.placed entity (λ o. Is w.code w.run.constants r.placed (i.Reset j o)) → place_at here.frame entity < length s.rows.numbers
   resets_in j entity z =
       let y = subst SuitsHere z.2 (suits w c here s run r) in
       bearer_within (site w c here s run r) (located w c here s run r) z.0 r.placed.cells y.1.0 entity y.1.1 z.1 (deep_here w c here s run r)
 
-  pub resets : (j : ℕ) (entity : Address) (n held : ℤ) (e : Seen) (answer : OkOr (Unit {0}) FaultKind) (new : State) (result : Option Here) → Of w.code w.run.constants r.placed entity (λ o. Is w.code w.run.constants r.placed (i.Reset j o)) → slice_get s.rows.numbers (place_at here.frame entity) ≡ Some n → ((k : ℕ) → statistic_variable s.world.statistics j ≡ Some k → slice_get s.rows.numbers k ≡ Some held) → ((o : Option Value) → RefersToSubject s.world j o n → ChangesWhere (λ t. IsRight (reset j o t) × VariableHolds j held t) (reset j o) s.world e answer) → new ≡ faulted_by answer (record s { world = e }) → result ≡ on_after here (done_unless_fault answer) → Performs (is_due r.placed.instruction) w r.placed.line does s new result
+  pub resets : (j : ℕ) (entity : Address) (n held : ℤ) (e : Seen) (answer : OkOr (Unit {0}) FaultKind) (new : State) (result : Option Here) → HasBearer w.code w.run.constants r.placed entity (λ o. Is w.code w.run.constants r.placed (i.Reset j o)) → slice_get s.rows.numbers (place_at here.frame entity) ≡ Some n → ((k : ℕ) → statistic_variable s.world.statistics j ≡ Some k → slice_get s.rows.numbers k ≡ Some held) → ((o : Option Value) → IsReferenceToSubject s.world j o n → HasChangedWhere (λ t. IsRight (reset j o t) × VariableHolds j held t) (reset j o) s.world e answer) → new ≡ faulted_by answer (record s { world = e }) → result ≡ on_after here (done_unless_fault answer) → HasPerformed (is_due r.placed.instruction) w r.placed.line does s new result
   resets j entity n held e answer new result z at_entity at_held changed same q =
       let is = z.2 in
       let y = subst SuitsHere is (suits w c here s run r) in
@@ -256,12 +256,12 @@ module _ (w : Compiled) (c : Core) (here : Here) (s : State) (run : Running) (r 
 
   -- ## Keep
 
-  pub keeps_in : (k : ℕ) (from : Address) → From w.code w.run.constants r.placed from (λ y. Is w.code w.run.constants r.placed (i.Keep y (Global k))) → place_at here.frame from < length s.rows.numbers
+  pub keeps_in : (k : ℕ) (from : Address) → HasOperand w.code w.run.constants r.placed from (λ y. Is w.code w.run.constants r.placed (i.Keep y (Global k))) → place_at here.frame from < length s.rows.numbers
   keeps_in k from z =
       let y = subst SuitsHere z.2 (suits w c here s run r) in
       read_within (site w c here s run r) (located w c here s run r) z.0 Integer r.placed.cells y.1.0 from y.1.1 z.1 (deep_here w c here s run r)
 
-  pub kept_within : (k : ℕ) (from : Address) → From w.code w.run.constants r.placed from (λ y. Is w.code w.run.constants r.placed (i.Keep y (Global k))) → k < length s.rows.numbers
+  pub kept_within : (k : ℕ) (from : Address) → HasOperand w.code w.run.constants r.placed from (λ y. Is w.code w.run.constants r.placed (i.Keep y (Global k))) → k < length s.rows.numbers
   kept_within k from z = let y = subst SuitsHere z.2 (suits w c here s run r) in global_within k y.0
 
   -- the store once the variable holds a number
@@ -269,18 +269,18 @@ module _ (w : Compiled) (c : Core) (here : Here) (s : State) (run : Running) (r 
   kept_in k n = with_variable (Global k) (Whole n) c.store
 
   -- it goes on, or there is a fault, once the histories note what the variable holds
-  kept : (k : ℕ) (n : ℤ) (e : Seen) (answer : OkOr (Unit {0}) FaultKind) (below : List Value) (new : State) (result : Option Here) → does ≡ did r.placed.line (noted (OfVariable k) (pos 0) (Whole n) (with_seen (kept_in k n) s.world)) (λ t. onward below c t) → HoldsCore w.run.constants w.run.depth here.frame (with_number s.rows k n) s.frames (core_at (c.place + 1) below c.frames (kept_in k n)) → Changes (noted (OfVariable k) (pos 0) (Whole n)) s.world e answer → new ≡ faulted_by answer (record s { rows = with_number s.rows k n; world = e }) → result ≡ on_after here (done_unless_fault answer) → NoTick w r.placed.line does s new result
+  kept : (k : ℕ) (n : ℤ) (e : Seen) (answer : OkOr (Unit {0}) FaultKind) (below : List Value) (new : State) (result : Option Here) → does ≡ did r.placed.line (noted (OfVariable k) (pos 0) (Whole n) (with_seen (kept_in k n) s.world)) (λ t. onward below c t) → IsCoreHeld w.run.constants w.run.depth here.frame (with_number s.rows k n) s.frames (core_at (c.place + 1) below c.frames (kept_in k n)) → HasChanged (noted (OfVariable k) (pos 0) (Whole n)) s.world e answer → new ≡ faulted_by answer (record s { rows = with_number s.rows k n; world = e }) → result ≡ on_after here (done_unless_fault answer) → HasNoTick w r.placed.line does s new result
   kept k n e answer below new result acts held changed same q = by answer changed same q
     where
       right : IsRight (noted (OfVariable k) (pos 0) (Whole n) (with_seen (kept_in k n) s.world))
       right = λ wrong. r.goes (acts ∙ ap (λ q. did r.placed.line q (λ t. onward below c t)) wrong)
 
-      by : (answer : OkOr (Unit {0}) FaultKind) → Changes (noted (OfVariable k) (pos 0) (Whole n)) s.world e answer → new ≡ faulted_by answer (record s { rows = with_number s.rows k n; world = e }) → result ≡ on_after here (done_unless_fault answer) → NoTick w r.placed.line does s new result
+      by : (answer : OkOr (Unit {0}) FaultKind) → HasChanged (noted (OfVariable k) (pos 0) (Whole n)) s.world e answer → new ≡ faulted_by answer (record s { rows = with_number s.rows k n; world = e }) → result ≡ on_after here (done_unless_fault answer) → HasNoTick w r.placed.line does s new result
       by (Ok u) changed same q =
           let store = with_seen (kept_in k n) e in
           let there : Here = record { place = c.place + 1; frame = here.frame } in
           let s' : State = record s { rows = with_number s.rows k n; world = e } in
-          let holds : Holds w (core_at (c.place + 1) below c.frames store) there s' = record {
+          let holds : IsHeld w (core_at (c.place + 1) below c.frames store) there s' = record {
             place = refl;
             held = record { globals = held.globals; fixed = held.fixed; locals = held.locals; cells = held.cells; open_calls = held.open_calls; room = held.room; small = held.small };
             world = refl;
@@ -288,16 +288,16 @@ module _ (w : Compiled) (c : Core) (here : Here) (s : State) (run : Running) (r 
             line = r.holds.line;
           } in
           let goes = acts ∙ ap (λ q. did r.placed.line q (λ t. onward below c t)) (changed (kept_in k n) right) in
-          let plain : NoTick w r.placed.line does s s' (Some there) = record { leads = (core_at (c.place + 1) below c.frames store, goes, holds); ticks = refl; steps = refl } in
+          let plain : HasNoTick w r.placed.line does s s' (Some there) = record { leads = (core_at (c.place + 1) below c.frames store, goes, holds); ticks = refl; steps = refl } in
           let way : result ≡ Some there = q ∙ ap (λ p. at_place here (p + 1)) r.holds.place in
-          subst (λ o. NoTick w r.placed.line does s new o) (sym way) (subst (λ u. NoTick w r.placed.line does s u (Some there)) (sym same) plain)
+          subst (λ o. HasNoTick w r.placed.line does s new o) (sym way) (subst (λ u. HasNoTick w r.placed.line does s u (Some there)) (sym same) plain)
       by (Err kind) changed same q =
           let goes = acts ∙ ap (λ q. did r.placed.line q (λ t. onward below c t)) (changed.0 (kept_in k n) right) in
           let h = faults w r.placed.line does (record s { rows = with_number s.rows k n; world = e }) new result kind r.holds.line goes same q in
           record { leads = h.leads; ticks = h.ticks; steps = h.steps }
 
   -- the value goes to its variable, and the histories note it
-  pub keeps : (k : ℕ) (from : Address) (n : ℤ) (e : Seen) (answer : OkOr (Unit {0}) FaultKind) (new : State) (result : Option Here) → From w.code w.run.constants r.placed from (λ y. Is w.code w.run.constants r.placed (i.Keep y (Global k))) → slice_get s.rows.numbers (place_at here.frame from) ≡ Some n → Changes (noted (OfVariable k) (pos 0) (Whole n)) s.world e answer → new ≡ faulted_by answer (record s { rows = with_number s.rows k n; world = e }) → result ≡ on_after here (done_unless_fault answer) → Performs (is_due r.placed.instruction) w r.placed.line does s new result
+  pub keeps : (k : ℕ) (from : Address) (n : ℤ) (e : Seen) (answer : OkOr (Unit {0}) FaultKind) (new : State) (result : Option Here) → HasOperand w.code w.run.constants r.placed from (λ y. Is w.code w.run.constants r.placed (i.Keep y (Global k))) → slice_get s.rows.numbers (place_at here.frame from) ≡ Some n → HasChanged (noted (OfVariable k) (pos 0) (Whole n)) s.world e answer → new ≡ faulted_by answer (record s { rows = with_number s.rows k n; world = e }) → result ≡ on_after here (done_unless_fault answer) → HasPerformed (is_due r.placed.instruction) w r.placed.line does s new result
   keeps k from n e answer new result z at changed same q =
       let t = site w c here s run r in
       let st = located w c here s run r in
@@ -316,7 +316,7 @@ module _ (w : Compiled) (c : Core) (here : Here) (s : State) (run : Running) (r 
       ∙ ap (λ u. did r.placed.line (noted (OfVariable k) (pos 0) (Whole n) u) (λ t. onward one.below c t)) seen_then in
       let elsewhere : Elsewhere s.rows rows k = elsewhere_value s.rows k (Whole n) in
       let there = value_same s.rows k (Whole n) r.holds.even (global_within k y.0) in
-      let held = variable_held t st (Global k) (global_at k) v.value (Whole n) rows (c.place + 1) one.below (refl, refl) v.there (subst (Elsewhere s.rows rows) (sym place) elsewhere) (subst (λ j. ValueAt rows j (Whole n)) (sym place) there) one.cells in
+      let held = variable_held t st (Global k) (global_at k) v.value (Whole n) rows (c.place + 1) one.below (refl, refl) v.there (subst (Elsewhere s.rows rows) (sym place) elsewhere) (subst (λ j. IsValueAt rows j (Whole n)) (sym place) there) one.cells in
       calm w c here s run r new result (ap is_due is) (kept k n e answer one.below new result acts held changed same q)
 
   -- ## Notes
@@ -329,11 +329,11 @@ module _ (w : Compiled) (c : Core) (here : Here) (s : State) (run : Running) (r 
 
 -- ## What comes of a change and its note
 
-pub after_fault : (change : OkOr (Unit {0}) FaultKind) (kind : FaultKind) (noted : Bool) (note : Store → OkOr Store Failure) (e : Seen) → change ≡ Err kind → NotedAfter change noted note e e (Err kind)
-after_fault change kind noted note e is = subst (λ q. NotedAfter q noted note e e (Err kind)) (sym is) (refl, refl)
+pub after_fault : (change : OkOr (Unit {0}) FaultKind) (kind : FaultKind) (noted : Bool) (note : Store → OkOr Store Failure) (e : Seen) → change ≡ Err kind → IsNotedAfter change noted note e e (Err kind)
+after_fault change kind noted note e is = subst (λ q. IsNotedAfter q noted note e e (Err kind)) (sym is) (refl, refl)
 
-pub after_unnoted : (change : OkOr (Unit {0}) FaultKind) (u : Unit {0}) (noted : Bool) (note : Store → OkOr Store Failure) (e : Seen) → change ≡ Ok u → noted ≡ false → NotedAfter change noted note e e (Ok tt)
-after_unnoted change u noted note e is not_so = subst (λ q. NotedAfter q noted note e e (Ok tt)) (sym is) (subst (λ b. NotedIf b note e e (Ok tt)) (sym not_so) (refl, refl))
+pub after_unnoted : (change : OkOr (Unit {0}) FaultKind) (u : Unit {0}) (noted : Bool) (note : Store → OkOr Store Failure) (e : Seen) → change ≡ Ok u → noted ≡ false → IsNotedAfter change noted note e e (Ok tt)
+after_unnoted change u noted note e is not_so = subst (λ q. IsNotedAfter q noted note e e (Ok tt)) (sym is) (subst (λ b. IsNotedIf b note e e (Ok tt)) (sym not_so) (refl, refl))
 
-pub after_noted : (change : OkOr (Unit {0}) FaultKind) (u : Unit {0}) (noted : Bool) (note : Store → OkOr Store Failure) (old new : Seen) (said : OkOr (Unit {0}) FaultKind) → change ≡ Ok u → noted ≡ true → Changes note old new said → NotedAfter change noted note old new said
-after_noted change u noted note old new said is so h = subst (λ q. NotedAfter q noted note old new said) (sym is) (subst (λ b. NotedIf b note old new said) (sym so) h)
+pub after_noted : (change : OkOr (Unit {0}) FaultKind) (u : Unit {0}) (noted : Bool) (note : Store → OkOr Store Failure) (old new : Seen) (said : OkOr (Unit {0}) FaultKind) → change ≡ Ok u → noted ≡ true → HasChanged note old new said → IsNotedAfter change noted note old new said
+after_noted change u noted note old new said is so h = subst (λ q. IsNotedAfter q noted note old new said) (sym is) (subst (λ b. IsNotedIf b note old new said) (sym so) h)

@@ -25,9 +25,9 @@ use Rattle.ss_code_instructions.specs.Facts.{watch}
 use Rattle.ss_code_instructions.proofs.Noting.{Quiet, noted_quiet}
 use Rattle.ss_machine_entities.proofs.Refiled.{first_refiled, last_refiled, before_refiled, after_refiled, filed_refiled, out_refiled, first_out_refiled, last_out_refiled}
 use Rattle.ss_machine_world.specs.Numbers.{count_noted}
-use Rattle.ss_machine_world.specs.Seen.{Seen, IsRight, Rearranges, number_if, with_seen}
+use Rattle.ss_machine_world.specs.Seen.{Seen, IsRight, HasRearranged, number_if, with_seen}
 use Rattle.ss_machine_world.proofs.Composing.{filed_first_is, filed_last_is, filed_ruled_is, filed_before_is, filed_after_is, removed_is, end_removed_is}
-use Rattle.ss_machine_instructions.specs.Worldly.{Settled, SettledGiving, IsNotedRight, IsOwner, ChangesIf, Counted, CountedOut, Files, Removes, Takes}
+use Rattle.ss_machine_instructions.specs.Worldly.{IsSettled, IsSettledGiving, IsNotedRight, IsOwner, HasChangedIf, IsCounted, IsCountedOut, HasFiled, HasRemoved, HasTaken}
 
 -- ## The owner is there afterwards
 
@@ -125,7 +125,7 @@ module _ (st t : State) (set : ℕ) (o : ℤ) where
 
 -- ## What is seen of a change of the entities
 
-pub rearranged : (f : State → OkOr State FaultKind) (e : Seen) (h : State) (r : OkOr (Unit {0}) FaultKind) → MatchResult r (λ _. f e.heap ≡ Ok h) (λ k. (f e.heap ≡ Err k) × (h ≡ e.heap)) → Rearranges f e (record e { heap = h }) r
+pub rearranged : (f : State → OkOr State FaultKind) (e : Seen) (h : State) (r : OkOr (Unit {0}) FaultKind) → MatchResult r (λ _. f e.heap ≡ Ok h) (λ k. (f e.heap ≡ Err k) × (h ≡ e.heap)) → HasRearranged f e (record e { heap = h }) r
 rearranged f e h (Ok u) done = (done, refl)
 rearranged f e h (Err k) done = (done.0, ap (λ (h : State). record e { heap = h }) done.1)
 
@@ -133,7 +133,7 @@ pub one : {A : Type 0} {x y : A} → Some x ≡ Some y → x ≡ y
 one e = cc
 
 -- filing by a discipline leaves the layout
-pub ruled_layout : (e mid : Seen) (d : Discipline) (set : ℕ) (o x : ℤ) (r : OkOr (Unit {0}) FaultKind) → Rearranges (λ h. filed h d set o x) e mid r → mid.heap.layout ≡ e.heap.layout
+pub ruled_layout : (e mid : Seen) (d : Discipline) (set : ℕ) (o x : ℤ) (r : OkOr (Unit {0}) FaultKind) → HasRearranged (λ h. filed h d set o x) e mid r → mid.heap.layout ≡ e.heap.layout
 ruled_layout e mid d set o x (Ok u) re = ap (λ (h : State). h.layout) (filed_refiled e.heap mid.heap set o x d re.0)
 ruled_layout e mid d set o x (Err k) re = ap (λ (t : Seen). t.heap.layout) re.1
 
@@ -152,10 +152,10 @@ module _ (e : Seen) (set : ℕ) (m : ℤ) where
       (noted_quiet (OfCount set) m (Whole n.0) (with_seen s mid) none)
 
   -- what the note gives, whether the machine makes it or not
-  noted_as : (mid new : Seen) (notes : Bool) (q : OkOr (Unit {0}) FaultKind) → (notes ≡ false → watch mid.statistics (OfCount set) ≡ false) → IsCount mid.heap set m → ChangesIf notes (count_noted set m) mid new q → Settled (count_noted set m) mid new q
+  noted_as : (mid new : Seen) (notes : Bool) (q : OkOr (Unit {0}) FaultKind) → (notes ≡ false → watch mid.statistics (OfCount set) ≡ false) → IsCount mid.heap set m → HasChangedIf notes (count_noted set m) mid new q → IsSettled (count_noted set m) mid new q
   noted_as mid new true (Ok u) reported n did = did
   noted_as mid new true (Err k) reported n did = did.0
-  noted_as mid new false q reported n did = subst (λ q. Settled (count_noted set m) mid new q) (sym did.0) (subst (λ (t : Seen). Settled (count_noted set m) mid t (Ok tt)) (sym did.1) (λ s right. by s right (count_quiet mid (reported refl) n s)))
+  noted_as mid new false q reported n did = subst (λ q. IsSettled (count_noted set m) mid new q) (sym did.0) (subst (λ (t : Seen). IsSettled (count_noted set m) mid t (Ok tt)) (sym did.1) (λ s right. by s right (count_quiet mid (reported refl) n s)))
     where
       by : (s : Store) → IsRight (count_noted set m (with_seen s mid)) → Quiet (with_seen s mid) (count_noted set m (with_seen s mid)) → count_noted set m (with_seen s mid) ≡ Ok (with_seen s mid)
       by s right (inl ok) = ok
@@ -175,39 +175,39 @@ module _ (e : Seen) (set : ℕ) (m : ℤ) where
         ∙ ap (λ r. if_ok (due r) (recounted set m (with_seen s e))) done
         ∙ ap (λ (t : Seen). count_noted set m (with_seen s t)) (sym same)
 
-    settles_as : (new : Seen) (q : OkOr (Unit {0}) FaultKind) → ((s : Store) → f (with_seen s e) ≡ count_noted set m (with_seen s mid)) → Settled (count_noted set m) mid new q → Settled f e new q
+    settles_as : (new : Seen) (q : OkOr (Unit {0}) FaultKind) → ((s : Store) → f (with_seen s e) ≡ count_noted set m (with_seen s mid)) → IsSettled (count_noted set m) mid new q → IsSettled f e new q
     settles_as new (Ok u) alike d = λ s right. alike s ∙ d s (λ wrong. right (alike s ∙ wrong))
     settles_as new (Err k) alike d = λ s right. alike s ∙ d s (λ wrong. right (alike s ∙ wrong))
 
-    pub settled_by : (new : Seen) (notes : Bool) (changed q : OkOr (Unit {0}) FaultKind) → IsChange f op → KeepsCount op → IsNotedRight notes (OfCount set) e → Rearranges op e mid changed → Counted set m changed notes mid new q → Settled f e new q
+    pub settled_by : (new : Seen) (notes : Bool) (changed q : OkOr (Unit {0}) FaultKind) → IsChange f op → KeepsCount op → IsNotedRight notes (OfCount set) e → HasRearranged op e mid changed → IsCounted set m changed notes mid new q → IsSettled f e new q
     settled_by new notes (Ok u) q is keeps reported re did =
         settles_as new q (noted_after is re.0 re.1)
         (noted_as mid new notes q (λ none. ap (λ (t : Seen). watch t.statistics (OfCount set)) re.1 ∙ reported none) (keeps mid.heap re.0) did)
     settled_by new notes (Err k) q is keeps reported re did =
-        subst (λ q. Settled f e new q) (sym did) (λ s right. is s ∙ ap (λ r. if_ok (due r) (recounted set m (with_seen s e))) re.0)
+        subst (λ q. IsSettled f e new q) (sym did) (λ s right. is s ∙ ap (λ r. if_ok (due r) (recounted set m (with_seen s e))) re.0)
 
 module _ (e : Seen) (set : ℕ) (m : ℤ) (mid new : Seen) (notes : Bool) (there : is_some (slice_get e.heap.layout.sets set) ≡ true) where
-  pub first_filed : (x : ℤ) (changed q : OkOr (Unit {0}) FaultKind) → Rearranges (λ h. filed_first h set m x) e mid changed → Counted set m changed notes mid new q → Files Foremost set notes e new q m x
+  pub first_filed : (x : ℤ) (changed q : OkOr (Unit {0}) FaultKind) → HasRearranged (λ h. filed_first h set m x) e mid changed → IsCounted set m changed notes mid new q → HasFiled Foremost set notes e new q m x
   first_filed x changed q re did = λ o refers reported.
       settled_by e set m (filed_in Foremost set (Whole x) o) (λ h. filed_first h set m x) mid new notes changed q (filed_first_is e set o m there refers x) (λ t done. first_counts e.heap t set m x done) reported re did
 
-  pub last_filed : (x : ℤ) (changed q : OkOr (Unit {0}) FaultKind) → Rearranges (λ h. filed_last h set m x) e mid changed → Counted set m changed notes mid new q → Files Hindmost set notes e new q m x
+  pub last_filed : (x : ℤ) (changed q : OkOr (Unit {0}) FaultKind) → HasRearranged (λ h. filed_last h set m x) e mid changed → IsCounted set m changed notes mid new q → HasFiled Hindmost set notes e new q m x
   last_filed x changed q re did = λ o refers reported.
       settled_by e set m (filed_in Hindmost set (Whole x) o) (λ h. filed_last h set m x) mid new notes changed q (filed_last_is e set o m there refers x) (λ t done. last_counts e.heap t set m x done) reported re did
 
-  pub ruled_filed : (d : Discipline) (x : ℤ) (changed q : OkOr (Unit {0}) FaultKind) → slice_get e.disciplines set ≡ Some d → is_fit e.heap.layout set d ≡ true → Rearranges (λ h. filed h d set m x) e mid changed → Counted set m changed notes mid new q → Files ByRule set notes e new q m x
+  pub ruled_filed : (d : Discipline) (x : ℤ) (changed q : OkOr (Unit {0}) FaultKind) → slice_get e.disciplines set ≡ Some d → is_fit e.heap.layout set d ≡ true → HasRearranged (λ h. filed h d set m x) e mid changed → IsCounted set m changed notes mid new q → HasFiled ByRule set notes e new q m x
   ruled_filed d x changed q has fits re did = λ o refers reported.
       settled_by e set m (filed_in ByRule set (Whole x) o) (λ h. filed h d set m x) mid new notes changed q (filed_ruled_is e set o m there refers d x has fits) (λ t done. filed_counts e.heap t set m d x done) reported re did
 
-  pub before_filed : (x y : ℤ) (changed q : OkOr (Unit {0}) FaultKind) → Rearranges (λ h. filed_before h set m x y) e mid changed → Counted set m changed notes mid new q → Files (JustBefore (Whole y)) set notes e new q m x
+  pub before_filed : (x y : ℤ) (changed q : OkOr (Unit {0}) FaultKind) → HasRearranged (λ h. filed_before h set m x y) e mid changed → IsCounted set m changed notes mid new q → HasFiled (JustBefore (Whole y)) set notes e new q m x
   before_filed x y changed q re did = λ o refers reported.
       settled_by e set m (filed_in (JustBefore (Whole y)) set (Whole x) o) (λ h. filed_before h set m x y) mid new notes changed q (filed_before_is e set o m there refers x y) (λ t done. before_counts e.heap t set m x y done) reported re did
 
-  pub after_filed : (x y : ℤ) (changed q : OkOr (Unit {0}) FaultKind) → Rearranges (λ h. filed_after h set m x y) e mid changed → Counted set m changed notes mid new q → Files (JustAfter (Whole y)) set notes e new q m x
+  pub after_filed : (x y : ℤ) (changed q : OkOr (Unit {0}) FaultKind) → HasRearranged (λ h. filed_after h set m x y) e mid changed → IsCounted set m changed notes mid new q → HasFiled (JustAfter (Whole y)) set notes e new q m x
   after_filed x y changed q re did = λ o refers reported.
       settled_by e set m (filed_in (JustAfter (Whole y)) set (Whole x) o) (λ h. filed_after h set m x y) mid new notes changed q (filed_after_is e set o m there refers x y) (λ t done. after_counts e.heap t set m x y done) reported re did
 
-  pub member_removed : (x : ℤ) (changed q : OkOr (Unit {0}) FaultKind) → Rearranges (λ h. removed h set m x) e mid changed → Counted set m changed notes mid new q → Removes set notes e new q m x
+  pub member_removed : (x : ℤ) (changed q : OkOr (Unit {0}) FaultKind) → HasRearranged (λ h. removed h set m x) e mid changed → IsCounted set m changed notes mid new q → HasRemoved set notes e new q m x
   member_removed x changed q re did = λ o refers reported.
       settled_by e set m (removed_from set (Whole x) o) (λ h. removed h set m x) mid new notes changed q (removed_is e set o m there refers x) (λ t done. removed_counts e.heap t set m x done) reported re did
 
@@ -220,15 +220,15 @@ module _ (e : Seen) (set : ℕ) (m : ℤ) (mid new : Seen) (notes : Bool) (there
       ∙ ap (λ r. if_ok {B = Value × Store} (due r) (λ r. turned (λ t. (Whole r.0, t)) (recounted set m (with_seen s e) r.1))) done
       ∙ ap (λ (t : Seen). turned (λ t. (Whole x, t)) (count_noted set m (with_seen s t))) (sym same)
 
-  given_as : (f : Store → OkOr (Value × Store) Failure) (x : ℤ) (q : OkOr (Unit {0}) FaultKind) → ((s : Store) → f (with_seen s e) ≡ turned (λ t. (Whole x, t)) (count_noted set m (with_seen s mid))) → Settled (count_noted set m) mid new q → SettledGiving f e new (number_if x q)
+  given_as : (f : Store → OkOr (Value × Store) Failure) (x : ℤ) (q : OkOr (Unit {0}) FaultKind) → ((s : Store) → f (with_seen s e) ≡ turned (λ t. (Whole x, t)) (count_noted set m (with_seen s mid))) → IsSettled (count_noted set m) mid new q → IsSettledGiving f e new (number_if x q)
   given_as f x (Ok u) alike d = λ s right. alike s ∙ ap (turned (λ t. (Whole x, t))) (d s (λ wrong. right (alike s ∙ ap (turned (λ t. (Whole x, t))) wrong)))
   given_as f x (Err k) alike d = λ s right. alike s ∙ ap (turned (λ t. (Whole x, t))) (d s (λ wrong. right (alike s ∙ ap (turned (λ t. (Whole x, t))) wrong)))
 
-  pub end_taken : (end : End) (taken q : OkOr ℤ FaultKind) → mid ≡ record e { heap = mid.heap } → MatchResult taken (λ x. end_removed end e.heap set m ≡ Ok (x, mid.heap)) (λ k. (end_removed end e.heap set m ≡ Err k) × (mid.heap ≡ e.heap)) → CountedOut set m taken notes mid new q → Takes end set notes e new q m
+  pub end_taken : (end : End) (taken q : OkOr ℤ FaultKind) → mid ≡ record e { heap = mid.heap } → MatchResult taken (λ x. end_removed end e.heap set m ≡ Ok (x, mid.heap)) (λ k. (end_removed end e.heap set m ≡ Err k) × (mid.heap ≡ e.heap)) → IsCountedOut set m taken notes mid new q → HasTaken end set notes e new q m
   end_taken end (Ok x) q same done did = λ o refers reported.
-      subst (λ (q : OkOr ℤ FaultKind). SettledGiving (removed_at end set o) e new q) (sym did.2)
+      subst (λ (q : OkOr ℤ FaultKind). IsSettledGiving (removed_at end set o) e new q) (sym did.2)
       (given_as (removed_at end set o) x did.0 (end_noted end o x refers done same)
       (noted_as e set m mid new notes did.0 (λ none. ap (λ (t : Seen). watch t.statistics (OfCount set)) same ∙ reported none) (end_counts e.heap mid.heap set m end x done) did.1))
   end_taken end (Err k) q same done did = λ o refers reported.
-      subst (λ (q : OkOr ℤ FaultKind). SettledGiving (removed_at end set o) e new q) (sym did)
+      subst (λ (q : OkOr ℤ FaultKind). IsSettledGiving (removed_at end set o) e new q) (sym did)
       (λ s right. end_removed_is e set o m there refers end s ∙ ap (λ r. if_ok {B = Value × Store} (due r) (λ r. turned (λ t. (Whole r.0, t)) (recounted set m (with_seen s e) r.1))) done.0)

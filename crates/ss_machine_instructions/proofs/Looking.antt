@@ -23,14 +23,14 @@ use Rattle.ss_code_instructions.specs.Instructions as i
 use Rattle.ss_code_instructions.specs.Instructions.{Instruction}
 use Rattle.ss_code_instructions.specs.States.{Core, Moved, did, onward}
 use Rattle.ss_code_instructions.specs.Machine.{act, is_due, assignable_count}
-use Rattle.ss_code_instructions.specs.Shape.{Suits}
-use Rattle.ss_code_instructions.specs.Carried.{From, Of, Is}
-use Rattle.ss_machine_world.specs.Seen.{Looks}
+use Rattle.ss_code_instructions.specs.Shape.{IsSuited}
+use Rattle.ss_code_instructions.specs.Carried.{HasOperand, HasBearer, Is}
+use Rattle.ss_machine_world.specs.Seen.{HasAnswer}
 use Rattle.ss_machine_frames.specs.Rows.{place_at}
 use Rattle.ss_machine_frames.proofs.Reading.{only_number, reads, read_within, reads_bearer, bearer_within}
 use Rattle.ss_machine_instructions.specs.declared.flow.Here.{Here}
 use Rattle.ss_machine_instructions.specs.declared.state.State.{State}
-use Rattle.ss_machine_instructions.specs.Doing.{Compiled, Ready, Performs}
+use Rattle.ss_machine_instructions.specs.Doing.{Compiled, IsReadyFor, HasPerformed}
 use Rattle.ss_machine_instructions.specs.Ways.{on_after, done_unless_fault, faulted_by}
 use Rattle.ss_machine_instructions.proofs.Placing.{site, located, suits, deep_here}
 use Rattle.ss_machine_instructions.proofs.Asking.{owner_is, set_within}
@@ -55,9 +55,9 @@ class_of p class modes e = by (slice_get p.layout.classes class) refl e
     by None at e = absurd cc
     by (Some k) at e = (k, at)
 
-module _ (w : Compiled) (c : Core) (here : Here) (s : State) (run : Running) (r : Ready w c here s run) where
+module _ (w : Compiled) (c : Core) (here : Here) (s : State) (run : Running) (r : IsReadyFor w c here s run) where
   abbrev SuitsHere : Instruction → Type 0
-  SuitsHere x = Suits w.program w.code c.place r.placed.locals r.placed.cells x
+  SuitsHere x = IsSuited w.program w.code c.place r.placed.locals r.placed.cells x
 
   abbrev does : Moved
   does = act w.code r.placed.line r.placed.instruction c
@@ -65,7 +65,7 @@ module _ (w : Compiled) (c : Core) (here : Here) (s : State) (run : Running) (r 
   -- ## LookEntity
 
   abbrev pub AtEntity : (class : ℕ) → Address → Type 0
-  AtEntity class entity = From w.code w.run.constants r.placed entity (λ y. Is w.code w.run.constants r.placed (i.LookEntity class y))
+  AtEntity class entity = HasOperand w.code w.run.constants r.placed entity (λ y. Is w.code w.run.constants r.placed (i.LookEntity class y))
 
   pub entity_in : (class : ℕ) (entity : Address) → AtEntity class entity → place_at here.frame entity < length s.rows.numbers
   entity_in class entity z =
@@ -82,7 +82,7 @@ module _ (w : Compiled) (c : Core) (here : Here) (s : State) (run : Running) (r 
   pub class_in : (class : ℕ) (entity : Address) → AtEntity class entity → class < length s.world.heap.layout.classes
   class_in class entity z = let k = class_there class entity z in slice_get_within s.world.heap.layout.classes class k.0 k.1
 
-  pub looks_at_entity : (class : ℕ) (at : Address) (n : ℤ) (answer : OkOr (Unit {0}) FaultKind) (new : State) (result : Option Here) → AtEntity class at → slice_get s.rows.numbers (place_at here.frame at) ≡ Some n → answer ≡ known_in s.world.heap class n → new ≡ faulted_by answer s → result ≡ on_after here (done_unless_fault answer) → Performs (is_due r.placed.instruction) w r.placed.line does s new result
+  pub looks_at_entity : (class : ℕ) (at : Address) (n : ℤ) (answer : OkOr (Unit {0}) FaultKind) (new : State) (result : Option Here) → AtEntity class at → slice_get s.rows.numbers (place_at here.frame at) ≡ Some n → answer ≡ known_in s.world.heap class n → new ≡ faulted_by answer s → result ≡ on_after here (done_unless_fault answer) → HasPerformed (is_due r.placed.instruction) w r.placed.line does s new result
   looks_at_entity class at n answer new result z e known same q =
       let is = z.2 in
       let y = subst SuitsHere is (suits w c here s run r) in
@@ -101,7 +101,7 @@ module _ (w : Compiled) (c : Core) (here : Here) (s : State) (run : Running) (r 
   -- ## LookMember
 
   abbrev pub AtMember : (set : ℕ) → Address → Type 0
-  AtMember set member = From w.code w.run.constants r.placed member (λ y. Is w.code w.run.constants r.placed (i.LookMember set y))
+  AtMember set member = HasOperand w.code w.run.constants r.placed member (λ y. Is w.code w.run.constants r.placed (i.LookMember set y))
 
   pub member_in : (set : ℕ) (member : Address) → AtMember set member → place_at here.frame member < length s.rows.numbers
   member_in set member z =
@@ -115,7 +115,7 @@ module _ (w : Compiled) (c : Core) (here : Here) (s : State) (run : Running) (r 
   pub member_set_in : (set : ℕ) (member : Address) → AtMember set member → set < length s.world.heap.layout.sets
   member_set_in set member z = let y = subst SuitsHere z.2 (suits w c here s run r) in set_in set y.0
 
-  pub looks_at_member : (set : ℕ) (at : Address) (n : ℤ) (answer : OkOr (Unit {0}) FaultKind) (new : State) (result : Option Here) → AtMember set at → slice_get s.rows.numbers (place_at here.frame at) ≡ Some n → answer ≡ no_value (joiner s.world.heap set n) → new ≡ faulted_by answer s → result ≡ on_after here (done_unless_fault answer) → Performs (is_due r.placed.instruction) w r.placed.line does s new result
+  pub looks_at_member : (set : ℕ) (at : Address) (n : ℤ) (answer : OkOr (Unit {0}) FaultKind) (new : State) (result : Option Here) → AtMember set at → slice_get s.rows.numbers (place_at here.frame at) ≡ Some n → answer ≡ no_value (joiner s.world.heap set n) → new ≡ faulted_by answer s → result ≡ on_after here (done_unless_fault answer) → HasPerformed (is_due r.placed.instruction) w r.placed.line does s new result
   looks_at_member set at n answer new result z e known same q =
       let is = z.2 in
       let y = subst SuitsHere is (suits w c here s run r) in
@@ -134,7 +134,7 @@ module _ (w : Compiled) (c : Core) (here : Here) (s : State) (run : Running) (r 
   -- ## LookOwner
 
   abbrev pub AtOwner : (set : ℕ) → Address → Type 0
-  AtOwner set owner = Of w.code w.run.constants r.placed owner (λ o. Is w.code w.run.constants r.placed (i.LookOwner set o))
+  AtOwner set owner = HasBearer w.code w.run.constants r.placed owner (λ o. Is w.code w.run.constants r.placed (i.LookOwner set o))
 
   pub owner_in : (set : ℕ) (owner : Address) → AtOwner set owner → place_at here.frame owner < length s.rows.numbers
   owner_in set owner z =
@@ -144,7 +144,7 @@ module _ (w : Compiled) (c : Core) (here : Here) (s : State) (run : Running) (r 
   pub owner_set_in : (set : ℕ) (owner : Address) → AtOwner set owner → set < length s.world.heap.layout.sets
   owner_set_in set owner z = let y = subst SuitsHere z.2 (suits w c here s run r) in set_within w c here s run r set z.0 y.0
 
-  pub looks_at_owner : (set : ℕ) (at : Address) (n : ℤ) (answer : OkOr (Unit {0}) FaultKind) (new : State) (result : Option Here) → AtOwner set at → slice_get s.rows.numbers (place_at here.frame at) ≡ Some n → answer ≡ no_value (owner s.world.heap set n) → new ≡ faulted_by answer s → result ≡ on_after here (done_unless_fault answer) → Performs (is_due r.placed.instruction) w r.placed.line does s new result
+  pub looks_at_owner : (set : ℕ) (at : Address) (n : ℤ) (answer : OkOr (Unit {0}) FaultKind) (new : State) (result : Option Here) → AtOwner set at → slice_get s.rows.numbers (place_at here.frame at) ≡ Some n → answer ≡ no_value (owner s.world.heap set n) → new ≡ faulted_by answer s → result ≡ on_after here (done_unless_fault answer) → HasPerformed (is_due r.placed.instruction) w r.placed.line does s new result
   looks_at_owner set at n answer new result z e known same q =
       let is = z.2 in
       let y = subst SuitsHere is (suits w c here s run r) in
@@ -162,7 +162,7 @@ module _ (w : Compiled) (c : Core) (here : Here) (s : State) (run : Running) (r 
 
   -- ## LookCount
 
-  pub looks_at_count : (class : ℕ) (answer : OkOr (Unit {0}) FaultKind) (new : State) (result : Option Here) → Is w.code w.run.constants r.placed (i.LookCount class) → Looks (assignable_count class) s.world answer → new ≡ faulted_by answer s → result ≡ on_after here (done_unless_fault answer) → Performs (is_due r.placed.instruction) w r.placed.line does s new result
+  pub looks_at_count : (class : ℕ) (answer : OkOr (Unit {0}) FaultKind) (new : State) (result : Option Here) → Is w.code w.run.constants r.placed (i.LookCount class) → HasAnswer (assignable_count class) s.world answer → new ≡ faulted_by answer s → result ≡ on_after here (done_unless_fault answer) → HasPerformed (is_due r.placed.instruction) w r.placed.line does s new result
   looks_at_count class answer new result is looks same q =
       let m = onward c.cells c c.store in
       let acts : does ≡ did r.placed.line (assignable_count class c.store) (λ _. m) = ap (λ x. act w.code r.placed.line x c) is in

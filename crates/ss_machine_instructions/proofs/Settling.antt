@@ -12,14 +12,14 @@ use Rattle.ss_code_instructions.specs.declared.instruction.Instruction.{Instruct
 use Rattle.ss_code_instructions.specs.Facts.{watch}
 use Rattle.ss_code_instructions.specs.States.{Core, To, Rest, Breaks, core_at, did, onward}
 use Rattle.ss_code_instructions.specs.Machine.{Code, act, is_due}
-use Rattle.ss_machine_frames.specs.Holding.{CellsAt, HoldsCore}
+use Rattle.ss_machine_frames.specs.Holding.{AreCellsAt, IsCoreHeld}
 use Rattle.ss_machine_frames.proofs.Writing.{cells_held}
-use Rattle.ss_machine_world.specs.Seen.{Seen, IsRight, Changes, with_seen}
+use Rattle.ss_machine_world.specs.Seen.{Seen, IsRight, HasChanged, with_seen}
 use Rattle.ss_machine_instructions.specs.declared.flow.Here.{Here}
 use Rattle.ss_machine_instructions.specs.declared.state.State.{State}
-use Rattle.ss_machine_instructions.specs.Doing.{Compiled, Holds, Ready, NoTick, Performs}
+use Rattle.ss_machine_instructions.specs.Doing.{Compiled, IsHeld, IsReadyFor, HasNoTick, HasPerformed}
 use Rattle.ss_machine_instructions.specs.Ways.{on_at, on_after, done_unless_fault, faulted, faulted_by}
-use Rattle.ss_machine_instructions.specs.Worldly.{Settled, Settles, IsNotedRight}
+use Rattle.ss_machine_instructions.specs.Worldly.{IsSettled, IsSettling, IsNotedRight}
 use Rattle.ss_machine_instructions.proofs.Placing.{site, located, calm}
 use Rattle.ss_machine_instructions.proofs.Delivering.{faults}
 
@@ -32,11 +32,11 @@ pub fine_is : {A : Type 0} (P : A → Type 0) (r : OkOr A Failure) (a : A) → F
 fine_is P r a f e = subst (λ q. Fine P q) e f
 
 -- what changes what is seen, or has a fault and changes nothing, is settled
-pub changes_settle : (f : Store → OkOr Store Failure) (old new : Seen) (r : OkOr (Unit {0}) FaultKind) → Changes f old new r → Settled f old new r
+pub changes_settle : (f : Store → OkOr Store Failure) (old new : Seen) (r : OkOr (Unit {0}) FaultKind) → HasChanged f old new r → IsSettled f old new r
 changes_settle f old new (Ok u) d = d
 changes_settle f old new (Err kind) d = d.0
 
-module _ (w : Compiled) (c : Core) (here : Here) (s : State) (run : Running) (r : Ready w c here s run) where
+module _ (w : Compiled) (c : Core) (here : Here) (s : State) (run : Running) (r : IsReadyFor w c here s run) where
   -- ## The store of the definition has what is seen
 
   pub store_is : c.store ≡ with_seen c.store s.world
@@ -63,7 +63,7 @@ module _ (w : Compiled) (c : Core) (here : Here) (s : State) (run : Running) (r 
 
   -- ## What is held once more is seen
 
-  pub world_held : (e : Seen) (place : ℕ) (cells : List Value) → CellsAt s.rows (here.frame + length c.store.locals) cells → HoldsCore w.run.constants w.run.depth here.frame s.rows s.frames (core_at place cells c.frames (with_seen c.store e))
+  pub world_held : (e : Seen) (place : ℕ) (cells : List Value) → AreCellsAt s.rows (here.frame + length c.store.locals) cells → IsCoreHeld w.run.constants w.run.depth here.frame s.rows s.frames (core_at place cells c.frames (with_seen c.store e))
   world_held e place cells at =
       let h = cells_held (site w c here s run r) (located w c here s run r) place cells at in
       record {
@@ -76,7 +76,7 @@ module _ (w : Compiled) (c : Core) (here : Here) (s : State) (run : Running) (r 
         small = h.small;
       }
 
-  pub world_holds : (e : Seen) → Holds w (record c { store = with_seen c.store e }) here (record s { world = e })
+  pub world_holds : (e : Seen) → IsHeld w (record c { store = with_seen c.store e }) here (record s { world = e })
   world_holds e =
       let h = r.holds.held in
       record {
@@ -97,7 +97,7 @@ module _ (w : Compiled) (c : Core) (here : Here) (s : State) (run : Running) (r 
 
   -- ## It goes on
 
-  pub went_on : (f : Store → OkOr Store Failure) (e : Seen) (new : State) (result : Option Here) → is_due r.placed.instruction ≡ false → Settles c r.placed.line (act w.code r.placed.line r.placed.instruction c) here s f → f (with_seen c.store s.world) ≡ Ok (with_seen c.store e) → new ≡ record s { world = e } → result ≡ on_at here → Performs (is_due r.placed.instruction) w r.placed.line (act w.code r.placed.line r.placed.instruction c) s new result
+  pub went_on : (f : Store → OkOr Store Failure) (e : Seen) (new : State) (result : Option Here) → is_due r.placed.instruction ≡ false → IsSettling c r.placed.line (act w.code r.placed.line r.placed.instruction c) here s f → f (with_seen c.store s.world) ≡ Ok (with_seen c.store e) → new ≡ record s { world = e } → result ≡ on_at here → HasPerformed (is_due r.placed.instruction) w r.placed.line (act w.code r.placed.line r.placed.instruction c) s new result
   went_on f e new result calmly z d same on =
       let m = act w.code r.placed.line r.placed.instruction c in
       let l = r.placed.line in
@@ -105,31 +105,31 @@ module _ (w : Compiled) (c : Core) (here : Here) (s : State) (run : Running) (r 
       let there : Here = record { place = here.place + 1; frame = here.frame } in
       let c' = core_at (c.place + 1) z.below c.frames (with_seen c.store e) in
       let acts : m ≡ To c' = z.acts ∙ ap (λ q. did l q (λ t. onward z.below c t)) (ap f store_is ∙ d) in
-      let holds : Holds w c' there s' = record {
+      let holds : IsHeld w c' there s' = record {
         place = ap (λ p. p + 1) r.holds.place;
         held = world_held e (c.place + 1) z.below z.at;
         world = refl;
         even = r.holds.even;
         line = r.holds.line;
       } in
-      let plain : NoTick w l m s s' (on_at here) = record { leads = (c', acts, holds); ticks = refl; steps = refl } in
+      let plain : HasNoTick w l m s s' (on_at here) = record { leads = (c', acts, holds); ticks = refl; steps = refl } in
       calm w c here s run r new result calmly
-      (subst (λ o. NoTick w l m s new o) (sym on) (subst (λ n. NoTick w l m s n (on_at here)) (sym same) plain))
+      (subst (λ o. HasNoTick w l m s new o) (sym on) (subst (λ n. HasNoTick w l m s n (on_at here)) (sym same) plain))
 
   -- a fault of the definition, whatever the machine has done to what is seen
-  pub fails_on : (kind : FaultKind) (e : Seen) (new : State) (result : Option Here) → is_due r.placed.instruction ≡ false → act w.code r.placed.line r.placed.instruction c ≡ Rest (Breaks kind r.placed.line) → new ≡ faulted kind (record s { world = e }) → result ≡ None → Performs (is_due r.placed.instruction) w r.placed.line (act w.code r.placed.line r.placed.instruction c) s new result
+  pub fails_on : (kind : FaultKind) (e : Seen) (new : State) (result : Option Here) → is_due r.placed.instruction ≡ false → act w.code r.placed.line r.placed.instruction c ≡ Rest (Breaks kind r.placed.line) → new ≡ faulted kind (record s { world = e }) → result ≡ None → HasPerformed (is_due r.placed.instruction) w r.placed.line (act w.code r.placed.line r.placed.instruction c) s new result
   fails_on kind e new result calmly acts same none =
       let m = act w.code r.placed.line r.placed.instruction c in
       let l = r.placed.line in
       let s' : State = record s { world = e } in
-      let h : NoTick w l m s' new result = faults w l m s' new result kind r.holds.line acts same none in
+      let h : HasNoTick w l m s' new result = faults w l m s' new result kind r.holds.line acts same none in
       calm w c here s run r new result calmly (record { leads = h.leads; ticks = h.ticks; steps = h.steps })
 
-  fails_by : (f : Store → OkOr Store Failure) (e : Seen) (kind : FaultKind) → Settles c r.placed.line (act w.code r.placed.line r.placed.instruction c) here s f → Settled f s.world e (Err kind) → act w.code r.placed.line r.placed.instruction c ≡ Rest (Breaks kind r.placed.line)
+  fails_by : (f : Store → OkOr Store Failure) (e : Seen) (kind : FaultKind) → IsSettling c r.placed.line (act w.code r.placed.line r.placed.instruction c) here s f → IsSettled f s.world e (Err kind) → act w.code r.placed.line r.placed.instruction c ≡ Rest (Breaks kind r.placed.line)
   fails_by f e kind z d =
       z.acts ∙ ap (λ q. did r.placed.line q (λ t. onward z.below c t)) (ap f store_is ∙ d c.store (λ wrong. z.right (ap f store_is ∙ wrong)))
 
   -- by the answer
-  pub settles : (f : Store → OkOr Store Failure) (e : Seen) (answer : OkOr (Unit {0}) FaultKind) (new : State) (result : Option Here) → is_due r.placed.instruction ≡ false → Settles c r.placed.line (act w.code r.placed.line r.placed.instruction c) here s f → Settled f s.world e answer → new ≡ faulted_by answer (record s { world = e }) → result ≡ on_after here (done_unless_fault answer) → Performs (is_due r.placed.instruction) w r.placed.line (act w.code r.placed.line r.placed.instruction c) s new result
+  pub settles : (f : Store → OkOr Store Failure) (e : Seen) (answer : OkOr (Unit {0}) FaultKind) (new : State) (result : Option Here) → is_due r.placed.instruction ≡ false → IsSettling c r.placed.line (act w.code r.placed.line r.placed.instruction c) here s f → IsSettled f s.world e answer → new ≡ faulted_by answer (record s { world = e }) → result ≡ on_after here (done_unless_fault answer) → HasPerformed (is_due r.placed.instruction) w r.placed.line (act w.code r.placed.line r.placed.instruction c) s new result
   settles f e (Ok u) new result calmly z d same way = went_on f e new result calmly z (d c.store (λ wrong. z.right (ap f store_is ∙ wrong))) same way
   settles f e (Err kind) new result calmly z d same way = fails_on kind e new result calmly (fails_by f e kind z d) same way

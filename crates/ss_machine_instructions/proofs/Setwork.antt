@@ -17,10 +17,10 @@ use Rattle.ss_program.specs.declared.expression.MemberQuery.TheVariants.{Predece
 use Rattle.ss_program.specs.declared.sections.Subject.TheVariants.{OfCount}
 use Rattle.ss_base.specs.declared.words.End.{End}
 use Rattle.ss_program.specs.Program.{Program}
-use Rattle.ss_program.specs.WellTyped.{WellTyped}
+use Rattle.ss_program.specs.WellTyped.{IsWellTyped}
 use Rattle.ss_meaning.specs.Values.{Failure, Fails, if_ok, turned, due, where_fit}
 use Rattle.ss_meaning.specs.Store.{World, Store}
-use Rattle.ss_meaning.specs.Fitting.{Hold, Fits}
+use Rattle.ss_meaning.specs.Fitting.{AreOfModes, IsFittingStore}
 use Rattle.ss_meaning.specs.Sets.{set_at, member, owner_as, owner_by_layout, set_answer, of_set, is_one, of_member, Filing as Position, Foremost, Hindmost, ByRule, JustBefore, JustAfter, filed_in, removed_from, removed_at}
 use Rattle.ss_meaning.proofs.Fine.{Fine}
 use Rattle.ss_meaning.proofs.Sets.{OwnerOk, FilingOk, filed_in_fine, removed_from_fine, removed_at_fine}
@@ -31,17 +31,17 @@ use Rattle.ss_code_instructions.specs.Instructions as i
 use Rattle.ss_code_instructions.specs.Instructions.{Instruction, Operand, Bearer, Target, FilingPlace, First, Last, Ranked, Before, After}
 use Rattle.ss_code_instructions.specs.States.{Core, Moved, did, onward, with_operand_value, with_position, deliver, deliver_with}
 use Rattle.ss_code_instructions.specs.Machine.{act, is_due}
-use Rattle.ss_code_instructions.specs.Shape.{Suits, SetFits, GivesMode, GivesBearer, GivesPosition, typed_scope}
-use Rattle.ss_code_instructions.specs.Carried.{From, Of, To, Is, OperandAt, BearerAt}
+use Rattle.ss_code_instructions.specs.Shape.{IsSuited, IsSetBearer, IsGivingMode, IsGivingBearer, IsGivingPosition, typed_scope}
+use Rattle.ss_code_instructions.specs.Carried.{HasOperand, HasBearer, HasTarget, Is, IsOperandAt, IsBearerAt}
 use Rattle.ss_machine_frames.specs.Rows.{place_at}
-use Rattle.ss_machine_frames.specs.Holding.{CellsAt}
+use Rattle.ss_machine_frames.specs.Holding.{AreCellsAt}
 use Rattle.ss_machine_frames.proofs.Reading.{Refers, only_number, reads, read_within, reads_bearer, bearer_within, shorter}
 use Rattle.ss_machine_world.specs.Seen.{Seen, IsRight, with_seen, as_value}
 use Rattle.ss_machine_instructions.specs.declared.flow.Here.{Here}
 use Rattle.ss_machine_instructions.specs.declared.state.State.{State}
-use Rattle.ss_machine_instructions.specs.Doing.{Compiled, Ready, NoTick, Performs, Delivers}
+use Rattle.ss_machine_instructions.specs.Doing.{Compiled, IsReadyFor, HasNoTick, HasPerformed, IsDelivering}
 use Rattle.ss_machine_instructions.specs.Ways.{faulted, faulted_by, on_after, done_unless_fault}
-use Rattle.ss_machine_instructions.specs.Worldly.{SettledGiving, Settles, IsOwner, IsRuled, Files, Removes, Takes, one_of, member_answer}
+use Rattle.ss_machine_instructions.specs.Worldly.{IsSettledGiving, IsSettling, IsOwner, IsRuled, HasFiled, HasRemoved, HasTaken, one_of, member_answer}
 use Rattle.ss_machine_instructions.proofs.Placing.{site, located, suits, small, deep_at, deep_here, calm}
 use Rattle.ss_machine_instructions.proofs.Delivering.{delivers, deliver_is, number_right}
 use Rattle.ss_machine_instructions.proofs.Asking.{owner_is, set_there}
@@ -80,13 +80,13 @@ module _ (set : ℕ) (n : ℤ) (s : Store) (t : SetLayout) (there : set_at set s
 -- ## Owners
 
 -- what a bearer refers to is an owner, as the program has it
-owner_ok : (p : Program) (typed : WellTyped p) (ms : List Mode) (set : ℕ) (x : Bearer) (o : Option Value) (z : ℤ) → SetFits p set x → Refers x o z → OwnerOk p typed ms set o
+owner_ok : (p : Program) (typed : IsWellTyped p) (ms : List Mode) (set : ℕ) (x : Bearer) (o : Option Value) (z : ℤ) → IsSetBearer p set x → Refers x o z → OwnerOk p typed ms set o
 owner_ok p typed ms set None o z fits refers = subst (λ o. OwnerOk p typed ms set o) (sym refers.0) fits
 owner_ok p typed ms set (Some x) o z fits refers = subst (λ o. OwnerOk p typed ms set o) (sym refers) (fits, refl)
 
-module _ (w : Compiled) (c : Core) (here : Here) (s : State) (run : Running) (r : Ready w c here s run) where
+module _ (w : Compiled) (c : Core) (here : Here) (s : State) (run : Running) (r : IsReadyFor w c here s run) where
   abbrev SuitsHere : Instruction → Type 0
-  SuitsHere x = Suits w.program w.code c.place r.placed.locals r.placed.cells x
+  SuitsHere x = IsSuited w.program w.code c.place r.placed.locals r.placed.cells x
 
   abbrev Low : ℕ
   Low = here.frame + length c.store.locals
@@ -98,7 +98,7 @@ module _ (w : Compiled) (c : Core) (here : Here) (s : State) (run : Running) (r 
   heap_here = ap (λ (x : World). x.heap) r.holds.world
 
   -- the number that is read is that of the owner, as the machine's world has it
-  is_owner : (set : ℕ) (x : Bearer) (o : Option Value) (z : ℤ) → SetFits w.program set x → Refers x o z → IsOwner s.world set o z
+  is_owner : (set : ℕ) (x : Bearer) (o : Option Value) (z : ℤ) → IsSetBearer w.program set x → Refers x o z → IsOwner s.world set o z
   is_owner set x o z fits refers =
       let t = set_there w.program set x fits in
       let there : slice_get s.world.heap.layout.sets set ≡ Some t.0 = ap (λ l. slice_get l.sets set) (layout_seen w c here s run r) ∙ t.1 in
@@ -107,17 +107,17 @@ module _ (w : Compiled) (c : Core) (here : Here) (s : State) (run : Running) (r 
       ∙ sym (ap (λ so. owner_by_layout so o) known)
       ∙ owner_is w.program set x o z c.store layout_here fits refers
 
-  pub ruled_here : (set : ℕ) (x : Bearer) → SetFits w.program set x → IsRuled s.world set
+  pub ruled_here : (set : ℕ) (x : Bearer) → IsSetBearer w.program set x → IsRuled s.world set
   ruled_here set x fits =
       let t = set_there w.program set x fits in
       ruled_in w.program r.compiled.typed s.world set t.0 t.1 (disciplines_seen w c here s run r) (layout_seen w c here s run r)
 
-  set_seen : (set : ℕ) (x : Bearer) → SetFits w.program set x → set < length s.world.heap.layout.sets
+  set_seen : (set : ℕ) (x : Bearer) → IsSetBearer w.program set x → set < length s.world.heap.layout.sets
   set_seen set x fits =
       let t = set_there w.program set x fits in
       slice_get_within s.world.heap.layout.sets set t.0 (ap (λ l. slice_get l.sets set) (layout_seen w c here s run r) ∙ t.1)
 
-  bearer_shorter : (x : Bearer) (rest : List Mode) → GivesBearer (typed_scope w.program w.code r.placed.locals) x r.placed.cells rest → length rest ≤ w.run.depth
+  bearer_shorter : (x : Bearer) (rest : List Mode) → IsGivingBearer (typed_scope w.program w.code r.placed.locals) x r.placed.cells rest → length rest ≤ w.run.depth
   bearer_shorter None rest g = let le = deep_here w c here s run r in omega (arith, ap length g, le)
   bearer_shorter (Some x) rest g =
       shorter (site w c here s run r) (located w c here s run r) x Integer r.placed.cells rest w.run.depth g (deep_here w c here s run r)
@@ -125,7 +125,7 @@ module _ (w : Compiled) (c : Core) (here : Here) (s : State) (run : Running) (r 
   -- ## F., L. and N. of a set
 
   abbrev pub AsksSet : SetQuery → (set : ℕ) → (owner to : Address) → Type 0
-  AsksSet query set owner to = Of w.code w.run.constants r.placed owner (λ o. To w.code w.run.constants r.placed to (λ t. Is w.code w.run.constants r.placed (i.OfSet query set o t)))
+  AsksSet query set owner to = HasBearer w.code w.run.constants r.placed owner (λ o. HasTarget w.code w.run.constants r.placed to (λ t. Is w.code w.run.constants r.placed (i.OfSet query set o t)))
 
   pub asks_set_in : (query : SetQuery) (set : ℕ) (owner to : Address) → AsksSet query set owner to → (place_at here.frame owner < length s.rows.numbers) × (set < length s.world.heap.layout.sets)
   asks_set_in query set owner to z =
@@ -134,7 +134,7 @@ module _ (w : Compiled) (c : Core) (here : Here) (s : State) (run : Running) (r 
         set_seen set z.0 y.0,
       )
 
-  pub asks_set : (query : SetQuery) (set : ℕ) (owner to : Address) (number : ℤ) (answer : OkOr ℤ FaultKind) → AsksSet query set owner to → slice_get s.rows.numbers (place_at here.frame owner) ≡ Some number → answer ≡ set_answer query s.world.heap set number → Delivers w c r.placed.line (act w.code r.placed.line r.placed.instruction c) here s to (as_value answer)
+  pub asks_set : (query : SetQuery) (set : ℕ) (owner to : Address) (number : ℤ) (answer : OkOr ℤ FaultKind) → AsksSet query set owner to → slice_get s.rows.numbers (place_at here.frame owner) ≡ Some number → answer ≡ set_answer query s.world.heap set number → IsDelivering w c r.placed.line (act w.code r.placed.line r.placed.instruction c) here s to (as_value answer)
   asks_set query set owner to number answer z at e =
       let is = z.2.2 in
       let y = subst SuitsHere is (suits w c here s run r) in
@@ -154,7 +154,7 @@ module _ (w : Compiled) (c : Core) (here : Here) (s : State) (run : Running) (r 
   -- ## P., S. and M. of a member
 
   abbrev pub AsksMember : MemberQuery → (set : ℕ) → (member to : Address) → Type 0
-  AsksMember query set member to = From w.code w.run.constants r.placed member (λ y. To w.code w.run.constants r.placed to (λ t. Is w.code w.run.constants r.placed (i.OfMember query set y t)))
+  AsksMember query set member to = HasOperand w.code w.run.constants r.placed member (λ y. HasTarget w.code w.run.constants r.placed to (λ t. Is w.code w.run.constants r.placed (i.OfMember query set y t)))
 
   pub asks_member_in : (query : MemberQuery) (set : ℕ) (member to : Address) → AsksMember query set member to → (place_at here.frame member < length s.rows.numbers) × (set < length s.world.heap.layout.sets)
   asks_member_in query set member to z =
@@ -163,7 +163,7 @@ module _ (w : Compiled) (c : Core) (here : Here) (s : State) (run : Running) (r 
         slice_get_within s.world.heap.layout.sets set y.0.0 (ap (λ l. slice_get l.sets set) (layout_seen w c here s run r) ∙ y.0.1),
       )
 
-  pub asks_member : (query : MemberQuery) (set : ℕ) (member to : Address) (number : ℤ) (answer : OkOr ℤ FaultKind) → AsksMember query set member to → slice_get s.rows.numbers (place_at here.frame member) ≡ Some number → answer ≡ member_answer query s.world.heap set number → Delivers w c r.placed.line (act w.code r.placed.line r.placed.instruction c) here s to (as_value answer)
+  pub asks_member : (query : MemberQuery) (set : ℕ) (member to : Address) (number : ℤ) (answer : OkOr ℤ FaultKind) → AsksMember query set member to → slice_get s.rows.numbers (place_at here.frame member) ≡ Some number → answer ≡ member_answer query s.world.heap set number → IsDelivering w c r.placed.line (act w.code r.placed.line r.placed.instruction c) here s to (as_value answer)
   asks_member query set member to number answer z at e =
       let is = z.2.2 in
       let y = subst SuitsHere is (suits w c here s run r) in
@@ -186,14 +186,14 @@ module _ (w : Compiled) (c : Core) (here : Here) (s : State) (run : Running) (r 
   record Positioned (filing : FilingPlace) (at : Position) (cells : List Value) (rest : List Mode) : Type 0 where
     below : List Value
     is : (go : Position → List Value → Moved) → with_position filing c.store cells go ≡ go at below
-    cells_at : CellsAt s.rows Low below
-    modes : Hold below rest
+    cells_at : AreCellsAt s.rows Low below
+    modes : AreOfModes below rest
 
   abbrev Shortens : FilingPlace → Type 0
-  Shortens filing = (over above : List Mode) → GivesPosition (typed_scope w.program w.code r.placed.locals) filing over above → length over ≤ w.run.depth → length above ≤ w.run.depth
+  Shortens filing = (over above : List Mode) → IsGivingPosition (typed_scope w.program w.code r.placed.locals) filing over above → length over ≤ w.run.depth → length above ≤ w.run.depth
 
   abbrev Positions : FilingPlace → Position → Type 0
-  Positions filing at = (over above : List Mode) (cells : List Value) → GivesPosition (typed_scope w.program w.code r.placed.locals) filing over above → CellsAt s.rows Low cells → Hold cells over → Positioned filing at cells above
+  Positions filing at = (over above : List Mode) (cells : List Value) → IsGivingPosition (typed_scope w.program w.code r.placed.locals) filing over above → AreCellsAt s.rows Low cells → AreOfModes cells over → Positioned filing at cells above
 
   first_shortens : Shortens First
   first_shortens over above g le = omega (arith, ap length g, le)
@@ -219,12 +219,12 @@ module _ (w : Compiled) (c : Core) (here : Here) (s : State) (run : Running) (r 
   after_shortens : (y : Operand) → Shortens (After y)
   after_shortens y over above g le = shorter (site w c here s run r) (located w c here s run r) y Integer over above w.run.depth g le
 
-  before_positions : (y : Operand) (beside : Address) (b : ℤ) → OperandAt w.code w.run.constants r.placed y beside → slice_get s.rows.numbers (place_at here.frame beside) ≡ Some b → Positions (Before y) (JustBefore (Whole b))
+  before_positions : (y : Operand) (beside : Address) (b : ℤ) → IsOperandAt w.code w.run.constants r.placed y beside → slice_get s.rows.numbers (place_at here.frame beside) ≡ Some b → Positions (Before y) (JustBefore (Whole b))
   before_positions y beside b at e over above cells g lie q =
       let x = reads (site w c here s run r) (located w c here s run r) y Integer over above beside cells (Whole b) g at lie q (only_number s.rows (place_at here.frame beside) b e) in
       record { below = x.below; is = λ go. x.is (λ v below. go (JustBefore v) below); cells_at = x.cells; modes = x.modes }
 
-  after_positions : (y : Operand) (beside : Address) (b : ℤ) → OperandAt w.code w.run.constants r.placed y beside → slice_get s.rows.numbers (place_at here.frame beside) ≡ Some b → Positions (After y) (JustAfter (Whole b))
+  after_positions : (y : Operand) (beside : Address) (b : ℤ) → IsOperandAt w.code w.run.constants r.placed y beside → slice_get s.rows.numbers (place_at here.frame beside) ≡ Some b → Positions (After y) (JustAfter (Whole b))
   after_positions y beside b at e over above cells g lie q =
       let x = reads (site w c here s run r) (located w c here s run r) y Integer over above beside cells (Whole b) g at lie q (only_number s.rows (place_at here.frame beside) b e) in
       record { below = x.below; is = λ go. x.is (λ v below. go (JustAfter v) below); cells_at = x.cells; modes = x.modes }
@@ -238,7 +238,7 @@ module _ (w : Compiled) (c : Core) (here : Here) (s : State) (run : Running) (r 
     pub set_place : set < length s.world.heap.layout.sets
     pub ruled_set : IsRuled s.world set
 
-  file_within : (filing : FilingPlace) (set : ℕ) (y : Operand) (o : Bearer) (member owner : Address) → r.placed.instruction ≡ i.File filing set y o → OperandAt w.code w.run.constants r.placed y member → BearerAt w.code w.run.constants r.placed o owner → Shortens filing → FileWithin member owner set
+  file_within : (filing : FilingPlace) (set : ℕ) (y : Operand) (o : Bearer) (member owner : Address) → r.placed.instruction ≡ i.File filing set y o → IsOperandAt w.code w.run.constants r.placed y member → IsBearerAt w.code w.run.constants r.placed o owner → Shortens filing → FileWithin member owner set
   file_within filing set y o member owner is at_y at_o fewer =
       let t = site w c here s run r in
       let st = located w c here s run r in
@@ -251,7 +251,7 @@ module _ (w : Compiled) (c : Core) (here : Here) (s : State) (run : Running) (r 
         ruled_set = ruled_here set o z.0;
       }
 
-  files_by : (filing : FilingPlace) (at : Position) (set : ℕ) (y : Operand) (o : Bearer) (member owner : Address) (n m : ℤ) (notes : Bool) (e : Seen) (answer : OkOr (Unit {0}) FaultKind) (new : State) (result : Option Here) → r.placed.instruction ≡ i.File filing set y o → OperandAt w.code w.run.constants r.placed y member → BearerAt w.code w.run.constants r.placed o owner → Positions filing at → FilingOk w.program r.compiled.typed r.placed.locals at → (notes ≡ false → watch w.code.setting.statistics (OfCount set) ≡ false) → slice_get s.rows.numbers (place_at here.frame member) ≡ Some n → slice_get s.rows.numbers (place_at here.frame owner) ≡ Some m → Files at set notes s.world e answer m n → new ≡ faulted_by answer (record s { world = e }) → result ≡ on_after here (done_unless_fault answer) → Performs (is_due r.placed.instruction) w r.placed.line (act w.code r.placed.line r.placed.instruction c) s new result
+  files_by : (filing : FilingPlace) (at : Position) (set : ℕ) (y : Operand) (o : Bearer) (member owner : Address) (n m : ℤ) (notes : Bool) (e : Seen) (answer : OkOr (Unit {0}) FaultKind) (new : State) (result : Option Here) → r.placed.instruction ≡ i.File filing set y o → IsOperandAt w.code w.run.constants r.placed y member → IsBearerAt w.code w.run.constants r.placed o owner → Positions filing at → FilingOk w.program r.compiled.typed r.placed.locals at → (notes ≡ false → watch w.code.setting.statistics (OfCount set) ≡ false) → slice_get s.rows.numbers (place_at here.frame member) ≡ Some n → slice_get s.rows.numbers (place_at here.frame owner) ≡ Some m → HasFiled at set notes s.world e answer m n → new ≡ faulted_by answer (record s { world = e }) → result ≡ on_after here (done_unless_fault answer) → HasPerformed (is_due r.placed.instruction) w r.placed.line (act w.code r.placed.line r.placed.instruction c) s new result
   files_by filing at set y o member owner n m notes e answer new result is at_y at_o position good reported at_member at_owner filed same way =
       let t = site w c here s run r in
       let st = located w c here s run r in
@@ -261,13 +261,13 @@ module _ (w : Compiled) (c : Core) (here : Here) (s : State) (run : Running) (r 
       let f = position z.1.0 z.1.2.0 b.below z.1.2.1 b.cells b.modes in
       let x = reads t st y Integer z.1.2.0 z.1.2.2.0 member f.below (Whole n) z.1.2.2.1 at_y f.cells_at f.modes (only_number s.rows (place_at here.frame member) n at_member) in
       let op : Store → OkOr Store Failure = filed_in at set (Whole n) b.value in
-      let right : IsRight (op c.store) = fine_right (Fits w.program r.placed.locals) (op c.store) (filed_in_fine w.program r.compiled.typed r.placed.locals at set (Whole n) b.value c.store good refl (owner_ok w.program r.compiled.typed r.placed.locals set o b.value m z.0 b.refers) r.fits.store) in
+      let right : IsRight (op c.store) = fine_right (IsFittingStore w.program r.placed.locals) (op c.store) (filed_in_fine w.program r.compiled.typed r.placed.locals at set (Whole n) b.value c.store good refl (owner_ok w.program r.compiled.typed r.placed.locals set o b.value m z.0 b.refers) r.fits.store) in
       let acts : act w.code l r.placed.instruction c ≡ did l (op c.store) (λ t. onward x.below c t) =
       ap (λ v. act w.code l v c) is
       ∙ b.is (λ o over. with_position filing c.store over (λ f above. with_operand_value y c.store above (λ x below. did l (filed_in f set x o c.store) (λ t. onward below c t))))
       ∙ f.is (λ f above. with_operand_value y c.store above (λ x below. did l (filed_in f set x b.value c.store) (λ t. onward below c t)))
       ∙ x.is (λ x below. did l (filed_in at set x b.value c.store) (λ t. onward below c t)) in
-      let left : Settles c l (act w.code l r.placed.instruction c) here s op = record { below = x.below; acts = acts; right = right; at = x.cells } in
+      let left : IsSettling c l (act w.code l r.placed.instruction c) here s op = record { below = x.below; acts = acts; right = right; at = x.cells } in
       settles w c here s run r op e answer new result (ap is_due is) left
       (filed b.value (is_owner set o b.value m z.0 b.refers) (is_noted_right w c here s run r notes (OfCount set) reported)) same way
 
@@ -275,7 +275,7 @@ module _ (w : Compiled) (c : Core) (here : Here) (s : State) (run : Running) (r 
   IsQuiet notes set = notes ≡ false → watch w.code.setting.statistics (OfCount set) ≡ false
 
   abbrev pub FilesBy : FilingPlace → (set : ℕ) → (member owner : Address) → Type 0
-  FilesBy filing set member owner = From w.code w.run.constants r.placed member (λ y. Of w.code w.run.constants r.placed owner (λ o. Is w.code w.run.constants r.placed (i.File filing set y o)))
+  FilesBy filing set member owner = HasOperand w.code w.run.constants r.placed member (λ y. HasBearer w.code w.run.constants r.placed owner (λ o. Is w.code w.run.constants r.placed (i.File filing set y o)))
 
   pub files_first_in : (set : ℕ) (member owner : Address) → FilesBy First set member owner → FileWithin member owner set
   files_first_in set member owner z = file_within First set z.0 z.2.0 member owner z.2.2 z.1 z.2.1 first_shortens
@@ -290,25 +290,25 @@ module _ (w : Compiled) (c : Core) (here : Here) (s : State) (run : Running) (r 
   abbrev IsDone : (e : Seen) → OkOr (Unit {0}) FaultKind → (new : State) → Option Here → Type 0
   IsDone e answer new result = (new ≡ faulted_by answer (record s { world = e })) × (result ≡ on_after here (done_unless_fault answer))
 
-  pub files_first : (set : ℕ) (member owner : Address) (n m : ℤ) (notes : Bool) (e : Seen) (answer : OkOr (Unit {0}) FaultKind) (new : State) (result : Option Here) → IsQuiet notes set → FilesBy First set member owner → slice_get s.rows.numbers (place_at here.frame member) ≡ Some n → slice_get s.rows.numbers (place_at here.frame owner) ≡ Some m → Files Foremost set notes s.world e answer m n → IsDone e answer new result → Performs (is_due r.placed.instruction) w r.placed.line (act w.code r.placed.line r.placed.instruction c) s new result
+  pub files_first : (set : ℕ) (member owner : Address) (n m : ℤ) (notes : Bool) (e : Seen) (answer : OkOr (Unit {0}) FaultKind) (new : State) (result : Option Here) → IsQuiet notes set → FilesBy First set member owner → slice_get s.rows.numbers (place_at here.frame member) ≡ Some n → slice_get s.rows.numbers (place_at here.frame owner) ≡ Some m → HasFiled Foremost set notes s.world e answer m n → IsDone e answer new result → HasPerformed (is_due r.placed.instruction) w r.placed.line (act w.code r.placed.line r.placed.instruction c) s new result
   files_first set member owner n m notes e answer new result reported z at_member at_owner filed done =
       files_by First Foremost set z.0 z.2.0 member owner n m notes e answer new result z.2.2 z.1 z.2.1 first_positions tt reported at_member at_owner filed done.0 done.1
 
-  pub files_last : (set : ℕ) (member owner : Address) (n m : ℤ) (notes : Bool) (e : Seen) (answer : OkOr (Unit {0}) FaultKind) (new : State) (result : Option Here) → IsQuiet notes set → FilesBy Last set member owner → slice_get s.rows.numbers (place_at here.frame member) ≡ Some n → slice_get s.rows.numbers (place_at here.frame owner) ≡ Some m → Files Hindmost set notes s.world e answer m n → IsDone e answer new result → Performs (is_due r.placed.instruction) w r.placed.line (act w.code r.placed.line r.placed.instruction c) s new result
+  pub files_last : (set : ℕ) (member owner : Address) (n m : ℤ) (notes : Bool) (e : Seen) (answer : OkOr (Unit {0}) FaultKind) (new : State) (result : Option Here) → IsQuiet notes set → FilesBy Last set member owner → slice_get s.rows.numbers (place_at here.frame member) ≡ Some n → slice_get s.rows.numbers (place_at here.frame owner) ≡ Some m → HasFiled Hindmost set notes s.world e answer m n → IsDone e answer new result → HasPerformed (is_due r.placed.instruction) w r.placed.line (act w.code r.placed.line r.placed.instruction c) s new result
   files_last set member owner n m notes e answer new result reported z at_member at_owner filed done =
       files_by Last Hindmost set z.0 z.2.0 member owner n m notes e answer new result z.2.2 z.1 z.2.1 last_positions tt reported at_member at_owner filed done.0 done.1
 
-  pub files_ranked : (set : ℕ) (member owner : Address) (n m : ℤ) (notes : Bool) (e : Seen) (answer : OkOr (Unit {0}) FaultKind) (new : State) (result : Option Here) → IsQuiet notes set → FilesBy Ranked set member owner → slice_get s.rows.numbers (place_at here.frame member) ≡ Some n → slice_get s.rows.numbers (place_at here.frame owner) ≡ Some m → Files ByRule set notes s.world e answer m n → IsDone e answer new result → Performs (is_due r.placed.instruction) w r.placed.line (act w.code r.placed.line r.placed.instruction c) s new result
+  pub files_ranked : (set : ℕ) (member owner : Address) (n m : ℤ) (notes : Bool) (e : Seen) (answer : OkOr (Unit {0}) FaultKind) (new : State) (result : Option Here) → IsQuiet notes set → FilesBy Ranked set member owner → slice_get s.rows.numbers (place_at here.frame member) ≡ Some n → slice_get s.rows.numbers (place_at here.frame owner) ≡ Some m → HasFiled ByRule set notes s.world e answer m n → IsDone e answer new result → HasPerformed (is_due r.placed.instruction) w r.placed.line (act w.code r.placed.line r.placed.instruction c) s new result
   files_ranked set member owner n m notes e answer new result reported z at_member at_owner filed done =
       files_by Ranked ByRule set z.0 z.2.0 member owner n m notes e answer new result z.2.2 z.1 z.2.1 rank_positions tt reported at_member at_owner filed done.0 done.1
 
   -- ## Filing beside another member
 
   abbrev pub FilesBeside : (Operand → FilingPlace) → (set : ℕ) → (beside member owner : Address) → Type 0
-  FilesBeside filing set beside member owner = From w.code w.run.constants r.placed beside (λ y. FilesBy (filing y) set member owner)
+  FilesBeside filing set beside member owner = HasOperand w.code w.run.constants r.placed beside (λ y. FilesBy (filing y) set member owner)
 
   -- the place of the other member is there as well
-  beside_within : (filing : FilingPlace) (set : ℕ) (k y : Operand) (o : Bearer) (beside : Address) → r.placed.instruction ≡ i.File filing set y o → OperandAt w.code w.run.constants r.placed k beside → ((over above : List Mode) → GivesPosition (typed_scope w.program w.code r.placed.locals) filing over above → GivesMode (typed_scope w.program w.code r.placed.locals) k Integer over above) → place_at here.frame beside < length s.rows.numbers
+  beside_within : (filing : FilingPlace) (set : ℕ) (k y : Operand) (o : Bearer) (beside : Address) → r.placed.instruction ≡ i.File filing set y o → IsOperandAt w.code w.run.constants r.placed k beside → ((over above : List Mode) → IsGivingPosition (typed_scope w.program w.code r.placed.locals) filing over above → IsGivingMode (typed_scope w.program w.code r.placed.locals) k Integer over above) → place_at here.frame beside < length s.rows.numbers
   beside_within filing set k y o beside is at_k gives =
       let z = subst SuitsHere is (suits w c here s run r) in
       read_within (site w c here s run r) (located w c here s run r) k Integer z.1.0 z.1.2.0 beside (gives z.1.0 z.1.2.0 z.1.2.1) at_k (bearer_shorter o z.1.0 z.1.1)
@@ -325,18 +325,18 @@ module _ (w : Compiled) (c : Core) (here : Here) (s : State) (run : Running) (r 
     file_within (After z.0) set z.2.0 z.2.2.0 member owner z.2.2.2 z.2.1 z.2.2.1 (after_shortens z.0),
   )
 
-  pub files_before : (set : ℕ) (beside member owner : Address) (k n m : ℤ) (notes : Bool) (e : Seen) (answer : OkOr (Unit {0}) FaultKind) (new : State) (result : Option Here) → IsQuiet notes set → FilesBeside Before set beside member owner → slice_get s.rows.numbers (place_at here.frame beside) ≡ Some k → slice_get s.rows.numbers (place_at here.frame member) ≡ Some n → slice_get s.rows.numbers (place_at here.frame owner) ≡ Some m → Files (JustBefore (Whole k)) set notes s.world e answer m n → IsDone e answer new result → Performs (is_due r.placed.instruction) w r.placed.line (act w.code r.placed.line r.placed.instruction c) s new result
+  pub files_before : (set : ℕ) (beside member owner : Address) (k n m : ℤ) (notes : Bool) (e : Seen) (answer : OkOr (Unit {0}) FaultKind) (new : State) (result : Option Here) → IsQuiet notes set → FilesBeside Before set beside member owner → slice_get s.rows.numbers (place_at here.frame beside) ≡ Some k → slice_get s.rows.numbers (place_at here.frame member) ≡ Some n → slice_get s.rows.numbers (place_at here.frame owner) ≡ Some m → HasFiled (JustBefore (Whole k)) set notes s.world e answer m n → IsDone e answer new result → HasPerformed (is_due r.placed.instruction) w r.placed.line (act w.code r.placed.line r.placed.instruction c) s new result
   files_before set beside member owner k n m notes e answer new result reported z at_beside at_member at_owner filed done =
       files_by (Before z.0) (JustBefore (Whole k)) set z.2.0 z.2.2.0 member owner n m notes e answer new result z.2.2.2 z.2.1 z.2.2.1 (before_positions z.0 beside k z.1 at_beside) refl reported at_member at_owner filed done.0 done.1
 
-  pub files_after : (set : ℕ) (beside member owner : Address) (k n m : ℤ) (notes : Bool) (e : Seen) (answer : OkOr (Unit {0}) FaultKind) (new : State) (result : Option Here) → IsQuiet notes set → FilesBeside After set beside member owner → slice_get s.rows.numbers (place_at here.frame beside) ≡ Some k → slice_get s.rows.numbers (place_at here.frame member) ≡ Some n → slice_get s.rows.numbers (place_at here.frame owner) ≡ Some m → Files (JustAfter (Whole k)) set notes s.world e answer m n → IsDone e answer new result → Performs (is_due r.placed.instruction) w r.placed.line (act w.code r.placed.line r.placed.instruction c) s new result
+  pub files_after : (set : ℕ) (beside member owner : Address) (k n m : ℤ) (notes : Bool) (e : Seen) (answer : OkOr (Unit {0}) FaultKind) (new : State) (result : Option Here) → IsQuiet notes set → FilesBeside After set beside member owner → slice_get s.rows.numbers (place_at here.frame beside) ≡ Some k → slice_get s.rows.numbers (place_at here.frame member) ≡ Some n → slice_get s.rows.numbers (place_at here.frame owner) ≡ Some m → HasFiled (JustAfter (Whole k)) set notes s.world e answer m n → IsDone e answer new result → HasPerformed (is_due r.placed.instruction) w r.placed.line (act w.code r.placed.line r.placed.instruction c) s new result
   files_after set beside member owner k n m notes e answer new result reported z at_beside at_member at_owner filed done =
       files_by (After z.0) (JustAfter (Whole k)) set z.2.0 z.2.2.0 member owner n m notes e answer new result z.2.2.2 z.2.1 z.2.2.1 (after_positions z.0 beside k z.1 at_beside) refl reported at_member at_owner filed done.0 done.1
 
   -- ## Removing
 
   abbrev pub RemovesHere : (set : ℕ) → (member owner : Address) → Type 0
-  RemovesHere set member owner = From w.code w.run.constants r.placed member (λ y. Of w.code w.run.constants r.placed owner (λ o. Is w.code w.run.constants r.placed (i.Remove set y o)))
+  RemovesHere set member owner = HasOperand w.code w.run.constants r.placed member (λ y. HasBearer w.code w.run.constants r.placed owner (λ o. Is w.code w.run.constants r.placed (i.Remove set y o)))
 
   pub removes_in : (set : ℕ) (member owner : Address) → RemovesHere set member owner → FileWithin member owner set
   removes_in set member owner z =
@@ -350,7 +350,7 @@ module _ (w : Compiled) (c : Core) (here : Here) (s : State) (run : Running) (r 
         ruled_set = ruled_here set z.2.0 y.0;
       }
 
-  pub removes : (set : ℕ) (member owner : Address) (n m : ℤ) (notes : Bool) (e : Seen) (answer : OkOr (Unit {0}) FaultKind) (new : State) (result : Option Here) → IsQuiet notes set → RemovesHere set member owner → slice_get s.rows.numbers (place_at here.frame member) ≡ Some n → slice_get s.rows.numbers (place_at here.frame owner) ≡ Some m → Removes set notes s.world e answer m n → IsDone e answer new result → Performs (is_due r.placed.instruction) w r.placed.line (act w.code r.placed.line r.placed.instruction c) s new result
+  pub removes : (set : ℕ) (member owner : Address) (n m : ℤ) (notes : Bool) (e : Seen) (answer : OkOr (Unit {0}) FaultKind) (new : State) (result : Option Here) → IsQuiet notes set → RemovesHere set member owner → slice_get s.rows.numbers (place_at here.frame member) ≡ Some n → slice_get s.rows.numbers (place_at here.frame owner) ≡ Some m → HasRemoved set notes s.world e answer m n → IsDone e answer new result → HasPerformed (is_due r.placed.instruction) w r.placed.line (act w.code r.placed.line r.placed.instruction c) s new result
   removes set member owner n m notes e answer new result reported z at_member at_owner removed done =
       let t = site w c here s run r in
       let st = located w c here s run r in
@@ -360,19 +360,19 @@ module _ (w : Compiled) (c : Core) (here : Here) (s : State) (run : Running) (r 
       let b = reads_bearer t st z.2.0 r.placed.cells y.1.0 owner c.cells m y.1.1 z.2.1 r.holds.held.cells r.fits.cells at_owner in
       let x = reads t st z.0 Integer y.1.0 y.1.2.0 member b.below (Whole n) y.1.2.1 z.1 b.cells b.modes (only_number s.rows (place_at here.frame member) n at_member) in
       let op : Store → OkOr Store Failure = removed_from set (Whole n) b.value in
-      let right : IsRight (op c.store) = fine_right (Fits w.program r.placed.locals) (op c.store) (removed_from_fine w.program r.compiled.typed r.placed.locals set (Whole n) b.value c.store refl (owner_ok w.program r.compiled.typed r.placed.locals set z.2.0 b.value m y.0 b.refers) r.fits.store) in
+      let right : IsRight (op c.store) = fine_right (IsFittingStore w.program r.placed.locals) (op c.store) (removed_from_fine w.program r.compiled.typed r.placed.locals set (Whole n) b.value c.store refl (owner_ok w.program r.compiled.typed r.placed.locals set z.2.0 b.value m y.0 b.refers) r.fits.store) in
       let acts : act w.code l r.placed.instruction c ≡ did l (op c.store) (λ t. onward x.below c t) =
       ap (λ v. act w.code l v c) is
       ∙ b.is (λ o above. with_operand_value z.0 c.store above (λ x below. did l (removed_from set x o c.store) (λ t. onward below c t)))
       ∙ x.is (λ x below. did l (removed_from set x b.value c.store) (λ t. onward below c t)) in
-      let left : Settles c l (act w.code l r.placed.instruction c) here s op = record { below = x.below; acts = acts; right = right; at = x.cells } in
+      let left : IsSettling c l (act w.code l r.placed.instruction c) here s op = record { below = x.below; acts = acts; right = right; at = x.cells } in
       settles w c here s run r op e answer new result (ap is_due is) left
       (removed b.value (is_owner set z.2.0 b.value m y.0 b.refers) (is_noted_right w c here s run r notes (OfCount set) reported)) done.0 done.1
 
   -- ## The first or the last is removed
 
   abbrev pub TakesHere : End → (set : ℕ) → (owner to : Address) → Type 0
-  TakesHere end set owner to = Of w.code w.run.constants r.placed owner (λ o. To w.code w.run.constants r.placed to (λ t. Is w.code w.run.constants r.placed (i.RemoveEnd end set o t)))
+  TakesHere end set owner to = HasBearer w.code w.run.constants r.placed owner (λ o. HasTarget w.code w.run.constants r.placed to (λ t. Is w.code w.run.constants r.placed (i.RemoveEnd end set o t)))
 
   pub takes_in : (end : End) (set : ℕ) (owner to : Address) → TakesHere end set owner to → (place_at here.frame owner < length s.rows.numbers) × (set < length s.world.heap.layout.sets)
   takes_in end set owner to z =
@@ -383,7 +383,7 @@ module _ (w : Compiled) (c : Core) (here : Here) (s : State) (run : Running) (r 
 
   -- a value and a store that fit
   abbrev IsFitting : Value × Store → Type 0
-  IsFitting b = (mode_of b.0 ≡ Integer) × Fits w.program r.placed.locals b.1
+  IsFitting b = (mode_of b.0 ≡ Integer) × IsFittingStore w.program r.placed.locals b.1
 
   -- the operation of the definition, with the owner that was read
   record TakesAs (end : End) (set : ℕ) (rest : List Mode) (target : Target) (m : ℤ) : Type 0 where
@@ -392,10 +392,10 @@ module _ (w : Compiled) (c : Core) (here : Here) (s : State) (run : Running) (r 
     acts : act w.code r.placed.line r.placed.instruction c ≡ deliver_with r.placed.line target (removed_at end set of c.store) below c
     refers : IsOwner s.world set of m
     fine : Fine IsFitting (removed_at end set of c.store)
-    cells_at : CellsAt s.rows Low below
-    modes : Hold below rest
+    cells_at : AreCellsAt s.rows Low below
+    modes : AreOfModes below rest
 
-  takes_as : (end : End) (set : ℕ) (z : Bearer) (owner : Address) (target : Target) (rest : List Mode) (m : ℤ) → SetFits w.program set z → GivesBearer (typed_scope w.program w.code r.placed.locals) z r.placed.cells rest → BearerAt w.code w.run.constants r.placed z owner → r.placed.instruction ≡ i.RemoveEnd end set z target → slice_get s.rows.numbers (place_at here.frame owner) ≡ Some m → TakesAs end set rest target m
+  takes_as : (end : End) (set : ℕ) (z : Bearer) (owner : Address) (target : Target) (rest : List Mode) (m : ℤ) → IsSetBearer w.program set z → IsGivingBearer (typed_scope w.program w.code r.placed.locals) z r.placed.cells rest → IsBearerAt w.code w.run.constants r.placed z owner → r.placed.instruction ≡ i.RemoveEnd end set z target → slice_get s.rows.numbers (place_at here.frame owner) ≡ Some m → TakesAs end set rest target m
   takes_as end set z owner target rest m fits gives at_z is at_owner =
       let b = reads_bearer (site w c here s run r) (located w c here s run r) z r.placed.cells rest owner c.cells m gives at_z r.holds.held.cells r.fits.cells at_owner in
       record {
@@ -409,13 +409,13 @@ module _ (w : Compiled) (c : Core) (here : Here) (s : State) (run : Running) (r 
       }
 
   -- what the operation gives, by what the machine's did
-  given_is : (f : Store → OkOr (Value × Store) Failure) (e : Seen) (x : ℤ) → IsRight (f c.store) → SettledGiving f s.world e (Ok x) → f c.store ≡ Ok (Whole x, with_seen c.store e)
+  given_is : (f : Store → OkOr (Value × Store) Failure) (e : Seen) (x : ℤ) → IsRight (f c.store) → IsSettledGiving f s.world e (Ok x) → f c.store ≡ Ok (Whole x, with_seen c.store e)
   given_is f e x right d = ap f (store_is w c here s run r) ∙ d c.store (λ wrong. right (ap f (store_is w c here s run r) ∙ wrong))
 
-  given_not : (f : Store → OkOr (Value × Store) Failure) (e : Seen) (kind : FaultKind) → IsRight (f c.store) → SettledGiving f s.world e (Err kind) → f c.store ≡ Err (Fails kind)
+  given_not : (f : Store → OkOr (Value × Store) Failure) (e : Seen) (kind : FaultKind) → IsRight (f c.store) → IsSettledGiving f s.world e (Err kind) → f c.store ≡ Err (Fails kind)
   given_not f e kind right d = ap f (store_is w c here s run r) ∙ d c.store (λ wrong. right (ap f (store_is w c here s run r) ∙ wrong))
 
-  pub takes_delivers : (end : End) (set : ℕ) (owner to : Address) (m x : ℤ) (notes : Bool) (e : Seen) → IsQuiet notes set → TakesHere end set owner to → slice_get s.rows.numbers (place_at here.frame owner) ≡ Some m → Takes end set notes s.world e (Ok x) m → Delivers w c r.placed.line (act w.code r.placed.line r.placed.instruction c) here (record s { world = e }) to (as_value (Ok x))
+  pub takes_delivers : (end : End) (set : ℕ) (owner to : Address) (m x : ℤ) (notes : Bool) (e : Seen) → IsQuiet notes set → TakesHere end set owner to → slice_get s.rows.numbers (place_at here.frame owner) ≡ Some m → HasTaken end set notes s.world e (Ok x) m → IsDelivering w c r.placed.line (act w.code r.placed.line r.placed.instruction c) here (record s { world = e }) to (as_value (Ok x))
   takes_delivers end set owner to m x notes e reported z at_owner taken =
       let is = z.2.2 in
       let y = subst SuitsHere is (suits w c here s run r) in
@@ -445,11 +445,11 @@ module _ (w : Compiled) (c : Core) (here : Here) (s : State) (run : Running) (r 
       }
 
   -- the member is at its place
-  pub takes : (e : Seen) (new : State) (result : Option Here) → is_due r.placed.instruction ≡ false → NoTick w r.placed.line (act w.code r.placed.line r.placed.instruction c) (record s { world = e }) new result → Performs (is_due r.placed.instruction) w r.placed.line (act w.code r.placed.line r.placed.instruction c) s new result
+  pub takes : (e : Seen) (new : State) (result : Option Here) → is_due r.placed.instruction ≡ false → HasNoTick w r.placed.line (act w.code r.placed.line r.placed.instruction c) (record s { world = e }) new result → HasPerformed (is_due r.placed.instruction) w r.placed.line (act w.code r.placed.line r.placed.instruction c) s new result
   takes e new result calmly h = calm w c here s run r new result calmly (record { leads = h.leads; ticks = h.ticks; steps = h.steps })
 
   -- or there is a fault
-  pub takes_not : (end : End) (set : ℕ) (owner to : Address) (m : ℤ) (kind : FaultKind) (notes : Bool) (e : Seen) (new : State) (result : Option Here) → IsQuiet notes set → TakesHere end set owner to → slice_get s.rows.numbers (place_at here.frame owner) ≡ Some m → Takes end set notes s.world e (Err kind) m → new ≡ faulted kind (record s { world = e }) → result ≡ None → Performs (is_due r.placed.instruction) w r.placed.line (act w.code r.placed.line r.placed.instruction c) s new result
+  pub takes_not : (end : End) (set : ℕ) (owner to : Address) (m : ℤ) (kind : FaultKind) (notes : Bool) (e : Seen) (new : State) (result : Option Here) → IsQuiet notes set → TakesHere end set owner to → slice_get s.rows.numbers (place_at here.frame owner) ≡ Some m → HasTaken end set notes s.world e (Err kind) m → new ≡ faulted kind (record s { world = e }) → result ≡ None → HasPerformed (is_due r.placed.instruction) w r.placed.line (act w.code r.placed.line r.placed.instruction c) s new result
   takes_not end set owner to m kind notes e new result reported z at_owner taken same none =
       let is = z.2.2 in
       let y = subst SuitsHere is (suits w c here s run r) in

@@ -3,7 +3,7 @@
 use Rattle.std.specs.Prelude.{◌≡◌, ℕ, ◌+◌, ◌<◌, ◌≤◌, ◌^◌, ◌∷◌, length}
 use Rattle.ss_code_instructions.specs.declared.entry.SectionEntry.{SectionEntry}
 use Rattle.ss_machine_frames.specs.declared.frames.Frame.{Frame as Call}
-use Rattle.ss_machine_frames.specs.Rows.{TwoRows, Grown, cleared}
+use Rattle.ss_machine_frames.specs.Rows.{TwoRows, AreGrown, cleared}
 use Rattle.ss_machine_instructions.specs.declared.flow.Here.{Here}
 use Rattle.ss_machine_instructions.specs.declared.state.State.{State}
 
@@ -11,10 +11,10 @@ use Rattle.ss_machine_instructions.specs.declared.state.State.{State}
 abbrev pub call_of : Here → SectionEntry → Call
 call_of here entry = record { back = here.place + 1; caller = here.frame; given = length entry.given.items; yielding = entry.yielding }
 
-pub record Enters (here : Here) (old new : State) (entry : SectionEntry) (cell frame : ℕ) : Type 0 where
+pub record HasEntered (here : Here) (old new : State) (entry : SectionEntry) (cell frame : ℕ) : Type 0 where
   pub begin : frame ≡ here.frame + cell
   pub grown : TwoRows
-  pub grows : Grown old.rows grown
+  pub grows : AreGrown old.rows grown
   pub even : length grown.texts ≡ length grown.numbers
   pub room : frame + entry.room ≤ length grown.numbers
   pub small : length grown.numbers < 2 ^ 63

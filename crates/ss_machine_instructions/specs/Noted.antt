@@ -3,24 +3,24 @@ use Rattle.std.specs.Prelude.{◌≡◌, Bool, true, false, Option, Result, Ok, 
 use Rattle.ss_base.specs.declared.fault.FaultKind.{FaultKind}
 use Rattle.ss_meaning.specs.Values.{Failure}
 use Rattle.ss_meaning.specs.Store.{Store}
-use Rattle.ss_machine_world.specs.Seen.{Seen, Changes}
+use Rattle.ss_machine_world.specs.Seen.{Seen, HasChanged}
 use Rattle.ss_machine_instructions.specs.declared.state.State.{State}
 use Rattle.ss_machine_instructions.specs.Ways.{done_unless_fault, faulted_by}
 
 -- a note where it is asked for; else nothing changes
-abbrev pub NotedIf : (noted : Bool) → (Store → Result Store Failure) → (old new : Seen) → (said : Result (Unit {0}) FaultKind) → Type 0
-NotedIf true note old new said = Changes note old new said
-NotedIf false note old new said = (said ≡ Ok tt) × (new ≡ old)
+abbrev pub IsNotedIf : (noted : Bool) → (Store → Result Store Failure) → (old new : Seen) → (said : Result (Unit {0}) FaultKind) → Type 0
+IsNotedIf true note old new said = HasChanged note old new said
+IsNotedIf false note old new said = (said ≡ Ok tt) × (new ≡ old)
 
 -- and that after a change, unless the change had a fault
-abbrev pub NotedAfter : (change : Result (Unit {0}) FaultKind) → (noted : Bool) → (Store → Result Store Failure) → (old new : Seen) → (said : Result (Unit {0}) FaultKind) → Type 0
-NotedAfter (Ok u) noted note old new said = NotedIf noted note old new said
-NotedAfter (Err kind) noted note old new said = (said ≡ Err kind) × (new ≡ old)
+abbrev pub IsNotedAfter : (change : Result (Unit {0}) FaultKind) → (noted : Bool) → (Store → Result Store Failure) → (old new : Seen) → (said : Result (Unit {0}) FaultKind) → Type 0
+IsNotedAfter (Ok u) noted note old new said = IsNotedIf noted note old new said
+IsNotedAfter (Err kind) noted note old new said = (said ≡ Err kind) × (new ≡ old)
 
 -- the machine goes on after a change and its note, or there is a fault
-pub record Notes (noted : Bool) (note : Store → Result Store Failure) (change : Result (Unit {0}) FaultKind) (old new : State) (result : Option (Unit {0})) : Type 0 where
+pub record HasNoted (noted : Bool) (note : Store → Result Store Failure) (change : Result (Unit {0}) FaultKind) (old new : State) (result : Option (Unit {0})) : Type 0 where
   pub world : Seen
   pub said : Result (Unit {0}) FaultKind
-  pub after : NotedAfter change noted note old.world world said
+  pub after : IsNotedAfter change noted note old.world world said
   pub state : new ≡ faulted_by said (record old { world = world })
   pub way : result ≡ done_unless_fault said

@@ -6,7 +6,7 @@ use Rattle.ss_base.specs.declared.layout.Discipline.{Discipline}
 use Rattle.ss_base.specs.declared.line.Line.{Line}
 use Rattle.ss_base.specs.declared.value.Value.{Value}
 use Rattle.ss_base.specs.declared.value.Value.TheVariants.{Whole}
-use Rattle.ss_world.specs.Disciplines.{FitsMembers}
+use Rattle.ss_world.specs.Disciplines.{HasMemberKeys}
 use Rattle.ss_world.specs.State.{State}
 use Rattle.ss_world.specs.Sets.{owner_kind, next_in, previous_in, owner_of_member}
 use Rattle.ss_program.specs.declared.expression.MemberQuery.{MemberQuery}
@@ -19,9 +19,9 @@ use Rattle.ss_meaning.specs.Store.{Store}
 use Rattle.ss_meaning.specs.Sets.{Filing, is_fit, is_one, filed_in, removed_from, removed_at}
 use Rattle.ss_code_instructions.specs.Facts.{watch}
 use Rattle.ss_code_instructions.specs.States.{Core, Moved, did, onward}
-use Rattle.ss_machine_frames.specs.Holding.{CellsAt}
-use Rattle.ss_machine_world.specs.Numbers.{RefersTo, count_noted}
-use Rattle.ss_machine_world.specs.Seen.{Seen, IsRight, Changes, number_if, with_seen}
+use Rattle.ss_machine_frames.specs.Holding.{AreCellsAt}
+use Rattle.ss_machine_world.specs.Numbers.{IsReferenceTo, count_noted}
+use Rattle.ss_machine_world.specs.Seen.{Seen, IsRight, HasChanged, number_if, with_seen}
 use Rattle.ss_machine_instructions.specs.declared.flow.Here.{Here}
 use Rattle.ss_machine_instructions.specs.declared.state.State.{State as Machine}
 use Rattle.ss_machine_instructions.specs.Ways.{on_at, refused_by}
@@ -29,21 +29,21 @@ use Rattle.ss_machine_instructions.specs.Ways.{on_at, refused_by}
 -- ## What an operation does
 
 -- it changes what is seen, or has a fault. After a fault what is seen is left open
-abbrev pub Settled : (Store → Result Store Failure) → (old new : Seen) → Result (Unit {0}) FaultKind → Type 0
-Settled f old new (Ok u) = (s : Store) → IsRight (f (with_seen s old)) → f (with_seen s old) ≡ Ok (with_seen s new)
-Settled f old new (Err kind) = (s : Store) → IsRight (f (with_seen s old)) → f (with_seen s old) ≡ Err (Fails kind)
+abbrev pub IsSettled : (Store → Result Store Failure) → (old new : Seen) → Result (Unit {0}) FaultKind → Type 0
+IsSettled f old new (Ok u) = (s : Store) → IsRight (f (with_seen s old)) → f (with_seen s old) ≡ Ok (with_seen s new)
+IsSettled f old new (Err kind) = (s : Store) → IsRight (f (with_seen s old)) → f (with_seen s old) ≡ Err (Fails kind)
 
 -- it gives a number as well
-abbrev pub SettledGiving : (Store → Result (Value × Store) Failure) → (old new : Seen) → Result ℤ FaultKind → Type 0
-SettledGiving f old new (Ok n) = (s : Store) → IsRight (f (with_seen s old)) → f (with_seen s old) ≡ Ok (Whole n, with_seen s new)
-SettledGiving f old new (Err kind) = (s : Store) → IsRight (f (with_seen s old)) → f (with_seen s old) ≡ Err (Fails kind)
+abbrev pub IsSettledGiving : (Store → Result (Value × Store) Failure) → (old new : Seen) → Result ℤ FaultKind → Type 0
+IsSettledGiving f old new (Ok n) = (s : Store) → IsRight (f (with_seen s old)) → f (with_seen s old) ≡ Ok (Whole n, with_seen s new)
+IsSettledGiving f old new (Err kind) = (s : Store) → IsRight (f (with_seen s old)) → f (with_seen s old) ≡ Err (Fails kind)
 
 -- ## Notes
 
 -- an operation is done where something is so, and else nothing
-abbrev pub ChangesIf : Bool → (Store → Result Store Failure) → (old new : Seen) → Result (Unit {0}) FaultKind → Type 0
-ChangesIf true f old new r = Changes f old new r
-ChangesIf false f old new r = (r ≡ Ok tt) × (new ≡ old)
+abbrev pub HasChangedIf : Bool → (Store → Result Store Failure) → (old new : Seen) → Result (Unit {0}) FaultKind → Type 0
+HasChangedIf true f old new r = HasChanged f old new r
+HasChangedIf false f old new r = (r ≡ Ok tt) × (new ≡ old)
 
 -- where nothing is noted of a subject no statistic watches it
 abbrev pub IsNotedRight : Bool → Subject → Seen → Type 0
@@ -53,39 +53,39 @@ IsNotedRight noted subject e = noted ≡ false → watch e.statistics subject �
 
 -- a number is that of an owner of a set
 abbrev pub IsOwner : Seen → (set : ℕ) → Option Value → (number : ℤ) → Type 0
-IsOwner e set o n = RefersTo (owner_kind e.heap.layout set) o n
+IsOwner e set o n = IsReferenceTo (owner_kind e.heap.layout set) o n
 
 -- a set has its discipline, whose keys are attributes of the members
 pub record IsRuled (e : Seen) (set : ℕ) : Type 0 where
   pub discipline : Discipline
   pub there : slice_get e.disciplines set ≡ Some discipline
   pub fits : is_fit e.heap.layout set discipline ≡ true
-  pub keys : FitsMembers e.heap.layout set discipline
+  pub keys : HasMemberKeys e.heap.layout set discipline
 
 -- a set has changed, or there was a fault; then N. of it is noted, where that is so
-abbrev pub Counted : (set : ℕ) → (owner : ℤ) → (changed : Result (Unit {0}) FaultKind) → (noted : Bool) → (old new : Seen) → Result (Unit {0}) FaultKind → Type 0
-Counted set o (Ok u) noted old new r = ChangesIf noted (count_noted set o) old new r
-Counted set o (Err kind) noted old new r = r ≡ Err kind
+abbrev pub IsCounted : (set : ℕ) → (owner : ℤ) → (changed : Result (Unit {0}) FaultKind) → (noted : Bool) → (old new : Seen) → Result (Unit {0}) FaultKind → Type 0
+IsCounted set o (Ok u) noted old new r = HasChangedIf noted (count_noted set o) old new r
+IsCounted set o (Err kind) noted old new r = r ≡ Err kind
 
--- a set has changed or there was a fault, as in `Counted`, where a member was taken out, which is the answer
-abbrev pub CountedOut : (set : ℕ) → (owner : ℤ) → (taken : Result ℤ FaultKind) → (noted : Bool) → (old new : Seen) → Result ℤ FaultKind → Type 0
-CountedOut set o (Ok x) noted old new r = (q : Result (Unit {0}) FaultKind) × Counted set o (Ok tt) noted old new q × (r ≡ number_if x q)
-CountedOut set o (Err kind) noted old new r = r ≡ Err kind
+-- a set has changed or there was a fault, as in `IsCounted`, where a member was taken out, which is the answer
+abbrev pub IsCountedOut : (set : ℕ) → (owner : ℤ) → (taken : Result ℤ FaultKind) → (noted : Bool) → (old new : Seen) → Result ℤ FaultKind → Type 0
+IsCountedOut set o (Ok x) noted old new r = (q : Result (Unit {0}) FaultKind) × IsCounted set o (Ok tt) noted old new q × (r ≡ number_if x q)
+IsCountedOut set o (Err kind) noted old new r = r ≡ Err kind
 
 -- a member is filed in the set of an owner
-abbrev pub Files : Filing → (set : ℕ) → (noted : Bool) → (old new : Seen) → Result (Unit {0}) FaultKind → (owner member : ℤ) → Type 0
-Files at set noted old new r m x =
-    (o : Option Value) → IsOwner old set o m → IsNotedRight noted (OfCount set) old → Settled (filed_in at set (Whole x) o) old new r
+abbrev pub HasFiled : Filing → (set : ℕ) → (noted : Bool) → (old new : Seen) → Result (Unit {0}) FaultKind → (owner member : ℤ) → Type 0
+HasFiled at set noted old new r m x =
+    (o : Option Value) → IsOwner old set o m → IsNotedRight noted (OfCount set) old → IsSettled (filed_in at set (Whole x) o) old new r
 
 -- one is removed from it
-abbrev pub Removes : (set : ℕ) → (noted : Bool) → (old new : Seen) → Result (Unit {0}) FaultKind → (owner member : ℤ) → Type 0
-Removes set noted old new r m x =
-    (o : Option Value) → IsOwner old set o m → IsNotedRight noted (OfCount set) old → Settled (removed_from set (Whole x) o) old new r
+abbrev pub HasRemoved : (set : ℕ) → (noted : Bool) → (old new : Seen) → Result (Unit {0}) FaultKind → (owner member : ℤ) → Type 0
+HasRemoved set noted old new r m x =
+    (o : Option Value) → IsOwner old set o m → IsNotedRight noted (OfCount set) old → IsSettled (removed_from set (Whole x) o) old new r
 
 -- the first or the last is removed from it, and is the answer
-abbrev pub Takes : End → (set : ℕ) → (noted : Bool) → (old new : Seen) → Result ℤ FaultKind → (owner : ℤ) → Type 0
-Takes end set noted old new r m =
-    (o : Option Value) → IsOwner old set o m → IsNotedRight noted (OfCount set) old → SettledGiving (removed_at end set o) old new r
+abbrev pub HasTaken : End → (set : ℕ) → (noted : Bool) → (old new : Seen) → Result ℤ FaultKind → (owner : ℤ) → Type 0
+HasTaken end set noted old new r m =
+    (o : Option Value) → IsOwner old set o m → IsNotedRight noted (OfCount set) old → IsSettledGiving (removed_at end set o) old new r
 
 -- 1 where there is an owner, and 0 where there is none, or a fault
 abbrev pub one_of : Result (Option ℤ) FaultKind → Result ℤ FaultKind
@@ -111,8 +111,8 @@ refused_where (Err refused) s = refused_by refused s
 -- ## What is left of an instruction once an operation of the world is done
 
 -- it goes on with the cells that are left, in the store that the operation leaves
-pub record Settles (c : Core) (l : Line) (m : Moved) (here : Here) (s : Machine) (f : Store → Result Store Failure) : Type 0 where
+pub record IsSettling (c : Core) (l : Line) (m : Moved) (here : Here) (s : Machine) (f : Store → Result Store Failure) : Type 0 where
   pub below : List Value
   pub acts : m ≡ did l (f c.store) (λ t. onward below c t)
   pub right : IsRight (f c.store)
-  pub at : CellsAt s.rows (here.frame + length c.store.locals) below
+  pub at : AreCellsAt s.rows (here.frame + length c.store.locals) below

@@ -6,7 +6,7 @@ ghost use Rattle.ss_base.specs.declared.value.Value.TheVariants.{Whole, Text};
 ghost use Rattle.ss_meaning.specs.Values.{computed, operator_of};
 ghost use Rattle.ss_records.specs.Attributes.{changed_number, IsAssigned, IsChanged};
 ghost use Rattle.ss_world.specs.State.{modes_of, value_in, assigned};
-ghost use Rattle.ss_machine_instructions.specs.Doing.{Can, Does};
+ghost use Rattle.ss_machine_instructions.specs.Doing.{Can, HasDone};
 ghost use Rattle.ss_machine_instructions.specs.Ways.{on_after};
 
 use crate::flow::Here;
@@ -113,7 +113,7 @@ impl State {
         to: &Address,
     ) -> Option<()>
         requires { Can here self.old (Instruction.Attribute class field entity.now to.now) }
-        ensures { Does here self.old self.new (on_after here result) (Instruction.Attribute class field entity.now to.now) }
+        ensures { HasDone here self.old self.new (on_after here result) (Instruction.Attribute class field entity.now to.now) }
     {
         let entity = self.number(here, entity);
         let answer = self
@@ -134,7 +134,7 @@ impl State {
         to: &Address,
     ) -> Option<()>
         requires { Can here self.old (Instruction.TextAttribute class field entity.now to.now) }
-        ensures { Does here self.old self.new (on_after here result) (Instruction.TextAttribute class field entity.now to.now) }
+        ensures { HasDone here self.old self.new (on_after here result) (Instruction.TextAttribute class field entity.now to.now) }
     {
         let entity = self.number(here, entity);
         let answer = self
@@ -154,7 +154,7 @@ impl State {
         from: &Address,
     ) -> Option<()>
         requires { Can here self.old (Instruction.SetAttribute attribute.class attribute.field entity.now from.now attribute.noted) }
-        ensures { Does here self.old self.new (on_after here result) (Instruction.SetAttribute attribute.class attribute.field entity.now from.now attribute.noted) }
+        ensures { HasDone here self.old self.new (on_after here result) (Instruction.SetAttribute attribute.class attribute.field entity.now from.now attribute.noted) }
     {
         let (entity, number) = (self.number(here, entity), self.number(here, from));
         let (class, field) = (attribute.class as usize, attribute.field as usize);
@@ -173,7 +173,7 @@ impl State {
         from: &Address,
     ) -> Option<()>
         requires { Can here self.old (Instruction.SetTextAttribute class field entity.now from.now) }
-        ensures { Does here self.old self.new (on_after here result) (Instruction.SetTextAttribute class field entity.now from.now) }
+        ensures { HasDone here self.old self.new (on_after here result) (Instruction.SetTextAttribute class field entity.now from.now) }
     {
         let (entity, text) = (self.number(here, entity), self.text(here, from));
         let answer = assign_text(
@@ -197,7 +197,7 @@ impl State {
         by: &Address,
     ) -> Option<()>
         requires { Can here self.old (Instruction.ChangeAttribute attribute.class attribute.field entity.now by.now sign attribute.noted) }
-        ensures { Does here self.old self.new (on_after here result) (Instruction.ChangeAttribute attribute.class attribute.field entity.now by.now sign attribute.noted) }
+        ensures { HasDone here self.old self.new (on_after here result) (Instruction.ChangeAttribute attribute.class attribute.field entity.now by.now sign attribute.noted) }
     {
         let (entity, number) = (self.number(here, entity), self.number(here, by));
         let (class, field) = (attribute.class as usize, attribute.field as usize);
@@ -209,7 +209,7 @@ impl State {
     #[inline]
     pub fn clock(&mut self, here: Here, to: &Address) -> Option<()>
         requires { Can here self.old (Instruction.Clock to.now) }
-        ensures { Does here self.old self.new (on_after here result) (Instruction.Clock to.now) }
+        ensures { HasDone here self.old self.new (on_after here result) (Instruction.Clock to.now) }
     {
         let time = self.world.timeline.time();
         self.put(here, to, Ok(time))
@@ -219,7 +219,7 @@ impl State {
     #[inline]
     pub fn time_of(&mut self, here: Here, notice: &Address, to: &Address) -> Option<()>
         requires { Can here self.old (Instruction.TimeOf notice.now to.now) }
-        ensures { Does here self.old self.new (on_after here result) (Instruction.TimeOf notice.now to.now) }
+        ensures { HasDone here self.old self.new (on_after here result) (Instruction.TimeOf notice.now to.now) }
     {
         let notice = self.number(here, notice);
         let answer = self.world.population.time_a(notice);

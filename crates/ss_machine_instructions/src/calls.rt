@@ -2,9 +2,9 @@
 
 ghost use Rattle.std.specs.Prelude.{◌≡◌, ◌+◌, ◌<◌, ◌≤◌, ◌^◌, ℕ, length, slice_get, Some, IfOk, OnErr};
 ghost use Rattle.ss_code_instructions.specs.Carried.{IsSized};
-ghost use Rattle.ss_machine_frames.specs.Rows.{Yielded};
-ghost use Rattle.ss_machine_instructions.specs.Doing.{Can, Does, CanWhere, DoesWhere};
-ghost use Rattle.ss_machine_instructions.specs.Entered.{Enters, IsOutOfMemory};
+ghost use Rattle.ss_machine_frames.specs.Rows.{AreYielded};
+ghost use Rattle.ss_machine_instructions.specs.Doing.{Can, HasDone, CanWhere, HasDoneWhere};
+ghost use Rattle.ss_machine_instructions.specs.Entered.{HasEntered, IsOutOfMemory};
 ghost use Rattle.ss_machine_instructions.specs.declared.flow.Here.{Here as HereSeen};
 ghost use Rattle.ss_machine_instructions.specs.Ways.{entered_at, led, on_after};
 
@@ -28,7 +28,7 @@ impl State {
         requires sized { IsSized entry.now }
         requires small { here.frame < 2 ^ 63 }
         requires place { here.place + 1 < 2 ^ 64 }
-        ensures ok { IfOk result (λ frame. Enters here self.old self.new entry.now cell frame) }
+        ensures ok { IfOk result (λ frame. HasEntered here self.old self.new entry.now cell frame) }
         ensures err { OnErr result (IsOutOfMemory self.old self.new) }
     {
         let frame = self.cell(here, cell);
@@ -47,7 +47,7 @@ impl State {
     #[inline]
     pub fn call(&mut self, here: Here, entry: &SectionEntry, cell: u32) -> Option<usize>
         requires { (routine : ℕ) × CanWhere (λ w. slice_get w.run.routines routine ≡ Some entry.now) here self.old (Instruction.Call routine cell) }
-        ensures { (routine : ℕ) → DoesWhere (λ w. slice_get w.run.routines routine ≡ Some entry.now) here self.old self.new (entered_at entry.now result) (Instruction.Call routine cell) }
+        ensures { (routine : ℕ) → HasDoneWhere (λ w. slice_get w.run.routines routine ≡ Some entry.now) here self.old self.new (entered_at entry.now result) (Instruction.Call routine cell) }
     {
         if !self.has_taken_tick() {
             return self.stop(Ending::Paused);
@@ -62,7 +62,7 @@ impl State {
     #[inline(always)]
     pub fn leave(&mut self, here: Here) -> Next
         requires { Can here self.old Instruction.Leave }
-        ensures { Does here self.old self.new (led result) Instruction.Leave }
+        ensures { HasDone here self.old self.new (led result) Instruction.Leave }
     {
         match self.frames.pop() {
             None => here.on().after(self.stop(Ending::Ended)),
@@ -79,7 +79,7 @@ impl State {
     /// Halt.
     #[inline(always)]
     pub fn halt(&mut self) -> Option<()>
-        ensures { (here : HereSeen) → Does here self.old self.new (on_after here result) Instruction.Halt }
+        ensures { (here : HereSeen) → HasDone here self.old self.new (on_after here result) Instruction.Halt }
     {
         self.stop(Ending::Ended)
     }
@@ -89,7 +89,7 @@ impl State {
     fn yield_values(&mut self, to: usize, frame: Frame)
         requires within { to + frame.given + frame.yielding ≤ length self.old.rows.numbers }
         requires small { length self.old.rows.numbers < 2 ^ 63 }
-        ensures rows { Yielded self.old.rows self.new.rows (to + frame.given) to frame.yielding }
+        ensures rows { AreYielded self.old.rows self.new.rows (to + frame.given) to frame.yielding }
         ensures same { self.new ≡ record self.old { rows = self.new.rows } }
     {
         let from = to + frame.given as usize;

@@ -8,7 +8,7 @@ ghost use Rattle.ss_world.specs.Disciplines.{member_test};
 ghost use Rattle.ss_meaning.specs.Values.{allows, related};
 ghost use Rattle.ss_meaning.specs.Sets.{is_none};
 ghost use Rattle.ss_code_instructions.specs.Forms.{comparing_numbers};
-ghost use Rattle.ss_machine_instructions.specs.Doing.{Can, Does};
+ghost use Rattle.ss_machine_instructions.specs.Doing.{Can, HasDone};
 ghost use Rattle.ss_machine_instructions.specs.declared.flow.Here.{Here as HereSeen};
 ghost use Rattle.ss_machine_instructions.specs.Ways.{none_of, back_if_at, on_if_at, tested_at};
 
@@ -117,7 +117,7 @@ impl State {
         right: &Address,
     ) -> bool
         requires { (skip : ℕ) × Can here self.now (comparing_numbers relation left.now right.now skip) }
-        ensures { (skip : ℕ) → Does here self.now self.now (on_if_at here result skip) (comparing_numbers relation left.now right.now skip) }
+        ensures { (skip : ℕ) → HasDone here self.now self.now (on_if_at here result skip) (comparing_numbers relation left.now right.now skip) }
     {
         are_numbers_related(relation, self.number(here, left), self.number(here, right))
     }
@@ -132,7 +132,7 @@ impl State {
         right: &Address,
     ) -> bool
         requires { (skip : ℕ) × Can here self.now (Instruction.UnlessTexts left.now right.now skip relation) }
-        ensures { (skip : ℕ) → Does here self.now self.now (on_if_at here result skip) (Instruction.UnlessTexts left.now right.now skip relation) }
+        ensures { (skip : ℕ) → HasDone here self.now self.now (on_if_at here result skip) (Instruction.UnlessTexts left.now right.now skip relation) }
     {
         are_texts_related(relation, self.text(here, left), self.text(here, right))
     }
@@ -147,7 +147,7 @@ impl State {
         negated: bool,
     ) -> Option<bool>
         requires { (skip : ℕ) × Can here self.old (Instruction.UnlessEmpty set owner.now skip negated) }
-        ensures { (skip : ℕ) → Does here self.old self.new (tested_at here result skip) (Instruction.UnlessEmpty set owner.now skip negated) }
+        ensures { (skip : ℕ) → HasDone here self.old self.new (tested_at here result skip) (Instruction.UnlessEmpty set owner.now skip negated) }
     {
         let owner = self.number(here, owner);
         let answer = are_none(number_in(&mut self.world, set as usize, owner));
@@ -164,7 +164,7 @@ impl State {
         negated: bool,
     ) -> Option<bool>
         requires { (skip : ℕ) × Can here self.old (Instruction.UnlessMember set both.0.now both.1.now skip negated) }
-        ensures { (skip : ℕ) → Does here self.old self.new (tested_at here result skip) (Instruction.UnlessMember set both.entry.0.now both.entry.1.now skip negated) }
+        ensures { (skip : ℕ) → HasDone here self.old self.new (tested_at here result skip) (Instruction.UnlessMember set both.entry.0.now both.entry.1.now skip negated) }
     {
         let (member, owner) = (self.number(here, both.0), self.number(here, both.1));
         let answer = is_member(&mut self.world, set as usize, owner, member);
@@ -175,7 +175,7 @@ impl State {
     #[inline]
     pub fn await_event(&mut self) -> bool
         requires { (here : HereSeen) × (skip : ℕ) × Can here self.old (Instruction.Await skip) }
-        ensures { (here : HereSeen) (skip : ℕ) → Does here self.old self.new (on_if_at here result skip) (Instruction.Await skip) }
+        ensures { (here : HereSeen) (skip : ℕ) → HasDone here self.old self.new (on_if_at here result skip) (Instruction.Await skip) }
     {
         is_awaited(&mut self.world)
     }
@@ -184,7 +184,7 @@ impl State {
     #[inline]
     pub fn next_event(&mut self) -> bool
         requires { (here : HereSeen) × (back : ℕ) × Can here self.old (Instruction.NextEvent back) }
-        ensures { (here : HereSeen) (back : ℕ) → Does here self.old self.new (back_if_at here result back) (Instruction.NextEvent back) }
+        ensures { (here : HereSeen) (back : ℕ) → HasDone here self.old self.new (back_if_at here result back) (Instruction.NextEvent back) }
     {
         is_awaited(&mut self.world)
     }

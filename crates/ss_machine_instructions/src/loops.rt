@@ -2,7 +2,7 @@
 
 ghost use Rattle.std.specs.Prelude.{◌≡◌, ℕ, not, pos, int_lt};
 ghost use Rattle.ss_code_instructions.specs.Machine.{has_item};
-ghost use Rattle.ss_machine_instructions.specs.Doing.{Can, Does};
+ghost use Rattle.ss_machine_instructions.specs.Doing.{Can, HasDone};
 ghost use Rattle.ss_machine_instructions.specs.Ways.{item_after, back_if_at, on_after, on_if_at, tested_at};
 
 use crate::flow::{Ending, Here};
@@ -53,7 +53,7 @@ impl State {
     #[inline]
     pub fn begin(&mut self, here: Here, cell: u32) -> Option<bool>
         requires { (skip : ℕ) × Can here self.old (Instruction.Begin cell skip) }
-        ensures { (skip : ℕ) → Does here self.old self.new (tested_at here result skip) (Instruction.Begin cell skip) }
+        ensures { (skip : ℕ) → HasDone here self.old self.new (tested_at here result skip) (Instruction.Begin cell skip) }
     {
         let at = self.cell(here, cell);
         let step = self.rows.number_at(at + STEP);
@@ -69,7 +69,7 @@ impl State {
     #[inline]
     pub fn begin_class(&mut self, here: Here, class: u32, cell: u32) -> bool
         requires { (skip : ℕ) × Can here self.old (Instruction.BeginClass class cell skip) }
-        ensures { (skip : ℕ) → Does here self.old self.new (on_if_at here result skip) (Instruction.BeginClass class cell skip) }
+        ensures { (skip : ℕ) → HasDone here self.old self.new (on_if_at here result skip) (Instruction.BeginClass class cell skip) }
     {
         let count = self.world.population.count(class as usize);
         let at = self.cell(here, cell);
@@ -83,7 +83,7 @@ impl State {
     #[inline(always)]
     pub fn turn(&mut self, here: Here) -> Option<()>
         requires { Can here self.old Instruction.Turn }
-        ensures { Does here self.old self.new (on_after here result) Instruction.Turn }
+        ensures { HasDone here self.old self.new (on_after here result) Instruction.Turn }
     {
         if !self.has_taken_tick() {
             return self.stop(Ending::Paused);
@@ -95,7 +95,7 @@ impl State {
     #[inline]
     pub fn take(&mut self, here: Here, cell: u32, to: &Address) -> Option<()>
         requires { Can here self.old (Instruction.Take cell to.now) }
-        ensures { Does here self.old self.new (on_after here result) (Instruction.Take cell to.now) }
+        ensures { HasDone here self.old self.new (on_after here result) (Instruction.Take cell to.now) }
     {
         if !self.has_taken_tick() {
             return self.stop(Ending::Paused);
@@ -109,7 +109,7 @@ impl State {
     #[inline]
     pub fn next(&mut self, here: Here, cell: u32) -> bool
         requires { (back : ℕ) × Can here self.old (Instruction.Next cell back) }
-        ensures { (back : ℕ) → Does here self.old self.new (back_if_at here result back) (Instruction.Next cell back) }
+        ensures { (back : ℕ) → HasDone here self.old self.new (back_if_at here result back) (Instruction.Next cell back) }
     {
         let at = self.cell(here, cell);
         let item = self.rows.number_at(at);

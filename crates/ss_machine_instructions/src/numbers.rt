@@ -3,7 +3,7 @@
 ghost use Rattle.std.specs.Prelude.{◌≡◌};
 ghost use Rattle.ss_meaning.specs.Values.{computed, computed_alone, distance};
 ghost use Rattle.ss_code_instructions.specs.Forms.{calculating};
-ghost use Rattle.ss_machine_instructions.specs.Doing.{Can, Does, CanDeliver, IsDelivered, as_text};
+ghost use Rattle.ss_machine_instructions.specs.Doing.{Can, HasDone, CanDeliver, IsDelivered, as_text};
 ghost use Rattle.ss_machine_world.specs.Seen.{as_value};
 ghost use Rattle.ss_machine_instructions.specs.Ways.{on_after};
 
@@ -91,7 +91,7 @@ impl State {
     #[inline]
     pub fn move_number(&mut self, here: Here, from: &Address, to: &Address) -> Option<()>
         requires { Can here self.old (Instruction.Move from.now to.now) }
-        ensures { Does here self.old self.new (on_after here result) (Instruction.Move from.now to.now) }
+        ensures { HasDone here self.old self.new (on_after here result) (Instruction.Move from.now to.now) }
     {
         let number = self.number(here, from);
         self.put(here, to, Ok(number))
@@ -101,7 +101,7 @@ impl State {
     #[inline]
     pub fn move_text(&mut self, here: Here, from: &Address, to: &Address) -> Option<()>
         requires { Can here self.old (Instruction.MoveText from.now to.now) }
-        ensures { Does here self.old self.new (on_after here result) (Instruction.MoveText from.now to.now) }
+        ensures { HasDone here self.old self.new (on_after here result) (Instruction.MoveText from.now to.now) }
     {
         let text = self.text(here, from);
         self.put_text(here, to, Ok(text))
@@ -118,7 +118,7 @@ impl State {
         to: &Address,
     ) -> Option<()>
         requires { Can here self.old (calculating operator left.now right.now to.now) }
-        ensures { Does here self.old self.new (on_after here result) (calculating operator left.now right.now to.now) }
+        ensures { HasDone here self.old self.new (on_after here result) (calculating operator left.now right.now to.now) }
     {
         let answer = compute(operator, self.number(here, left), self.number(here, right));
         self.put(here, to, answer)
@@ -134,7 +134,7 @@ impl State {
         to: &Address,
     ) -> Option<()>
         requires { Can here self.old (Instruction.Unary operator of.now to.now) }
-        ensures { Does here self.old self.new (on_after here result) (Instruction.Unary operator of.now to.now) }
+        ensures { HasDone here self.old self.new (on_after here result) (Instruction.Unary operator of.now to.now) }
     {
         let answer = compute_alone(operator, self.number(here, of));
         self.put(here, to, answer)

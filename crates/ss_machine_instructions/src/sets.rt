@@ -9,8 +9,8 @@ ghost use Rattle.ss_meaning.specs.Sets.{set_answer, Foremost, Hindmost, ByRule, 
 ghost use Rattle.ss_machine_world.specs.Numbers.{count_noted};
 ghost use Rattle.ss_machine_world.specs.Seen.{number_if};
 ghost use Rattle.ss_code_instructions.specs.Forms.{asking_member, asking_set};
-ghost use Rattle.ss_machine_instructions.specs.Doing.{Can, Does};
-ghost use Rattle.ss_machine_instructions.specs.Worldly.{ChangesIf, Counted, CountedOut, IsRuled, Files, Removes, Takes, one_of, member_answer};
+ghost use Rattle.ss_machine_instructions.specs.Doing.{Can, HasDone};
+ghost use Rattle.ss_machine_instructions.specs.Worldly.{HasChangedIf, IsCounted, IsCountedOut, IsRuled, HasFiled, HasRemoved, HasTaken, one_of, member_answer};
 ghost use Rattle.ss_machine_instructions.specs.Ways.{on_after};
 
 use crate::flow::Here;
@@ -137,7 +137,7 @@ fn ask_member(
 #[inline(always)]
 fn note_if(world: &mut World, set: usize, owner: i64, noted: bool) -> Result<(), FaultKind>
     requires set { set < length world.old.heap.layout.sets }
-    ensures { ChangesIf noted (count_noted set owner) world.old world.new result }
+    ensures { HasChangedIf noted (count_noted set owner) world.old world.new result }
 {
     if noted {
         world.note_count(set, owner)
@@ -156,7 +156,7 @@ fn counted(
     noted: bool,
 ) -> Result<(), FaultKind>
     requires set { set < length world.old.heap.layout.sets }
-    ensures { Counted set owner changed noted world.old world.new result }
+    ensures { IsCounted set owner changed noted world.old world.new result }
 {
     match changed {
         Err(kind) => Err(kind),
@@ -185,7 +185,7 @@ fn counted_out(
     noted: bool,
 ) -> Result<i64, FaultKind>
     requires set { set < length world.old.heap.layout.sets }
-    ensures { CountedOut set owner taken noted world.old world.new result }
+    ensures { IsCountedOut set owner taken noted world.old world.new result }
 {
     match taken {
         Err(kind) => Err(kind),
@@ -203,7 +203,7 @@ fn put_first(
     noted: bool,
 ) -> Result<(), FaultKind>
     requires set { set < length world.old.heap.layout.sets }
-    ensures { Files Foremost set noted world.old world.new result owner member }
+    ensures { HasFiled Foremost set noted world.old world.new result owner member }
 {
     let changed = world.population.file_first(set, owner, member);
     counted(world, changed, set, owner, noted)
@@ -219,7 +219,7 @@ fn put_last(
     noted: bool,
 ) -> Result<(), FaultKind>
     requires set { set < length world.old.heap.layout.sets }
-    ensures { Files Hindmost set noted world.old world.new result owner member }
+    ensures { HasFiled Hindmost set noted world.old world.new result owner member }
 {
     let changed = world.population.file_last(set, owner, member);
     counted(world, changed, set, owner, noted)
@@ -236,7 +236,7 @@ fn put_ranked(
 ) -> Result<(), FaultKind>
     requires set { set < length world.old.heap.layout.sets }
     requires ruled { IsRuled world.old set }
-    ensures { Files ByRule set noted world.old world.new result owner member }
+    ensures { HasFiled ByRule set noted world.old world.new result owner member }
 {
     let changed = world.file_ranked(set, owner, member);
     counted(world, changed, set, owner, noted)
@@ -253,7 +253,7 @@ fn put_before(
     noted: bool,
 ) -> Result<(), FaultKind>
     requires set { set < length world.old.heap.layout.sets }
-    ensures { Files (JustBefore (Whole beside)) set noted world.old world.new result owner member }
+    ensures { HasFiled (JustBefore (Whole beside)) set noted world.old world.new result owner member }
 {
     let changed = world.population.file_before(set, owner, member, beside);
     counted(world, changed, set, owner, noted)
@@ -270,7 +270,7 @@ fn put_after(
     noted: bool,
 ) -> Result<(), FaultKind>
     requires set { set < length world.old.heap.layout.sets }
-    ensures { Files (JustAfter (Whole beside)) set noted world.old world.new result owner member }
+    ensures { HasFiled (JustAfter (Whole beside)) set noted world.old world.new result owner member }
 {
     let changed = world.population.file_after(set, owner, member, beside);
     counted(world, changed, set, owner, noted)
@@ -286,7 +286,7 @@ fn take_out(
     noted: bool,
 ) -> Result<(), FaultKind>
     requires set { set < length world.old.heap.layout.sets }
-    ensures { Removes set noted world.old world.new result owner member }
+    ensures { HasRemoved set noted world.old world.new result owner member }
 {
     let changed = world.population.remove(set, owner, member);
     counted(world, changed, set, owner, noted)
@@ -296,7 +296,7 @@ fn take_out(
 #[inline(always)]
 fn take_first(world: &mut World, set: usize, owner: i64, noted: bool) -> Result<i64, FaultKind>
     requires set { set < length world.old.heap.layout.sets }
-    ensures { Takes ends.First set noted world.old world.new result owner }
+    ensures { HasTaken ends.First set noted world.old world.new result owner }
 {
     let taken = world.population.remove_first(set, owner);
     counted_out(world, taken, set, owner, noted)
@@ -306,7 +306,7 @@ fn take_first(world: &mut World, set: usize, owner: i64, noted: bool) -> Result<
 #[inline(always)]
 fn take_last(world: &mut World, set: usize, owner: i64, noted: bool) -> Result<i64, FaultKind>
     requires set { set < length world.old.heap.layout.sets }
-    ensures { Takes ends.Last set noted world.old world.new result owner }
+    ensures { HasTaken ends.Last set noted world.old world.new result owner }
 {
     let taken = world.population.remove_last(set, owner);
     counted_out(world, taken, set, owner, noted)
@@ -324,7 +324,7 @@ impl State {
         to: &Address,
     ) -> Option<()>
         requires { Can here self.old (asking_set query set owner.now to.now) }
-        ensures { Does here self.old self.new (on_after here result) (asking_set query set owner.now to.now) }
+        ensures { HasDone here self.old self.new (on_after here result) (asking_set query set owner.now to.now) }
     {
         let owner = self.number(here, owner);
         let answer = ask_set(&mut self.world, query, set as usize, owner);
@@ -342,7 +342,7 @@ impl State {
         to: &Address,
     ) -> Option<()>
         requires { Can here self.old (asking_member query set member.now to.now) }
-        ensures { Does here self.old self.new (on_after here result) (asking_member query set member.now to.now) }
+        ensures { HasDone here self.old self.new (on_after here result) (asking_member query set member.now to.now) }
     {
         let member = self.number(here, member);
         let answer = ask_member(&mut self.world, query, set as usize, member);
@@ -360,7 +360,7 @@ impl State {
         noted: bool,
     ) -> Option<()>
         requires { Can here self.old (Instruction.FileFirst set member.now owner.now noted) }
-        ensures { Does here self.old self.new (on_after here result) (Instruction.FileFirst set member.now owner.now noted) }
+        ensures { HasDone here self.old self.new (on_after here result) (Instruction.FileFirst set member.now owner.now noted) }
     {
         let member = self.number(here, member);
         let owner = self.number(here, owner);
@@ -379,7 +379,7 @@ impl State {
         noted: bool,
     ) -> Option<()>
         requires { Can here self.old (Instruction.FileLast set member.now owner.now noted) }
-        ensures { Does here self.old self.new (on_after here result) (Instruction.FileLast set member.now owner.now noted) }
+        ensures { HasDone here self.old self.new (on_after here result) (Instruction.FileLast set member.now owner.now noted) }
     {
         let member = self.number(here, member);
         let owner = self.number(here, owner);
@@ -398,7 +398,7 @@ impl State {
         noted: bool,
     ) -> Option<()>
         requires { Can here self.old (Instruction.FileRanked set member.now owner.now noted) }
-        ensures { Does here self.old self.new (on_after here result) (Instruction.FileRanked set member.now owner.now noted) }
+        ensures { HasDone here self.old self.new (on_after here result) (Instruction.FileRanked set member.now owner.now noted) }
     {
         let member = self.number(here, member);
         let owner = self.number(here, owner);
@@ -417,7 +417,7 @@ impl State {
         owner: &Address,
     ) -> Option<()>
         requires { Can here self.old (Instruction.FileBeside filing.noted false filing.set member.now beside.now owner.now) }
-        ensures { Does here self.old self.new (on_after here result) (Instruction.FileBeside filing.noted false filing.set member.now beside.now owner.now) }
+        ensures { HasDone here self.old self.new (on_after here result) (Instruction.FileBeside filing.noted false filing.set member.now beside.now owner.now) }
     {
         let member = self.number(here, member);
         let beside = self.number(here, beside);
@@ -444,7 +444,7 @@ impl State {
         owner: &Address,
     ) -> Option<()>
         requires { Can here self.old (Instruction.FileBeside filing.noted true filing.set member.now beside.now owner.now) }
-        ensures { Does here self.old self.new (on_after here result) (Instruction.FileBeside filing.noted true filing.set member.now beside.now owner.now) }
+        ensures { HasDone here self.old self.new (on_after here result) (Instruction.FileBeside filing.noted true filing.set member.now beside.now owner.now) }
     {
         let member = self.number(here, member);
         let beside = self.number(here, beside);
@@ -471,7 +471,7 @@ impl State {
         noted: bool,
     ) -> Option<()>
         requires { Can here self.old (Instruction.Remove set member.now owner.now noted) }
-        ensures { Does here self.old self.new (on_after here result) (Instruction.Remove set member.now owner.now noted) }
+        ensures { HasDone here self.old self.new (on_after here result) (Instruction.Remove set member.now owner.now noted) }
     {
         let member = self.number(here, member);
         let owner = self.number(here, owner);
@@ -490,7 +490,7 @@ impl State {
         noted: bool,
     ) -> Option<()>
         requires { Can here self.old (Instruction.RemoveFirst set owner.now to.now noted) }
-        ensures { Does here self.old self.new (on_after here result) (Instruction.RemoveFirst set owner.now to.now noted) }
+        ensures { HasDone here self.old self.new (on_after here result) (Instruction.RemoveFirst set owner.now to.now noted) }
     {
         let owner = self.number(here, owner);
         match take_first(&mut self.world, set as usize, owner, noted) {
@@ -510,7 +510,7 @@ impl State {
         noted: bool,
     ) -> Option<()>
         requires { Can here self.old (Instruction.RemoveLast set owner.now to.now noted) }
-        ensures { Does here self.old self.new (on_after here result) (Instruction.RemoveLast set owner.now to.now noted) }
+        ensures { HasDone here self.old self.new (on_after here result) (Instruction.RemoveLast set owner.now to.now noted) }
     {
         let owner = self.number(here, owner);
         match take_last(&mut self.world, set as usize, owner, noted) {

@@ -5,8 +5,8 @@ ghost use Rattle.ss_base.specs.declared.layout.Mode.TheVariants.{Integer};
 ghost use Rattle.ss_world.specs.State.{modes_of};
 ghost use Rattle.ss_machine_time.specs.Figures.{statistic_variable};
 ghost use Rattle.ss_machine_world.specs.Numbers.{attribute_noted};
-ghost use Rattle.ss_machine_instructions.specs.Doing.{Can, Does};
-ghost use Rattle.ss_machine_instructions.specs.Noted.{Notes};
+ghost use Rattle.ss_machine_instructions.specs.Doing.{Can, HasDone};
+ghost use Rattle.ss_machine_instructions.specs.Noted.{HasNoted};
 ghost use Rattle.ss_machine_instructions.specs.Ways.{on_after};
 
 use crate::flow::Here;
@@ -28,7 +28,7 @@ impl State {
         to: &Address,
     ) -> Option<()>
         requires { Can here self.old (Instruction.Figure statistic entity.now to.now fold) }
-        ensures { Does here self.old self.new (on_after here result) (Instruction.Figure statistic entity.now to.now fold) }
+        ensures { HasDone here self.old self.new (on_after here result) (Instruction.Figure statistic entity.now to.now fold) }
     {
         let entity = self.number(here, entity);
         let answer = self.world.figure(fold, statistic as usize, entity);
@@ -39,7 +39,7 @@ impl State {
     #[inline]
     pub fn keep(&mut self, here: Here, from: &Address, variable: u32) -> Option<()>
         requires { Can here self.old (Instruction.Keep from.now variable) }
-        ensures { Does here self.old self.new (on_after here result) (Instruction.Keep from.now variable) }
+        ensures { HasDone here self.old self.new (on_after here result) (Instruction.Keep from.now variable) }
     {
         let value = self.number(here, from);
         let number = variable as usize;
@@ -60,7 +60,7 @@ impl State {
     ) -> Option<()>
         requires class { class < length self.old.world.heap.layout.classes }
         requires mode { slice_get (modes_of self.old.world.heap.layout class) field ≡ Some Integer }
-        ensures { Notes noted (attribute_noted class field entity) answer self.old self.new result }
+        ensures { HasNoted noted (attribute_noted class field entity) answer self.old self.new result }
     {
         match answer {
             Err(kind) => self.fault(kind),
@@ -90,7 +90,7 @@ impl State {
     #[inline]
     pub fn reset(&mut self, here: Here, statistic: u32, entity: &Address) -> Option<()>
         requires { Can here self.old (Instruction.Reset statistic entity.now) }
-        ensures { Does here self.old self.new (on_after here result) (Instruction.Reset statistic entity.now) }
+        ensures { HasDone here self.old self.new (on_after here result) (Instruction.Reset statistic entity.now) }
     {
         let statistic = statistic as usize;
         let entity = self.number(here, entity);

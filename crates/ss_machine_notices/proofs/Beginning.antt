@@ -21,32 +21,32 @@ use Rattle.ss_machine_world.specs.Seen.{Seen, with_seen}
 use Rattle.ss_machine_instructions.specs.declared.flow.Here.{Here}
 use Rattle.ss_machine_instructions.specs.declared.state.State.{State}
 use Rattle.ss_machine_frames.proofs.Writing.{cells_held}
-use Rattle.ss_machine_instructions.specs.Doing.{Compiled, Holds, Ready, OneTick}
+use Rattle.ss_machine_instructions.specs.Doing.{Compiled, IsHeld, IsReadyFor, HasOneTick}
 use Rattle.ss_machine_instructions.specs.Ways.{at_place, on_at}
-use Rattle.ss_machine_notices.specs.Beginning.{LetsGo, ThenLetsGo, Receives, ComesNext}
+use Rattle.ss_machine_notices.specs.Beginning.{HasLetGo, HasLetGoThen, HasReceived, IsNextEvent}
 use Rattle.ss_machine_instructions.proofs.Placing.{site, located, goes_with}
 use Rattle.ss_machine_instructions.proofs.Settling.{store_is, notices_seen}
 
 -- ## Letting a notice go
 
 -- no tick is taken or given back
-pub lets_go_ticks : (saved : Option ℕ) (class : ℕ) (n : ℤ) (old new : State) (r : OkOr (Unit {0}) FaultKind) → LetsGo saved class n old new r → new.ticks ≡ old.ticks
+pub lets_go_ticks : (saved : Option ℕ) (class : ℕ) (n : ℤ) (old new : State) (r : OkOr (Unit {0}) FaultKind) → HasLetGo saved class n old new r → new.ticks ≡ old.ticks
 lets_go_ticks (Some k) class n old new r d = ap (λ (s : State). s.ticks) d.1
 lets_go_ticks None class n old new r d = ap (λ (s : State). s.ticks) d.1
 
-pub lets_go_steps : (saved : Option ℕ) (class : ℕ) (n : ℤ) (old new : State) (r : OkOr (Unit {0}) FaultKind) → LetsGo saved class n old new r → new.steps ≡ old.steps
+pub lets_go_steps : (saved : Option ℕ) (class : ℕ) (n : ℤ) (old new : State) (r : OkOr (Unit {0}) FaultKind) → HasLetGo saved class n old new r → new.steps ≡ old.steps
 lets_go_steps (Some k) class n old new r d = ap (λ (s : State). s.steps) d.1
 lets_go_steps None class n old new r d = ap (λ (s : State). s.steps) d.1
 
 -- after a fault the world is as it was
-pub lets_go_not : (saved : Option ℕ) (class : ℕ) (n : ℤ) (old new : State) (kind : FaultKind) → LetsGo saved class n old new (Err kind) → new.world ≡ old.world
+pub lets_go_not : (saved : Option ℕ) (class : ℕ) (n : ℤ) (old new : State) (kind : FaultKind) → HasLetGo saved class n old new (Err kind) → new.world ≡ old.world
 lets_go_not (Some k) class n old new kind d = d.0.1
 lets_go_not None class n old new kind d = d.0.1
 
-pub receives_not : (said : Notices) (class : ℕ) (n : ℤ) (modes : List Mode) (from : ℕ) (old new : State) (kind : FaultKind) → Receives said class n modes from old new (Err kind) → new.world ≡ old.world
+pub receives_not : (said : Notices) (class : ℕ) (n : ℤ) (modes : List Mode) (from : ℕ) (old new : State) (kind : FaultKind) → HasReceived said class n modes from old new (Err kind) → new.world ≡ old.world
 receives_not said class n modes from old new kind v = by v.read v.lets_go
   where
-    by : (q : OkOr (Unit {0}) FaultKind) → ThenLetsGo said class n (record old { rows = v.rows }) new q (Err kind) → new.world ≡ old.world
+    by : (q : OkOr (Unit {0}) FaultKind) → HasLetGoThen said class n (record old { rows = v.rows }) new q (Err kind) → new.world ≡ old.world
     by (Ok u) d = lets_go_not said.saved class n (record old { rows = v.rows }) new kind d
     by (Err k) d = ap (λ (s : State). s.world) d.1
 
@@ -128,7 +128,7 @@ record_living h (pos (suc i)) r e = by (slice_get h.records i) e
     by (Some None) e = absurd cc
     by (Some (Some q)) e = ap (λ (q : Record). Some q.class) (kind_test (is_notice (kind_of h.layout q.class)) q e)
 
-module _ (w : Compiled) (c : Core) (here : Here) (s : State) (cell : ℕ) (r : Ready w c here s (TakeEvent cell)) where
+module _ (w : Compiled) (c : Core) (here : Here) (s : State) (cell : ℕ) (r : IsReadyFor w c here s (TakeEvent cell)) where
   -- what the definition does, where a notice is pending
   pub comes_next : is_awaited c.store ≡ true → (coming : Coming) × (next_event c.store ≡ Some coming)
   comes_next there = by (next_event c.store) refl (next_event_there w.program r.compiled.typed r.placed.locals c.store there r.fits.store)
@@ -141,7 +141,7 @@ module _ (w : Compiled) (c : Core) (here : Here) (s : State) (cell : ℕ) (r : R
   awaits e x d = ap (λ (y : World). is_some (least_event y.pending)) r.holds.world ∙ ap is_some d.0
 
   -- where none is pending it goes on
-  pub goes_past : (t : ℕ) (new : State) (result : Option Here) → least_event s.world.pending ≡ None → new ≡ record s { ticks = t } → result ≡ on_at here → OneTick t w r.placed.line (act w.code r.placed.line r.placed.instruction c) s new result
+  pub goes_past : (t : ℕ) (new : State) (result : Option Here) → least_event s.world.pending ≡ None → new ≡ record s { ticks = t } → result ≡ on_at here → HasOneTick t w r.placed.line (act w.code r.placed.line r.placed.instruction c) s new result
   goes_past t new result none same way =
       let m = act w.code r.placed.line r.placed.instruction c in
       let l = r.placed.line in
@@ -151,10 +151,10 @@ module _ (w : Compiled) (c : Core) (here : Here) (s : State) (cell : ℕ) (r : R
       let nothing : next_event c.store ≡ None = ap (λ o. coming_with o c.store) (ap (λ (x : World). least_event x.pending) r.holds.world ∙ none) in
       let acts : m ≡ To c' = ap (λ x. act w.code l x c) r.runs.carries.2 ∙ ap (λ o. take_next w.code r.runs.carries.0 o c) nothing in
       let h = goes_with w c here s (TakeEvent cell) r (c.place + 1) c.cells (cells_held (site w c here s (TakeEvent cell) r) (located w c here s (TakeEvent cell) r) (c.place + 1) c.cells r.holds.held.cells) in
-      let holds : Holds w c' there s' = record { place = h.place; held = h.held; world = h.world; even = h.even; line = h.line } in
-      let plain : OneTick t w l m s s' (Some there) = record { leads = (c', acts, holds); ticks = refl; steps = refl } in
+      let holds : IsHeld w c' there s' = record { place = h.place; held = h.held; world = h.world; even = h.even; line = h.line } in
+      let plain : HasOneTick t w l m s s' (Some there) = record { leads = (c', acts, holds); ticks = refl; steps = refl } in
       let on : result ≡ Some there = way ∙ ap (λ p. at_place here (p + 1)) r.holds.place in
-      subst (λ o. OneTick t w l m s new o) (sym on) (subst (λ (u : State). OneTick t w l m s u (Some there)) (sym same) plain)
+      subst (λ o. HasOneTick t w l m s new o) (sym on) (subst (λ (u : State). HasOneTick t w l m s u (Some there)) (sym same) plain)
 
   -- which lives
   pub lives_as : (e : Seen) (x : ℤ) → IsNextNotice s.world e (Some x) → living e.heap x ≡ None → ⊥
@@ -168,7 +168,7 @@ module _ (w : Compiled) (c : Core) (here : Here) (s : State) (cell : ℕ) (r : R
       some_none n.entry.class (sym there ∙ ap (λ h. living h n.number) heap ∙ ap (living e.heap) number ∙ none)
 
   -- the machine took it out
-  abbrev pub next_taken : (t : ℕ) (e : Seen) (x : ℤ) (class : ℕ) → s.ticks ≡ suc t → s.ticks < 2 ^ 64 → IsNextNotice s.world e (Some x) → living e.heap x ≡ Some class → ComesNext w c here (record s { ticks = t; world = e }) cell x class
+  abbrev pub next_taken : (t : ℕ) (e : Seen) (x : ℤ) (class : ℕ) → s.ticks ≡ suc t → s.ticks < 2 ^ 64 → IsNextNotice s.world e (Some x) → living e.heap x ≡ Some class → IsNextEvent w c here (record s { ticks = t; world = e }) cell x class
   next_taken t e x class some few d lives =
       let a = comes_next (awaits e x d) in
       let n = next_is c.store a.0 a.1 in

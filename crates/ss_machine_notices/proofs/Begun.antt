@@ -10,11 +10,11 @@ use Rattle.ss_base.specs.Layout.{mode_of}
 use Rattle.ss_world.specs.PendingList.{least_event}
 use Rattle.ss_world.specs.State.{kind_in, kind_of, modes_of}
 use Rattle.ss_program.specs.Program.{Event, Program}
-use Rattle.ss_program.specs.WellTyped.{kind_of_class, field_mode, GoodEvent, IsPlain}
+use Rattle.ss_program.specs.WellTyped.{kind_of_class, field_mode, IsTypedEvent, IsPlain}
 use Rattle.ss_program.specs.declared.expression.Variable.TheVariants.{Global}
 use Rattle.ss_meaning.specs.Entities.{comes_singly, is_single}
 use Rattle.ss_meaning.specs.Events.{Coming, coming_with}
-use Rattle.ss_meaning.specs.Fitting.{Fits}
+use Rattle.ss_meaning.specs.Fitting.{IsFittingStore}
 use Rattle.ss_meaning.specs.Meaning.{said_of}
 use Rattle.ss_meaning.specs.Store.{Notices, Store}
 use Rattle.ss_meaning.proofs.Entities.{HasField, field_said, class_said}
@@ -32,7 +32,7 @@ use Rattle.ss_machine_frames.proofs.Reading.{above_constants, hold_length, found
 use Rattle.ss_machine_instructions.specs.declared.flow.Here.{Here}
 use Rattle.ss_machine_instructions.specs.declared.state.State.{State}
 use Rattle.ss_machine_instructions.specs.Doing.{Compiled}
-use Rattle.ss_machine_notices.specs.Beginning.{ComesNext}
+use Rattle.ss_machine_notices.specs.Beginning.{IsNextEvent}
 use Rattle.ss_machine_instructions.proofs.Calling.{HasEntry, has_entry}
 use Rattle.ss_machine_instructions.proofs.Placing.{site, located, frame_small}
 
@@ -46,7 +46,7 @@ awaited : (o : Option (ℤ × ℤ)) (s : Store) (c : Coming) → coming_with o s
 awaited None s c e = absurd cc
 awaited (Some n) s c e = refl
 
-module _ (w : Compiled) (c : Core) (here : Here) (s : State) (cell : ℕ) (x : ℤ) (class : ℕ) (n : ComesNext w c here s cell x class) where
+module _ (w : Compiled) (c : Core) (here : Here) (s : State) (cell : ℕ) (x : ℤ) (class : ℕ) (n : IsNextEvent w c here s cell x class) where
   -- what the definition knows of it
   pub known : ComingAs w.program n.ready.compiled.typed n.ready.placed.locals n.coming
   known =
@@ -56,8 +56,8 @@ module _ (w : Compiled) (c : Core) (here : Here) (s : State) (cell : ℕ) (x : �
   abbrev pub event : Event
   event = known.ranked.event
 
-  pub good : GoodEvent w.program event
-  good = every_get (GoodEvent w.program) w.program.events n.coming.ranked.rank event n.ready.compiled.typed.events known.ranked.there
+  pub good : IsTypedEvent w.program event
+  good = every_get (IsTypedEvent w.program) w.program.events n.coming.ranked.rank event n.ready.compiled.typed.events known.ranked.there
 
   pub said_is : n.coming.ranked.said ≡ said_of event
   said_is = known.ranked.said
@@ -65,8 +65,8 @@ module _ (w : Compiled) (c : Core) (here : Here) (s : State) (cell : ℕ) (x : �
   class_is : event.class ≡ class
   class_is = sym (ap (λ (m : Notices). m.class) said_is) ∙ n.of
 
-  pub fits_now : Fits w.program n.ready.placed.locals (with_seen c.store s.world)
-  fits_now = subst (Fits w.program n.ready.placed.locals) n.store known.fits
+  pub fits_now : IsFittingStore w.program n.ready.placed.locals (with_seen c.store s.world)
+  fits_now = subst (IsFittingStore w.program n.ready.placed.locals) n.store known.fits
 
   kind : kind_of_class w.program class ≡ Some Notice
   kind = subst (λ k. kind_of_class w.program k ≡ Some Notice) class_is good.notice

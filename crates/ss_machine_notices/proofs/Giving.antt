@@ -21,14 +21,14 @@ use Rattle.ss_program.specs.declared.sections.Statistic.{Statistic}
 use Rattle.ss_program.specs.declared.sections.Subject.{Subject}
 use Rattle.ss_program.specs.declared.sections.Subject.TheVariants.{OfVariable, OfAttribute, OfCount}
 use Rattle.ss_program.specs.Program.{Program}
-use Rattle.ss_program.specs.WellTyped.{field_mode, is_created_singly, GoodSubject}
+use Rattle.ss_program.specs.WellTyped.{field_mode, is_created_singly, IsTypedSubject}
 use Rattle.ss_meaning.specs.Values.{Failure, Fails, same_mode, if_ok, turned, due, where_fit, unless_fault}
 use Rattle.ss_meaning.specs.Store.{Setting, Store, with_heap}
 use Rattle.ss_meaning.specs.Entities.{comes_singly, is_single, made_one}
 use Rattle.ss_meaning.specs.Histories.{same_subject, noted}
 use Rattle.ss_meaning.specs.Places.{is_of_mode, assigned_attribute}
 use Rattle.ss_meaning.specs.Events.{endowed, with_notice_time, prepared, filed_notice, rescheduled}
-use Rattle.ss_meaning.specs.Fitting.{Fits}
+use Rattle.ss_meaning.specs.Fitting.{IsFittingStore}
 use Rattle.ss_meaning.proofs.Fine.{Fine, fine_then, fine_turned, due_fine}
 use Rattle.ss_meaning.proofs.Heaps.{Changed, timed_sane}
 use Rattle.ss_meaning.proofs.Stores.{heap_fits}
@@ -40,11 +40,11 @@ use Rattle.ss_machine_frames.specs.Rows.{TwoRows}
 use Rattle.ss_machine_frames.proofs.Places.{all_get}
 use Rattle.ss_machine_events.specs.Scheduled.{IsNoticeClass}
 use Rattle.ss_machine_world.specs.Numbers.{attribute_noted}
-use Rattle.ss_machine_world.specs.Seen.{Seen, IsRight, Changes, Rearranges, Makes, ChangesWithMemory, with_seen}
+use Rattle.ss_machine_world.specs.Seen.{Seen, IsRight, HasChanged, HasRearranged, HasMade, HasChangedWithMemory, with_seen}
 use Rattle.ss_machine_world.proofs.Composing.{assigned_noted}
 use Rattle.ss_machine_world.proofs.Reading.{set_once}
-use Rattle.ss_machine_instructions.specs.Worldly.{ChangesIf}
-use Rattle.ss_machine_notices.specs.Giving.{SettledIn, SettledInWithMemory, MadeIn, number_or, unpended, refiled, SetsField, IsReadBack, Suiting, GivesOne, HasGivenValues}
+use Rattle.ss_machine_instructions.specs.Worldly.{HasChangedIf}
+use Rattle.ss_machine_notices.specs.Giving.{IsSettledIn, IsSettledWithMemory, IsNoticeMade, number_or, unpended, refiled, HasSetField, IsReadBack, IsSuitable, HasGivenOne, HasGivenValues}
 use Rattle.ss_machine_instructions.proofs.Programs.{noticed_in}
 use Rattle.ss_machine_instructions.proofs.Settling.{fine_right, fine_is}
 use Rattle.ss_machine_instructions.proofs.Filing.{within_there}
@@ -69,12 +69,12 @@ module _ (p : Program) (class field : ℕ) (text : field_mode p class field ≡ 
   not_both d g true false q r e = refl
   not_both d g false b q r e = refl
 
-  not_it : (t : Subject) → GoodSubject p t → same_subject t (OfAttribute class field) ≡ false
+  not_it : (t : Subject) → IsTypedSubject p t → same_subject t (OfAttribute class field) ≡ false
   not_it (OfVariable k) good = refl
   not_it (OfAttribute d g) good = not_both d g (d == class) (g == field) refl refl good
   not_it (OfCount set) good = refl
 
-  text_unwatched : (ss : List Statistic) → Every (λ (s : Statistic). GoodSubject p s.subject) ss → watch ss (OfAttribute class field) ≡ false
+  text_unwatched : (ss : List Statistic) → Every (λ (s : Statistic). IsTypedSubject p s.subject) ss → watch ss (OfAttribute class field) ≡ false
   text_unwatched [] h = refl
   text_unwatched (s ∷ ss) h =
       ap (λ b. if b then true else watch ss (OfAttribute class field)) (not_it s.subject h.0) ∙ text_unwatched ss h.1
@@ -82,7 +82,7 @@ module _ (p : Program) (class field : ℕ) (text : field_mode p class field ≡ 
 -- ## One attribute
 
 -- what suits one value suits another one of its mode
-abbrev pub suiting_as : (class field : ℕ) (notes : Bool) (v u : Value) (e : Seen) (g : Suiting class field notes v e) → mode_of u ≡ g.mode → Suiting class field notes u e
+abbrev pub suiting_as : (class field : ℕ) (notes : Bool) (v u : Value) (e : Seen) (g : IsSuitable class field notes v e) → mode_of u ≡ g.mode → IsSuitable class field notes u e
 suiting_as class field notes v u e g right = record {
   program = g.program;
   typed = g.typed;
@@ -96,7 +96,7 @@ suiting_as class field notes v u e g right = record {
 }
 
 -- what the machine's call says
-pub number_set : (e : Seen) (class field : ℕ) (n z : ℤ) (h : State) (r : OkOr (Unit {0}) FaultKind) → MatchResult r (λ _. IsAssigned e.heap class field n z h) (λ k. (assigned e.heap class field n (Whole z) ≡ Err k) × (h ≡ e.heap)) → h.layout ≡ e.heap.layout → SetsField class field n (Whole z) e (record e { heap = h }) r
+pub number_set : (e : Seen) (class field : ℕ) (n z : ℤ) (h : State) (r : OkOr (Unit {0}) FaultKind) → MatchResult r (λ _. IsAssigned e.heap class field n z h) (λ k. (assigned e.heap class field n (Whole z) ≡ Err k) × (h ≡ e.heap)) → h.layout ≡ e.heap.layout → HasSetField class field n (Whole z) e (record e { heap = h }) r
 number_set e class field n z h (Ok u) done layout = (done.gives, layout, refl)
 number_set e class field n z h (Err k) done layout = (done.0, ap (λ (h : State). record e { heap = h }) done.1)
 
@@ -104,11 +104,11 @@ pub number_read : (e : Seen) (class field : ℕ) (n z : ℤ) (h : State) (r : Ok
 number_read e class field n z h (Ok u) done = done.reads
 number_read e class field n z h (Err k) done = tt
 
-pub value_set : (e : Seen) (class field : ℕ) (n : ℤ) (v : Value) (h : State) (r : OkOr (Unit {0}) FaultKind) → MatchResult r (λ _. assigned e.heap class field n v ≡ Ok h) (λ k. (assigned e.heap class field n v ≡ Err k) × (h ≡ e.heap)) → h.layout ≡ e.heap.layout → SetsField class field n v e (record e { heap = h }) r
+pub value_set : (e : Seen) (class field : ℕ) (n : ℤ) (v : Value) (h : State) (r : OkOr (Unit {0}) FaultKind) → MatchResult r (λ _. assigned e.heap class field n v ≡ Ok h) (λ k. (assigned e.heap class field n v ≡ Err k) × (h ≡ e.heap)) → h.layout ≡ e.heap.layout → HasSetField class field n v e (record e { heap = h }) r
 value_set e class field n v h (Ok u) done layout = (done, layout, refl)
 value_set e class field n v h (Err k) done layout = (done.0, ap (λ (h : State). record e { heap = h }) done.1)
 
-module _ (class field : ℕ) (n : ℤ) (v : Value) (notes : Bool) (e : Seen) (g : Suiting class field notes v e) where
+module _ (class field : ℕ) (n : ℤ) (v : Value) (notes : Bool) (e : Seen) (g : IsSuitable class field notes v e) where
   layout_is : e.heap.layout ≡ g.program.layout
   layout_is = g.fits.sound.world.layout
 
@@ -130,20 +130,20 @@ module _ (class field : ℕ) (n : ℤ) (v : Value) (notes : Bool) (e : Seen) (g 
   abbrev op : Store → OkOr Store Failure
   op = assigned_attribute class field (Whole n) v
 
-  pub op_fine : Fine (Fits g.program g.modes) (op (with_seen g.store e))
+  pub op_fine : Fine (IsFittingStore g.program g.modes) (op (with_seen g.store e))
   op_fine = attribute_assigned_fine g.program g.typed g.modes class field g.mode (Whole n) v (with_seen g.store e) g.field_is refl g.right g.fits
 
   op_right : IsRight (op (with_seen g.store e))
-  op_right = fine_right (Fits g.program g.modes) (op (with_seen g.store e)) op_fine
+  op_right = fine_right (IsFittingStore g.program g.modes) (op (with_seen g.store e)) op_fine
 
   -- there is a fault
-  pub set_not : (mid : Seen) (kind : FaultKind) → SetsField class field n v e mid (Err kind) → op (with_seen g.store e) ≡ Err (Fails kind)
+  pub set_not : (mid : Seen) (kind : FaultKind) → HasSetField class field n v e mid (Err kind) → op (with_seen g.store e) ≡ Err (Fails kind)
   set_not mid kind is =
       set_once e class field n v g.store is_fitting
       ∙ ap (λ r. if_ok (due r) (λ h. noted (OfAttribute class field) n v (with_heap (with_seen g.store e) h))) is.0
 
   -- it is assigned, and the note would change nothing
-  set_quiet : (mid : Seen) → SetsField class field n v e mid (Ok tt) → watch e.statistics (OfAttribute class field) ≡ false → op (with_seen g.store e) ≡ Ok (with_seen g.store mid)
+  set_quiet : (mid : Seen) → HasSetField class field n v e mid (Ok tt) → watch e.statistics (OfAttribute class field) ≡ false → op (with_seen g.store e) ≡ Ok (with_seen g.store mid)
   set_quiet mid is none = by (noted_quiet (OfAttribute class field) n v (with_seen g.store mid) (ap (λ (t : Seen). watch t.statistics (OfAttribute class field)) is.2 ∙ none))
     where
       noted_then : op (with_seen g.store e) ≡ noted (OfAttribute class field) n v (with_seen g.store mid)
@@ -157,7 +157,7 @@ module _ (class field : ℕ) (n : ℤ) (v : Value) (notes : Bool) (e : Seen) (g 
       by (inr wrong) = absurd (op_right (noted_then ∙ wrong))
 
   -- it is noted, where that is so
-  pub set_noted : (mid new : Seen) (q : OkOr (Unit {0}) FaultKind) → SetsField class field n v e mid (Ok tt) → IsReadBack class field n v mid (Ok tt) → ChangesIf notes (attribute_noted class field n) mid new q → SettledIn g.store op e new q
+  pub set_noted : (mid new : Seen) (q : OkOr (Unit {0}) FaultKind) → HasSetField class field n v e mid (Ok tt) → IsReadBack class field n v mid (Ok tt) → HasChangedIf notes (attribute_noted class field n) mid new q → IsSettledIn g.store op e new q
   set_noted mid new q is reads did = by notes refl did
     where
       noted_then : op (with_seen g.store e) ≡ attribute_noted class field n (with_seen g.store mid)
@@ -165,18 +165,18 @@ module _ (class field : ℕ) (n : ℤ) (v : Value) (notes : Bool) (e : Seen) (g 
           assigned_noted class field n v e is_fitting mid.heap is.0 reads is.1 (ap is_some suits_mode) g.store
           ∙ ap (λ (t : Seen). attribute_noted class field n (with_seen g.store t)) (sym is.2)
 
-      as_noted : (q : OkOr (Unit {0}) FaultKind) → Changes (attribute_noted class field n) mid new q → SettledIn g.store op e new q
+      as_noted : (q : OkOr (Unit {0}) FaultKind) → HasChanged (attribute_noted class field n) mid new q → IsSettledIn g.store op e new q
       as_noted (Ok u) d = noted_then ∙ d g.store (λ wrong. op_right (noted_then ∙ wrong))
       as_noted (Err k) d = noted_then ∙ d.0 g.store (λ wrong. op_right (noted_then ∙ wrong))
 
-      by : (b : Bool) → notes ≡ b → ChangesIf b (attribute_noted class field n) mid new q → SettledIn g.store op e new q
+      by : (b : Bool) → notes ≡ b → HasChangedIf b (attribute_noted class field n) mid new q → IsSettledIn g.store op e new q
       by true same d = as_noted q d
       by false same d =
-          subst (λ (q : OkOr (Unit {0}) FaultKind). SettledIn g.store op e new q) (sym d.0)
+          subst (λ (q : OkOr (Unit {0}) FaultKind). IsSettledIn g.store op e new q) (sym d.0)
           (set_quiet mid is (g.reported same) ∙ ap (λ (t : Seen). Ok (with_seen g.store t)) (sym d.1))
 
   -- a text, which nothing notes
-  pub text_set : (new : Seen) (q : OkOr (Unit {0}) FaultKind) → g.mode ≡ Alpha → SetsField class field n v e new q → SettledIn g.store op e new q
+  pub text_set : (new : Seen) (q : OkOr (Unit {0}) FaultKind) → g.mode ≡ Alpha → HasSetField class field n v e new q → IsSettledIn g.store op e new q
   text_set new (Err kind) text is = set_not new kind is
   text_set new (Ok u) text is =
       let none = text_unwatched g.program class field (g.field_is ∙ ap Some text) g.program.statistics g.typed.statistics in
@@ -203,7 +203,7 @@ module _ (class : ℕ) (n : ℤ) (notes : Bool) (from given : ℕ) (rows : TwoRo
   -- so many attributes are assigned, and the others are still to be
   pub record Endowed (i : ℕ) (now : Seen) (g : HasGivenValues class notes from given rows old) : Type 0 where
     pub same : endowed class 0 (Whole n) g.values (with_seen g.store old) ≡ endowed class i (Whole n) (drop i g.values) (with_seen g.store now)
-    pub fits : Fits g.program g.modes (with_seen g.store now)
+    pub fits : IsFittingStore g.program g.modes (with_seen g.store now)
 
   pub none_endowed : (g : HasGivenValues class notes from given rows old) → Endowed 0 old g
   none_endowed g = record { same = refl; fits = g.fits }
@@ -216,7 +216,7 @@ module _ (class : ℕ) (n : ℤ) (notes : Bool) (from given : ℕ) (rows : TwoRo
     statistics_same = ap (λ (x : Setting). x.statistics) (d.fits.sound.world.setting ∙ sym g.fits.sound.world.setting)
 
     -- what the next one is given
-    abbrev pub gives_one : GivesOne class i notes (from + i) rows now
+    abbrev pub gives_one : HasGivenOne class i notes (from + i) rows now
     gives_one = record {
       value = next_value.0;
       suits = record {
@@ -241,16 +241,16 @@ module _ (class : ℕ) (n : ℤ) (notes : Bool) (from given : ℕ) (rows : TwoRo
     next : suc i ≡ i + 1
     next = omega arith
 
-    pub one_endowed : (new : Seen) → SettledIn g.store (assigned_attribute class i (Whole n) next_value.0) now new (Ok tt) → Endowed (i + 1) new g
+    pub one_endowed : (new : Seen) → IsSettledIn g.store (assigned_attribute class i (Whole n) next_value.0) now new (Ok tt) → Endowed (i + 1) new g
     one_endowed new did = record {
       same =
           step_is
           ∙ ap (λ q. if_ok q (endowed class (i + 1) (Whole n) (drop (suc i) g.values))) did
           ∙ ap (λ k. endowed class (i + 1) (Whole n) (drop k g.values) (with_seen g.store new)) next;
-      fits = fine_is (Fits g.program g.modes) (assigned_attribute class i (Whole n) next_value.0 (with_seen g.store now)) (with_seen g.store new) (op_fine class i n next_value.0 notes now gives_one.suits) did;
+      fits = fine_is (IsFittingStore g.program g.modes) (assigned_attribute class i (Whole n) next_value.0 (with_seen g.store now)) (with_seen g.store new) (op_fine class i n next_value.0 notes now gives_one.suits) did;
     }
 
-    pub one_not : (new : Seen) (kind : FaultKind) → SettledIn g.store (assigned_attribute class i (Whole n) next_value.0) now new (Err kind) → endowed class 0 (Whole n) g.values (with_seen g.store old) ≡ Err (Fails kind)
+    pub one_not : (new : Seen) (kind : FaultKind) → IsSettledIn g.store (assigned_attribute class i (Whole n) next_value.0) now new (Err kind) → endowed class 0 (Whole n) g.values (with_seen g.store old) ≡ Err (Fails kind)
     one_not new kind did = step_is ∙ ap (λ q. if_ok q (endowed class (i + 1) (Whole n) (drop (suc i) g.values))) did
 
   pub all_endowed : (i : ℕ) (now : Seen) (g : HasGivenValues class notes from given rows old) → Endowed i now g → drop i g.values ≡ [] → endowed class 0 (Whole n) g.values (with_seen g.store old) ≡ Ok (with_seen g.store now)
@@ -259,7 +259,7 @@ module _ (class : ℕ) (n : ℤ) (notes : Bool) (from given : ℕ) (rows : TwoRo
   -- ## And the time
 
   module _ (g : HasGivenValues class notes from given rows old) (t : ℤ) where
-    pub time_set : (mid new : Seen) (q : OkOr (Unit {0}) FaultKind) → endowed class 0 (Whole n) g.values (with_seen g.store old) ≡ Ok (with_seen g.store mid) → Rearranges (λ h. timed h n t) mid new q → SettledIn g.store (prepared class (Whole n) g.values t) old new q
+    pub time_set : (mid new : Seen) (q : OkOr (Unit {0}) FaultKind) → endowed class 0 (Whole n) g.values (with_seen g.store old) ≡ Ok (with_seen g.store mid) → HasRearranged (λ h. timed h n t) mid new q → IsSettledIn g.store (prepared class (Whole n) g.values t) old new q
     time_set mid new (Ok u) e re =
         ap (λ r. if_ok r (with_notice_time (Whole n) t)) e
         ∙ ap (λ r. turned (with_heap (with_seen g.store mid)) (due r)) re.0
@@ -270,17 +270,17 @@ module _ (class : ℕ) (n : ℤ) (notes : Bool) (from given : ℕ) (rows : TwoRo
     pub not_endowed : (kind : FaultKind) → endowed class 0 (Whole n) g.values (with_seen g.store old) ≡ Err (Fails kind) → prepared class (Whole n) g.values t (with_seen g.store old) ≡ Err (Fails kind)
     not_endowed kind e = ap (λ r. if_ok r (with_notice_time (Whole n) t)) e
 
-    with_time_fine : (s : Store) → Fits g.program g.modes s → Fine (Fits g.program g.modes) (with_notice_time (Whole n) t s)
+    with_time_fine : (s : Store) → IsFittingStore g.program g.modes s → Fine (IsFittingStore g.program g.modes) (with_notice_time (Whole n) t s)
     with_time_fine s f =
-        fine_turned (Fits g.program g.modes) (with_heap s) (due (timed s.world.heap n t)) (due_fine (Changed s.world.heap) (timed s.world.heap n t) (timed_sane s.world.heap n t f.sound.world.heap)) (λ h c. heap_fits g.program g.modes s h f c)
+        fine_turned (IsFittingStore g.program g.modes) (with_heap s) (due (timed s.world.heap n t)) (due_fine (Changed s.world.heap) (timed s.world.heap n t) (timed_sane s.world.heap n t f.sound.world.heap)) (λ h c. heap_fits g.program g.modes s h f c)
 
     fields_from : (i : ℕ) (m : Mode) → slice_get g.kinds i ≡ Some m → field_mode g.program class (0 + i) ≡ Some m
     fields_from i m q = let none_on : 0 + i ≡ i = omega arith in subst (λ j. field_mode g.program class j ≡ Some m) (sym none_on) (g.fields i m q)
 
-    prepared_fits : (mid : Seen) → prepared class (Whole n) g.values t (with_seen g.store old) ≡ Ok (with_seen g.store mid) → Fits g.program g.modes (with_seen g.store mid)
+    prepared_fits : (mid : Seen) → prepared class (Whole n) g.values t (with_seen g.store old) ≡ Ok (with_seen g.store mid) → IsFittingStore g.program g.modes (with_seen g.store mid)
     prepared_fits mid e =
-        fine_is (Fits g.program g.modes) (prepared class (Whole n) g.values t (with_seen g.store old)) (with_seen g.store mid)
-        (fine_then (Fits g.program g.modes) (endowed class 0 (Whole n) g.values (with_seen g.store old)) (with_notice_time (Whole n) t)
+        fine_is (IsFittingStore g.program g.modes) (prepared class (Whole n) g.values t (with_seen g.store old)) (with_seen g.store mid)
+        (fine_then (IsFittingStore g.program g.modes) (endowed class 0 (Whole n) g.values (with_seen g.store old)) (with_notice_time (Whole n) t)
         (endowed_fine g.program g.typed g.modes class 0 (Whole n) g.values g.kinds (with_seen g.store old) g.hold fields_from refl g.fits) (λ s f. with_time_fine s f)) e
 
     -- it is a notice of its class afterwards
@@ -291,7 +291,7 @@ module _ (class : ℕ) (n : ℤ) (notes : Bool) (from given : ℕ) (rows : TwoRo
 
     -- ## Filing it
 
-    pub filed_then : (mid new : Seen) (q : OkOr (Unit {0}) Refused) → prepared class (Whole n) g.values t (with_seen g.store old) ≡ Ok (with_seen g.store mid) → ChangesWithMemory (filed_notice class (Whole n) t) mid new q → SettledInWithMemory g.store (refiled class (Whole n) g.values t) old new q
+    pub filed_then : (mid new : Seen) (q : OkOr (Unit {0}) Refused) → prepared class (Whole n) g.values t (with_seen g.store old) ≡ Ok (with_seen g.store mid) → HasChangedWithMemory (filed_notice class (Whole n) t) mid new q → IsSettledWithMemory g.store (refiled class (Whole n) g.values t) old new q
     filed_then mid new (Ok u) e d = ap (λ r. if_ok r (filed_notice class (Whole n) t)) e ∙ d g.store
     filed_then mid new (Err (Fault kind)) e d = ap (λ r. if_ok r (filed_notice class (Whole n) t)) e ∙ d.0 g.store
     filed_then mid new (Err Memory) e d = λ kind fails.
@@ -333,13 +333,13 @@ module _ (class : ℕ) (n : ℤ) (notes : Bool) (from given : ℕ) (rows : TwoRo
     pub again_not : (kind : FaultKind) → Err kind ≡ unpended class n old → rescheduled class (Whole n) g.values t (with_seen g.store old) ≡ Err (Fails kind)
     again_not kind e = again_is ∙ ap (λ k. if_ok (due k) (λ u. refiled class (Whole n) g.values t (with_seen g.store old))) (sym e)
 
-    pub again : (new : Seen) (q : OkOr (Unit {0}) Refused) → Ok tt ≡ unpended class n old → SettledInWithMemory g.store (refiled class (Whole n) g.values t) old new q → SettledInWithMemory g.store (rescheduled class (Whole n) g.values t) old new q
+    pub again : (new : Seen) (q : OkOr (Unit {0}) Refused) → Ok tt ≡ unpended class n old → IsSettledWithMemory g.store (refiled class (Whole n) g.values t) old new q → IsSettledWithMemory g.store (rescheduled class (Whole n) g.values t) old new q
     again new q e d = by q d
       where
         same : rescheduled class (Whole n) g.values t (with_seen g.store old) ≡ refiled class (Whole n) g.values t (with_seen g.store old)
         same = again_is ∙ ap (λ k. if_ok (due k) (λ u. refiled class (Whole n) g.values t (with_seen g.store old))) (sym e)
 
-        by : (q : OkOr (Unit {0}) Refused) → SettledInWithMemory g.store (refiled class (Whole n) g.values t) old new q → SettledInWithMemory g.store (rescheduled class (Whole n) g.values t) old new q
+        by : (q : OkOr (Unit {0}) Refused) → IsSettledWithMemory g.store (refiled class (Whole n) g.values t) old new q → IsSettledWithMemory g.store (rescheduled class (Whole n) g.values t) old new q
         by (Ok u) d = same ∙ d
         by (Err (Fault kind)) d = same ∙ d
         by (Err Memory) d = λ kind fails. d kind (sym same ∙ fails)
@@ -359,9 +359,9 @@ module _ (class : ℕ) (notes : Bool) (from given : ℕ) (rows : TwoRows) (old :
 
   -- what a value and a store are
   abbrev IsFitting : Value × Store → Type 0
-  IsFitting b = (mode_of b.0 ≡ Integer) × Fits g.program g.modes b.1
+  IsFitting b = (mode_of b.0 ≡ Integer) × IsFittingStore g.program g.modes b.1
 
-  pub created_fits : (n : ℤ) (mid : Seen) → made_one class (with_seen g.store old) ≡ Ok (Whole n, with_seen g.store mid) → Fits g.program g.modes (with_seen g.store mid)
+  pub created_fits : (n : ℤ) (mid : Seen) → made_one class (with_seen g.store old) ≡ Ok (Whole n, with_seen g.store mid) → IsFittingStore g.program g.modes (with_seen g.store mid)
   created_fits n mid e =
       (fine_is IsFitting (made_one class (with_seen g.store old)) (Whole n, with_seen g.store mid) (made_one_fine g.program g.typed g.modes class (with_seen g.store old) (ap is_created_singly g.notice) g.fits) e).1
 
@@ -385,12 +385,12 @@ module _ (class : ℕ) (notes : Bool) (from given : ℕ) (rows : TwoRows) (old :
     reported = λ none field lt. ap (λ (x : Setting). watch x.statistics (OfAttribute class field)) ((created_fits n mid e).sound.world.setting ∙ sym g.fits.sound.world.setting) ∙ g.reported none field lt;
   }
 
-  pub made : (n : ℤ) (mid new : Seen) (q : OkOr (Unit {0}) FaultKind) → made_one class (with_seen g.store old) ≡ Ok (Whole n, with_seen g.store mid) → SettledIn g.store (prepared class (Whole n) g.values t) mid new q → MadeIn g.store class g.values t old new (number_or n q)
+  pub made : (n : ℤ) (mid new : Seen) (q : OkOr (Unit {0}) FaultKind) → made_one class (with_seen g.store old) ≡ Ok (Whole n, with_seen g.store mid) → IsSettledIn g.store (prepared class (Whole n) g.values t) mid new q → IsNoticeMade g.store class g.values t old new (number_or n q)
   made n mid new (Ok u) e d =
       ap (λ r. if_ok {B = Value × Store} r (λ b. turned (λ r. (b.0, r)) (prepared class b.0 g.values t b.1))) e ∙ ap (turned (λ r. (Whole n, r))) d
   made n mid new (Err kind) e d =
       ap (λ r. if_ok {B = Value × Store} r (λ b. turned (λ r. (b.0, r)) (prepared class b.0 g.values t b.1))) e ∙ ap (turned (λ r. (Whole n, r))) d
 
-  pub not_made : (mid : Seen) (refused : Refused) → Makes (made_one class) old mid (Err refused) → MadeIn g.store class g.values t old mid (Err refused)
+  pub not_made : (mid : Seen) (refused : Refused) → HasMade (made_one class) old mid (Err refused) → IsNoticeMade g.store class g.values t old mid (Err refused)
   not_made mid (Fault kind) d = ap (λ r. if_ok {B = Value × Store} r (λ b. turned (λ r. (b.0, r)) (prepared class b.0 g.values t b.1))) (d.0 g.store)
   not_made mid Memory d = d.0

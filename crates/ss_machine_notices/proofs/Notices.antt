@@ -16,7 +16,7 @@ use Rattle.ss_program.specs.WellTyped.{field_mode}
 use Rattle.ss_meaning.specs.Values.{Failure}
 use Rattle.ss_meaning.specs.Store.{Store}
 use Rattle.ss_meaning.specs.Events.{made_notice, rescheduled}
-use Rattle.ss_meaning.specs.Fitting.{Hold, Fits}
+use Rattle.ss_meaning.specs.Fitting.{AreOfModes, IsFittingStore}
 use Rattle.ss_meaning.proofs.Fine.{Fine}
 use Rattle.ss_meaning.proofs.Events.{made_notice_fine, rescheduled_fine}
 use Rattle.ss_code_instructions.specs.declared.address.Address.{Address}
@@ -26,10 +26,10 @@ use Rattle.ss_code_instructions.specs.Instructions as i
 use Rattle.ss_code_instructions.specs.Instructions.{Instruction}
 use Rattle.ss_code_instructions.specs.States.{Core, Moved, Stuck, did, fit, onward, at_height, TakenOff, take_off, with_top_number, with_block, with_operand_value, deliver_with}
 use Rattle.ss_code_instructions.specs.Machine.{act, is_due}
-use Rattle.ss_code_instructions.specs.Shape.{Suits, HasOnTop, GivenFit}
-use Rattle.ss_code_instructions.specs.Carried.{WithCell, From, To, Is}
+use Rattle.ss_code_instructions.specs.Shape.{IsSuited, HasOnTop, AreGivenModes}
+use Rattle.ss_code_instructions.specs.Carried.{HasCell, HasOperand, HasTarget, Is}
 use Rattle.ss_machine_frames.specs.Rows.{TwoRows, with_number as with_number_at, place_at}
-use Rattle.ss_machine_frames.specs.Holding.{AllAt, CellsAt}
+use Rattle.ss_machine_frames.specs.Holding.{AreValuesAt, AreCellsAt}
 use Rattle.ss_machine_frames.proofs.Entering.{cut}
 use Rattle.ss_machine_frames.proofs.Places.{Elsewhere, agree_out, elsewhere_value, value_same, all_agree, cells_agree, calls_agree}
 use Rattle.ss_machine_frames.proofs.Reading.{hold_length, own_is, above_constants, place_within, only_number, reads, read_within}
@@ -37,10 +37,10 @@ use Rattle.ss_machine_world.specs.Seen.{Seen, with_seen, as_value}
 use Rattle.ss_machine_instructions.specs.declared.flow.Ending.TheVariants.{NoMemory}
 use Rattle.ss_machine_instructions.specs.declared.flow.Here.{Here}
 use Rattle.ss_machine_instructions.specs.declared.state.State.{State}
-use Rattle.ss_machine_instructions.specs.Doing.{Compiled, Ready, NoTick, Performs, Delivers}
+use Rattle.ss_machine_instructions.specs.Doing.{Compiled, IsReadyFor, HasNoTick, HasPerformed, IsDelivering}
 use Rattle.ss_machine_instructions.specs.Ways.{on_after, stopped, refused_by}
-use Rattle.ss_machine_instructions.specs.Worldly.{Settles, unless_refused, refused_where}
-use Rattle.ss_machine_notices.specs.Giving.{SettledInWithMemory, MadeIn, HasGivenValues}
+use Rattle.ss_machine_instructions.specs.Worldly.{IsSettling, unless_refused, refused_where}
+use Rattle.ss_machine_notices.specs.Giving.{IsSettledWithMemory, IsNoticeMade, HasGivenValues}
 use Rattle.ss_machine_instructions.proofs.Placing.{site, located, suits, small, deep_at, deep_here, calm}
 use Rattle.ss_machine_instructions.proofs.Calling.{blocked}
 use Rattle.ss_machine_instructions.proofs.Settling.{fine_right, fine_is, store_is, statistics_seen, fails_on}
@@ -51,9 +51,9 @@ record Topped (cells : List Value) (rest : List Mode) : Type 0 where
   number : ℤ
   over : List Value
   is : cells ≡ Whole number ∷ over
-  modes : Hold over rest
+  modes : AreOfModes over rest
 
-topped : (cells : List Value) (rest : List Mode) → Hold cells (Integer ∷ rest) → Topped cells rest
+topped : (cells : List Value) (rest : List Mode) → AreOfModes cells (Integer ∷ rest) → Topped cells rest
 topped [] rest h = absurd cc
 topped (Whole z ∷ over) rest h = let q : map mode_of over ≡ rest = cc in record { number = z; over = over; is = refl; modes = q }
 topped (Text t ∷ over) rest h = absurd cc
@@ -74,14 +74,14 @@ taken_get (suc n) [] i a q = absurd cc
 taken_get (suc n) (x ∷ xs) zero a q = q
 taken_get (suc n) (x ∷ xs) (suc i) a q = taken_get n xs i a q
 
-pub given_fields : (p : Program) (class : ℕ) (modes : List Mode) → GivenFit p class modes → (i : ℕ) (m : Mode) → slice_get modes i ≡ Some m → field_mode p class i ≡ Some m
+pub given_fields : (p : Program) (class : ℕ) (modes : List Mode) → AreGivenModes p class modes → (i : ℕ) (m : Mode) → slice_get modes i ≡ Some m → field_mode p class i ≡ Some m
 given_fields p class modes g i m q =
     ap (λ o. option_and_then (λ fs. slice_get fs i) o) g.1.1
     ∙ taken_get (length modes) g.1.0 i m (ap (λ ms. slice_get ms i) (sym g.1.2) ∙ q)
 
-module _ (w : Compiled) (c : Core) (here : Here) (s : State) (run : Running) (r : Ready w c here s run) where
+module _ (w : Compiled) (c : Core) (here : Here) (s : State) (run : Running) (r : IsReadyFor w c here s run) where
   abbrev SuitsHere : Instruction → Type 0
-  SuitsHere x = Suits w.program w.code c.place r.placed.locals r.placed.cells x
+  SuitsHere x = IsSuited w.program w.code c.place r.placed.locals r.placed.cells x
 
   abbrev Low : ℕ
   Low = here.frame + length c.store.locals
@@ -98,14 +98,14 @@ module _ (w : Compiled) (c : Core) (here : Here) (s : State) (run : Running) (r 
     pub taken : TakenOff
     pub cells : c.cells ≡ Whole time ∷ over
     pub off : take_off given over [] ≡ Some taken
-    pub kinds : Hold taken.values modes
-    pub below : Hold taken.below rest
+    pub kinds : AreOfModes taken.values modes
+    pub below : AreOfModes taken.below rest
     pub high : length taken.below ≡ h
     pub many : length taken.values ≡ given
     pub place : here.frame + cell ≡ Low + length taken.below
     pub top : here.frame + cell + given ≡ Low + length over
-    pub lie : AllAt s.rows (here.frame + cell) taken.values
-    pub under : CellsAt s.rows Low taken.below
+    pub lie : AreValuesAt s.rows (here.frame + cell) taken.values
+    pub under : AreCellsAt s.rows Low taken.below
     pub room : here.frame + cell + given < length s.rows.numbers
     pub time_at : slice_get s.rows.numbers (here.frame + cell + given) ≡ Some time
 
@@ -119,7 +119,7 @@ module _ (w : Compiled) (c : Core) (here : Here) (s : State) (run : Running) (r 
       let place : here.frame + cell ≡ Low + length b.taken.below = omega (arith, at, high, own) in
       let long = taken_long given t.over [] b.taken off in
       let top : here.frame + cell + given ≡ Low + length t.over = omega (arith, place, long) in
-      let all = subst (λ l. CellsAt s.rows Low l) t.is r.holds.held.cells in
+      let all = subst (λ l. AreCellsAt s.rows Low l) t.is r.holds.held.cells in
       let parts = cut s.rows Low given t.over [] b.taken all.1 tt off in
       let deep : length r.placed.cells ≡ suc (length t.over) = sym (hold_length c.cells r.placed.cells r.fits.cells) ∙ ap length t.is in
       record {
@@ -134,20 +134,20 @@ module _ (w : Compiled) (c : Core) (here : Here) (s : State) (run : Running) (r 
         many = hold_length b.taken.values modes b.values ∙ n;
         place = place;
         top = top;
-        lie = subst (λ j. AllAt s.rows j b.taken.values) (sym place) parts.values;
+        lie = subst (λ j. AreValuesAt s.rows j b.taken.values) (sym place) parts.values;
         under = parts.below;
         room = place_within (site w c here s run r) (located w c here s run r) (here.frame + cell + given) (omega (arith, top, deep, deep_here w c here s run r));
         time_at = ap (slice_get s.rows.numbers) top ∙ all.0;
       }
 
   -- what the notice is given
-  abbrev gives_of : (h cell given class : ℕ) (notes : Bool) (modes rest : List Mode) → Spread h cell given modes rest → GivenFit w.program class modes → IsQuietGiven notes class given → HasGivenValues class notes (here.frame + cell) given s.rows s.world
+  abbrev gives_of : (h cell given class : ℕ) (notes : Bool) (modes rest : List Mode) → Spread h cell given modes rest → AreGivenModes w.program class modes → IsQuietGiven notes class given → HasGivenValues class notes (here.frame + cell) given s.rows s.world
   gives_of h cell given class notes modes rest z fit reported = record {
     program = w.program;
     typed = r.compiled.typed;
     modes = r.placed.locals;
     store = c.store;
-    fits = subst (λ (t : Store). Fits w.program r.placed.locals t) (store_is w c here s run r) r.fits.store;
+    fits = subst (λ (t : Store). IsFittingStore w.program r.placed.locals t) (store_is w c here s run r) r.fits.store;
     notice = fit.0;
     values = z.taken.values;
     kinds = modes;
@@ -171,13 +171,13 @@ module _ (w : Compiled) (c : Core) (here : Here) (s : State) (run : Running) (r 
   time_is : (h cell given : ℕ) (modes rest : List Mode) (z : Spread h cell given modes rest) (t : ℤ) → slice_get s.rows.numbers (here.frame + cell + given) ≡ Some t → z.time ≡ t
   time_is h cell given modes rest z t e = let q : Some z.time ≡ Some t = sym z.time_at ∙ e in cc
 
-  fields_from : (class : ℕ) (modes : List Mode) → GivenFit w.program class modes → (i : ℕ) (m : Mode) → slice_get modes i ≡ Some m → field_mode w.program class (0 + i) ≡ Some m
+  fields_from : (class : ℕ) (modes : List Mode) → AreGivenModes w.program class modes → (i : ℕ) (m : Mode) → slice_get modes i ≡ Some m → field_mode w.program class (0 + i) ≡ Some m
   fields_from class modes fit i m q = let none_on : 0 + i ≡ i = omega arith in subst (λ j. field_mode w.program class j ≡ Some m) (sym none_on) (given_fields w.program class modes fit i m q)
 
   -- ## MakeNotice
 
   abbrev pub MakesNotice : (class cell given : ℕ) → Address → Type 0
-  MakesNotice class cell given to = WithCell w.code w.run.constants r.placed cell (λ h. To w.code w.run.constants r.placed to (λ t. Is w.code w.run.constants r.placed (i.MakeNotice class h given t)))
+  MakesNotice class cell given to = HasCell w.code w.run.constants r.placed cell (λ h. HasTarget w.code w.run.constants r.placed to (λ t. Is w.code w.run.constants r.placed (i.MakeNotice class h given t)))
 
   -- the cells of the instruction
   pub make_spread : (class cell given : ℕ) (to : Address) (z : MakesNotice class cell given to) → let y = subst SuitsHere z.2.2 (suits w c here s run r) in Spread z.0 cell given y.1 y.5.0
@@ -204,7 +204,7 @@ module _ (w : Compiled) (c : Core) (here : Here) (s : State) (run : Running) (r 
 
   -- a value and a store that fit
   abbrev IsFitting : Value × Store → Type 0
-  IsFitting b = (mode_of b.0 ≡ Integer) × Fits w.program r.placed.locals b.1
+  IsFitting b = (mode_of b.0 ≡ Integer) × IsFittingStore w.program r.placed.locals b.1
 
   make_fine : (class cell given : ℕ) (to : Address) (z : MakesNotice class cell given to) (t : ℤ) → Fine IsFitting (made_notice class (make_spread class cell given to z).taken.values t c.store)
   make_fine class cell given to z t =
@@ -217,7 +217,7 @@ module _ (w : Compiled) (c : Core) (here : Here) (s : State) (run : Running) (r 
   make_core class cell given to z t = record c { cells = Whole t ∷ (make_spread class cell given to z).taken.below }
 
   -- the number of the notice is to go to the target, once its time lies in the first of the cells
-  pub make_delivers : (class cell given : ℕ) (to : Address) (notes : Bool) (reported : IsQuietGiven notes class given) (z : MakesNotice class cell given to) (t n : ℤ) (e : Seen) → slice_get s.rows.numbers (here.frame + cell + given) ≡ Some t → MadeIn c.store class (make_gives class cell given to notes z reported).values t s.world e (Ok n) → Delivers w (make_core class cell given to z t) r.placed.line (act w.code r.placed.line r.placed.instruction c) here (record s { world = e; rows = with_number_at s.rows (here.frame + cell) t }) to (as_value (Ok n))
+  pub make_delivers : (class cell given : ℕ) (to : Address) (notes : Bool) (reported : IsQuietGiven notes class given) (z : MakesNotice class cell given to) (t n : ℤ) (e : Seen) → slice_get s.rows.numbers (here.frame + cell + given) ≡ Some t → IsNoticeMade c.store class (make_gives class cell given to notes z reported).values t s.world e (Ok n) → IsDelivering w (make_core class cell given to z t) r.placed.line (act w.code r.placed.line r.placed.instruction c) here (record s { world = e; rows = with_number_at s.rows (here.frame + cell) t }) to (as_value (Ok n))
   make_delivers class cell given to notes reported z t n e at_time made =
       let y = subst SuitsHere z.2.2 (suits w c here s run r) in
       let v = make_spread class cell given to z in
@@ -231,7 +231,7 @@ module _ (w : Compiled) (c : Core) (here : Here) (s : State) (run : Running) (r 
       let k = length c.store.globals in
       let cells = Whole t ∷ v.taken.below in
       let gives : made_notice class v.taken.values t c.store ≡ Ok (Whole n, with_seen c.store e) = ap (made_notice class v.taken.values t) (store_is w c here s run r) ∙ made in
-      let cells_here : CellsAt rows Low cells = (
+      let cells_here : AreCellsAt rows Low cells = (
         subst (λ j. slice_get rows.numbers j ≡ Some t) place (value_same s.rows i (Whole t) r.holds.even (omega (arith, room))),
         cells_agree s.rows rows Low v.taken.below (agree_out s.rows rows i Low (Low + length v.taken.below) ew (inr (omega (arith, place)))) v.under,
       ) in
@@ -271,11 +271,11 @@ module _ (w : Compiled) (c : Core) (here : Here) (s : State) (run : Running) (r 
       }
 
   -- what came of the delivery
-  pub makes : (class cell given : ℕ) (to : Address) (z : MakesNotice class cell given to) (e : Seen) (rows : TwoRows) (new : State) (result : Option Here) → NoTick w r.placed.line (act w.code r.placed.line r.placed.instruction c) (record s { world = e; rows = rows }) new result → Performs (is_due r.placed.instruction) w r.placed.line (act w.code r.placed.line r.placed.instruction c) s new result
+  pub makes : (class cell given : ℕ) (to : Address) (z : MakesNotice class cell given to) (e : Seen) (rows : TwoRows) (new : State) (result : Option Here) → HasNoTick w r.placed.line (act w.code r.placed.line r.placed.instruction c) (record s { world = e; rows = rows }) new result → HasPerformed (is_due r.placed.instruction) w r.placed.line (act w.code r.placed.line r.placed.instruction c) s new result
   makes class cell given to z e rows new result h = calm w c here s run r new result (ap is_due z.2.2) (record { leads = h.leads; ticks = h.ticks; steps = h.steps })
 
   -- or none was made
-  pub makes_not : (class cell given : ℕ) (to : Address) (notes : Bool) (reported : IsQuietGiven notes class given) (z : MakesNotice class cell given to) (t : ℤ) (e : Seen) (refused : Refused) (new : State) (result : Option Here) → slice_get s.rows.numbers (here.frame + cell + given) ≡ Some t → MadeIn c.store class (make_gives class cell given to notes z reported).values t s.world e (Err refused) → new ≡ refused_by refused (record s { world = e }) → result ≡ None → Performs (is_due r.placed.instruction) w r.placed.line (act w.code r.placed.line r.placed.instruction c) s new result
+  pub makes_not : (class cell given : ℕ) (to : Address) (notes : Bool) (reported : IsQuietGiven notes class given) (z : MakesNotice class cell given to) (t : ℤ) (e : Seen) (refused : Refused) (new : State) (result : Option Here) → slice_get s.rows.numbers (here.frame + cell + given) ≡ Some t → IsNoticeMade c.store class (make_gives class cell given to notes z reported).values t s.world e (Err refused) → new ≡ refused_by refused (record s { world = e }) → result ≡ None → HasPerformed (is_due r.placed.instruction) w r.placed.line (act w.code r.placed.line r.placed.instruction c) s new result
   makes_not class cell given to notes reported z t e (Fault kind) new result at_time made same none =
       let v = make_spread class cell given to z in
       fails_on w c here s run r kind e new result (ap is_due z.2.2)
@@ -285,14 +285,14 @@ module _ (w : Compiled) (c : Core) (here : Here) (s : State) (run : Running) (r 
       let m = act w.code r.placed.line r.placed.instruction c in
       let l = r.placed.line in
       let s' : State = stopped NoMemory (record s { world = e }) in
-      let plain : NoTick w l m s s' None = record { leads = tt; ticks = refl; steps = refl } in
+      let plain : HasNoTick w l m s s' None = record { leads = tt; ticks = refl; steps = refl } in
       calm w c here s run r new result (ap is_due z.2.2)
-      (subst (λ o. NoTick w l m s new o) (sym none) (subst (λ u. NoTick w l m s u None) (sym same) plain))
+      (subst (λ o. HasNoTick w l m s new o) (sym none) (subst (λ u. HasNoTick w l m s u None) (sym same) plain))
 
   -- ## Reschedule
 
   abbrev pub Reschedules : (class : ℕ) → (notice : Address) → (cell given : ℕ) → Type 0
-  Reschedules class notice cell given = From w.code w.run.constants r.placed notice (λ y. WithCell w.code w.run.constants r.placed cell (λ h. Is w.code w.run.constants r.placed (i.Reschedule class y h given)))
+  Reschedules class notice cell given = HasOperand w.code w.run.constants r.placed notice (λ y. HasCell w.code w.run.constants r.placed cell (λ h. Is w.code w.run.constants r.placed (i.Reschedule class y h given)))
 
   pub again_spread : (class : ℕ) (notice : Address) (cell given : ℕ) (z : Reschedules class notice cell given) → let y = subst SuitsHere z.2.2 (suits w c here s run r) in Spread z.2.0 cell given y.1 y.5.0
   again_spread class notice cell given z =
@@ -313,7 +313,7 @@ module _ (w : Compiled) (c : Core) (here : Here) (s : State) (run : Running) (r 
       let y = subst SuitsHere z.2.2 (suits w c here s run r) in
       gives_of z.2.0 cell given class notes y.1 y.5.0 (again_spread class notice cell given z) y.4 reported
 
-  pub reschedules : (class : ℕ) (notice : Address) (cell given : ℕ) (notes : Bool) (reported : IsQuietGiven notes class given) (z : Reschedules class notice cell given) (n t : ℤ) (e : Seen) (answer : OkOr (Unit {0}) Refused) (new : State) (result : Option Here) → slice_get s.rows.numbers (place_at here.frame notice) ≡ Some n → slice_get s.rows.numbers (here.frame + cell + given) ≡ Some t → SettledInWithMemory c.store (rescheduled class (Whole n) (again_gives class notice cell given notes z reported).values t) s.world e answer → new ≡ refused_where answer (record s { world = e }) → result ≡ on_after here (unless_refused answer) → Performs (is_due r.placed.instruction) w r.placed.line (act w.code r.placed.line r.placed.instruction c) s new result
+  pub reschedules : (class : ℕ) (notice : Address) (cell given : ℕ) (notes : Bool) (reported : IsQuietGiven notes class given) (z : Reschedules class notice cell given) (n t : ℤ) (e : Seen) (answer : OkOr (Unit {0}) Refused) (new : State) (result : Option Here) → slice_get s.rows.numbers (place_at here.frame notice) ≡ Some n → slice_get s.rows.numbers (here.frame + cell + given) ≡ Some t → IsSettledWithMemory c.store (rescheduled class (Whole n) (again_gives class notice cell given notes z reported).values t) s.world e answer → new ≡ refused_where answer (record s { world = e }) → result ≡ on_after here (unless_refused answer) → HasPerformed (is_due r.placed.instruction) w r.placed.line (act w.code r.placed.line r.placed.instruction c) s new result
   reschedules class notice cell given notes reported z n t e answer new result at_notice at_time d same way =
       let l = r.placed.line in
       let is = z.2.2 in
@@ -322,14 +322,14 @@ module _ (w : Compiled) (c : Core) (here : Here) (s : State) (run : Running) (r 
       let vs = v.taken.values in
       let one = reads (site w c here s run r) (located w c here s run r) z.0 Integer y.5.0 y.5.2.0 notice v.taken.below (Whole n) y.5.2.1 z.1 v.under v.below (only_number s.rows (place_at here.frame notice) n at_notice) in
       let op : Store → OkOr Store Failure = rescheduled class (Whole n) vs t in
-      let left : Settles c l (act w.code l r.placed.instruction c) here s op = record {
+      let left : IsSettling c l (act w.code l r.placed.instruction c) here s op = record {
         below = one.below;
         acts =
             ap (λ x. act w.code l x c) is
             ∙ reads_spread z.2.0 cell given y.1 y.5.0 v (λ t vs above. with_operand_value z.0 c.store above (λ x below. did l (rescheduled class x vs t c.store) (λ s. onward below c s)))
             ∙ one.is (λ x below. did l (rescheduled class x vs v.time c.store) (λ s. onward below c s))
             ∙ ap (λ t. did l (rescheduled class (Whole n) vs t c.store) (λ s. onward one.below c s)) (time_is z.2.0 cell given y.1 y.5.0 v t at_time);
-        right = fine_right (Fits w.program r.placed.locals) (op c.store) (rescheduled_fine w.program r.compiled.typed r.placed.locals class (Whole n) vs y.1 t c.store y.4.0 v.kinds (fields_from class y.1 y.4) refl r.fits.store);
+        right = fine_right (IsFittingStore w.program r.placed.locals) (op c.store) (rescheduled_fine w.program r.compiled.typed r.placed.locals class (Whole n) vs y.1 t c.store y.4.0 v.kinds (fields_from class y.1 y.4) refl r.fits.store);
         at = one.cells;
       } in
       refuses w c here s run r op e answer new result (ap is_due is) left d same way

@@ -21,12 +21,12 @@ use Rattle.ss_meaning.specs.Fitting.{class_of_record, living}
 use Rattle.ss_meaning.proofs.Events.{BegunAs, begun_fine}
 use Rattle.ss_code_instructions.specs.States.{AnEvent, Core, Rest, Breaks, did, fit, at_height}
 use Rattle.ss_code_instructions.specs.Machine.{act, enter, take_event, take_next}
-use Rattle.ss_machine_world.specs.Seen.{Seen, IsRight, Changes, with_seen}
+use Rattle.ss_machine_world.specs.Seen.{Seen, IsRight, HasChanged, with_seen}
 use Rattle.ss_machine_world.proofs.Reading.{value_once}
 use Rattle.ss_machine_instructions.specs.declared.flow.Here.{Here}
 use Rattle.ss_machine_instructions.specs.declared.state.State.{State}
 use Rattle.ss_machine_instructions.specs.Doing.{Compiled}
-use Rattle.ss_machine_notices.specs.Beginning.{AreRead, LetsGo, ComesNext}
+use Rattle.ss_machine_notices.specs.Beginning.{AreRead, HasLetGo, IsNextEvent}
 use Rattle.ss_machine_instructions.proofs.Settling.{fine_right}
 use Rattle.ss_machine_notices.proofs.Begun.{known, event, said_is}
 
@@ -85,7 +85,7 @@ put_number (u ∷ vs) zero z old e m =
     ap (λ n. if same_mode Integer n then Ok (Whole z ∷ vs) else Err TypeError) (ap mode_of q ∙ m)
 put_number (u ∷ vs) (suc k) z old e m = ap (turned (λ rest. u ∷ rest)) (put_number vs k z old e m)
 
-module _ (w : Compiled) (c : Core) (here : Here) (s : State) (cell : ℕ) (x : ℤ) (class : ℕ) (n : ComesNext w c here s cell x class) where
+module _ (w : Compiled) (c : Core) (here : Here) (s : State) (cell : ℕ) (x : ℤ) (class : ℕ) (n : IsNextEvent w c here s cell x class) where
   -- ## Letting the notice go
 
   -- the store once it is let go, and the world is as seen
@@ -101,21 +101,21 @@ module _ (w : Compiled) (c : Core) (here : Here) (s : State) (cell : ℕ) (x : �
   abbrev pub IsSaving : Option ℕ → Type 0
   IsSaving saved = IfSome saved (λ k. (old : Value) × (slice_get c.store.globals k ≡ Some old) × (mode_of old ≡ Integer))
 
-  pub goes_as : (saved : Option ℕ) (mid new : State) (q : OkOr (Unit {0}) FaultKind) → mid.world ≡ s.world → IsSaving saved → IsRight (saved_or_gone saved class (Whole x) (with_seen c.store s.world)) → LetsGo saved class x mid new q → GoesAs saved new.world q
-  goes_as None mid new q same saving right d = by q (subst (λ (e : Seen). Changes (gone class (Whole x)) e new.world q) same d.0)
+  pub goes_as : (saved : Option ℕ) (mid new : State) (q : OkOr (Unit {0}) FaultKind) → mid.world ≡ s.world → IsSaving saved → IsRight (saved_or_gone saved class (Whole x) (with_seen c.store s.world)) → HasLetGo saved class x mid new q → GoesAs saved new.world q
+  goes_as None mid new q same saving right d = by q (subst (λ (e : Seen). HasChanged (gone class (Whole x)) e new.world q) same d.0)
     where
-      by : (q : OkOr (Unit {0}) FaultKind) → Changes (gone class (Whole x)) s.world new.world q → GoesAs None new.world q
+      by : (q : OkOr (Unit {0}) FaultKind) → HasChanged (gone class (Whole x)) s.world new.world q → GoesAs None new.world q
       by (Ok u) d = d c.store right
       by (Err kind) d = d.0 c.store right
-  goes_as (Some k) mid new q same saving right d = saved_as k new q saving right (subst (λ (e : Seen). Changes (noted (OfVariable k) (pos 0) (Whole x)) e new.world q) same d.0)
+  goes_as (Some k) mid new q same saving right d = saved_as k new q saving right (subst (λ (e : Seen). HasChanged (noted (OfVariable k) (pos 0) (Whole x)) e new.world q) same d.0)
     where
-      saved_as : (k : ℕ) (new : State) (q : OkOr (Unit {0}) FaultKind) → IsSaving (Some k) → IsRight (saved_or_gone (Some k) class (Whole x) (with_seen c.store s.world)) → Changes (noted (OfVariable k) (pos 0) (Whole x)) s.world new.world q → GoesAs (Some k) new.world q
+      saved_as : (k : ℕ) (new : State) (q : OkOr (Unit {0}) FaultKind) → IsSaving (Some k) → IsRight (saved_or_gone (Some k) class (Whole x) (with_seen c.store s.world)) → HasChanged (noted (OfVariable k) (pos 0) (Whole x)) s.world new.world q → GoesAs (Some k) new.world q
       saved_as k new q saving right d = by q d
         where
           put_then : saved_or_gone (Some k) class (Whole x) (with_seen c.store s.world) ≡ noted (OfVariable k) (pos 0) (Whole x) (with_seen (record c.store { globals = slice_set c.store.globals k (Whole x) }) s.world)
           put_then = ap (λ r. if_ok (turned (λ vs. record (with_seen c.store s.world) { globals = vs }) r) (noted (OfVariable k) (pos 0) (Whole x))) (put_number c.store.globals k x saving.0 saving.1 saving.2)
 
-          by : (q : OkOr (Unit {0}) FaultKind) → Changes (noted (OfVariable k) (pos 0) (Whole x)) s.world new.world q → GoesAs (Some k) new.world q
+          by : (q : OkOr (Unit {0}) FaultKind) → HasChanged (noted (OfVariable k) (pos 0) (Whole x)) s.world new.world q → GoesAs (Some k) new.world q
           by (Ok u) d = put_then ∙ d (record c.store { globals = slice_set c.store.globals k (Whole x) }) (λ wrong. right (put_then ∙ wrong))
           by (Err kind) d = put_then ∙ d.0 (record c.store { globals = slice_set c.store.globals k (Whole x) }) (λ wrong. right (put_then ∙ wrong))
 

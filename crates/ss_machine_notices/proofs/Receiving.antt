@@ -6,11 +6,11 @@ use Rattle.ss_base.specs.declared.layout.Mode.{Mode}
 use Rattle.ss_base.specs.declared.value.Value.{Value}
 use Rattle.ss_base.specs.Layout.{mode_of}
 use Rattle.ss_world.specs.State.{State, value_in}
-use Rattle.ss_machine_frames.specs.Rows.{TwoRows, ValueAt, with_value, Agree}
-use Rattle.ss_machine_frames.specs.Holding.{AllAt}
+use Rattle.ss_machine_frames.specs.Rows.{TwoRows, IsValueAt, with_value, AreAlike}
+use Rattle.ss_machine_frames.specs.Holding.{AreValuesAt}
 use Rattle.ss_machine_frames.proofs.Entering.{value_long, value_texts}
 use Rattle.ss_machine_frames.proofs.Places.{agree_out, agree_within, agree_on, agree_same, elsewhere_value, value_same, all_agree}
-use Rattle.ss_machine_notices.specs.Beginning.{AreRead, Received}
+use Rattle.ss_machine_notices.specs.Beginning.{AreRead, AreReceived}
 
 -- ## One value more
 
@@ -20,11 +20,11 @@ read_more h class field n (u ∷ vs) v all e =
     let one : field + suc (length vs) ≡ field + 1 + length vs = omega arith in
     (all.0, read_more h class (field + 1) n vs v all.1 (subst (λ k. value_in h class k n ≡ Ok v) one e))
 
-all_more : (r : TwoRows) (i : ℕ) (vs : List Value) (v : Value) → AllAt r i vs → ValueAt r (i + length vs) v → AllAt r i (vs ++ v ∷ [])
-all_more r i [] v all at = let none_on : i + 0 ≡ i = omega arith in (subst (λ k. ValueAt r k v) none_on at, tt)
+all_more : (r : TwoRows) (i : ℕ) (vs : List Value) (v : Value) → AreValuesAt r i vs → IsValueAt r (i + length vs) v → AreValuesAt r i (vs ++ v ∷ [])
+all_more r i [] v all at = let none_on : i + 0 ≡ i = omega arith in (subst (λ k. IsValueAt r k v) none_on at, tt)
 all_more r i (u ∷ vs) v all at =
     let one : i + suc (length vs) ≡ i + 1 + length vs = omega arith in
-    (all.0, all_more r (i + 1) vs v all.1 (subst (λ k. ValueAt r k v) one at))
+    (all.0, all_more r (i + 1) vs v all.1 (subst (λ k. IsValueAt r k v) one at))
 
 modes_more : (vs : List Value) (v : Value) → map mode_of (vs ++ v ∷ []) ≡ map mode_of vs ++ mode_of v ∷ []
 modes_more [] v = refl
@@ -50,9 +50,9 @@ module _ (h : State) (class : ℕ) (n : ℤ) (modes : List Mode) (from : ℕ) (o
     pub read : AreRead h class 0 n values
     pub hold : map mode_of values ≡ take i modes
     pub many : length values ≡ i
-    pub lie : AllAt now from values
-    pub below : Agree old now 0 from
-    pub above : (to : ℕ) → Agree old now (from + i) to
+    pub lie : AreValuesAt now from values
+    pub below : AreAlike old now 0 from
+    pub above : (to : ℕ) → AreAlike old now (from + i) to
     pub long : length now.numbers ≡ length old.numbers
     pub even : length now.texts ≡ length old.texts
 
@@ -74,7 +74,7 @@ module _ (h : State) (class : ℕ) (n : ℤ) (modes : List Mode) (from : ℕ) (o
       let k = from + i in
       let ew = elsewhere_value now k v in
       let many = d.many in
-      let here : ValueAt (with_value now k v) k v = value_same now k v (d.even ∙ even ∙ sym d.long) (omega (arith, within, d.long)) in
+      let here : IsValueAt (with_value now k v) k v = value_same now k v (d.even ∙ even ∙ sym d.long) (omega (arith, within, d.long)) in
       let at : k ≡ from + length d.values = omega (arith, many) in
       let next : suc i ≡ i + 1 = omega arith in
       let r : Receiving (i + 1) (with_value now k v) = record {
@@ -87,7 +87,7 @@ module _ (h : State) (class : ℕ) (n : ℤ) (modes : List Mode) (from : ℕ) (o
             ∙ sym (take_got modes i m has)
             ∙ ap (λ j. take j modes) next;
         many = long_more d.values v ∙ omega (arith, many);
-        lie = all_more (with_value now k v) from d.values v (all_agree now (with_value now k v) from d.values (agree_out now (with_value now k v) k from (from + length d.values) ew (inr (omega (arith, many)))) d.lie) (subst (λ j. ValueAt (with_value now k v) j v) at here);
+        lie = all_more (with_value now k v) from d.values v (all_agree now (with_value now k v) from d.values (agree_out now (with_value now k v) k from (from + length d.values) ew (inr (omega (arith, many)))) d.lie) (subst (λ j. IsValueAt (with_value now k v) j v) at here);
         below = agree_on old now (with_value now k v) 0 from d.below (agree_out now (with_value now k v) k 0 from ew (inr (omega arith)));
         above = λ to. agree_on old now (with_value now k v) (from + (i + 1)) to (agree_within old now (from + i) to (from + (i + 1)) to (omega arith) (omega arith) (d.above to)) (agree_out now (with_value now k v) k (from + (i + 1)) to ew (inl (omega arith)));
         long = value_long now k v ∙ d.long;
@@ -95,14 +95,14 @@ module _ (h : State) (class : ℕ) (n : ℤ) (modes : List Mode) (from : ℕ) (o
       } in
       subst (λ (x : TwoRows). Receiving (i + 1) x) (sym same) r
 
-  pub all_received : (i : ℕ) (now : TwoRows) → Receiving i now → i ≡ length modes → Received h class n modes from old now
+  pub all_received : (i : ℕ) (now : TwoRows) → Receiving i now → i ≡ length modes → AreReceived h class n modes from old now
   all_received i now d all = record {
     values = d.values;
     read = d.read;
     hold = d.hold ∙ take_all i modes (omega (arith, all));
     lie = d.lie;
     below = d.below;
-    above = λ to. subst (λ k. Agree old now (from + k) to) all (d.above to);
+    above = λ to. subst (λ k. AreAlike old now (from + k) to) all (d.above to);
     long = d.long;
     even = d.even;
   }

@@ -13,7 +13,7 @@ use Rattle.ss_meaning.specs.Events.{Beginning, attributes_given}
 use Rattle.ss_code_instructions.specs.declared.entry.SectionEntry.{SectionEntry}
 use Rattle.ss_code_instructions.specs.declared.instruction.Instruction.TheVariants.{TakeEvent}
 use Rattle.ss_code_instructions.specs.Carried.{IsEntry}
-use Rattle.ss_code_instructions.specs.Shape.{Suits}
+use Rattle.ss_code_instructions.specs.Shape.{IsSuited}
 use Rattle.ss_code_instructions.specs.States.{AnEvent, Core, To, Rest, Breaks, Stuck, did, fit, at_height}
 use Rattle.ss_code_instructions.specs.Machine.{act, enter}
 use Rattle.ss_machine_frames.specs.Rows.{TwoRows, with_value, with_number, cleared}
@@ -24,10 +24,10 @@ use Rattle.ss_machine_world.specs.Seen.{Seen, with_seen}
 use Rattle.ss_machine_instructions.specs.declared.flow.Ending.TheVariants.{NoMemory}
 use Rattle.ss_machine_instructions.specs.declared.flow.Here.{Here}
 use Rattle.ss_machine_instructions.specs.declared.state.State.{State}
-use Rattle.ss_machine_instructions.specs.Doing.{Compiled, OneTick}
+use Rattle.ss_machine_instructions.specs.Doing.{Compiled, HasOneTick}
 use Rattle.ss_machine_instructions.specs.Ways.{faulted}
-use Rattle.ss_machine_instructions.specs.Entered.{Enters, IsOutOfMemory}
-use Rattle.ss_machine_notices.specs.Beginning.{AreRead, LetsGo, ThenLetsGo, Receives, ReceivedIf, Unbegun, IsUnbegun, ComesNext, Received}
+use Rattle.ss_machine_instructions.specs.Entered.{HasEntered, IsOutOfMemory}
+use Rattle.ss_machine_notices.specs.Beginning.{AreRead, HasLetGo, HasLetGoThen, HasReceived, AreReceivedIf, IsUnbegunAfter, IsUnbegun, IsNextEvent, AreReceived}
 use Rattle.ss_machine_notices.proofs.Begun.{event, entry_point, code_entry, begun_entry, begun_modes, begun_kind, begun_saved, begun_saving}
 use Rattle.ss_machine_instructions.proofs.Filing.{one}
 use Rattle.ss_machine_notices.proofs.Giving.{got_at}
@@ -41,14 +41,14 @@ cleared_even : (r : TwoRows) (i : ℕ) (ms : List Mode) → length r.texts ≡ l
 cleared_even r i [] e = e
 cleared_even r i (m ∷ ms) e = cleared_even (with_value r i (first_value m)) (i + 1) ms (value_texts r i (first_value m) ∙ e ∙ sym (value_long r i (first_value m)))
 
-module _ (w : Compiled) (c : Core) (here : Here) (s : State) (cell : ℕ) (x : ℤ) (class : ℕ) (n : ComesNext w c here s cell x class) (run : SectionEntry) (at_run : slice_get w.run.events n.coming.ranked.rank ≡ Some run) where
+module _ (w : Compiled) (c : Core) (here : Here) (s : State) (cell : ℕ) (x : ℤ) (class : ℕ) (n : IsNextEvent w c here s cell x class) (run : SectionEntry) (at_run : slice_get w.run.events n.coming.ranked.rank ≡ Some run) where
   -- the entry that is run is that of the event
   pub entry_is : IsEntry w.run.depth (entry_point w c here s cell x class n) run
   entry_is = subst (λ r. IsEntry w.run.depth (entry_point w c here s cell x class n) r) (one (sym (begun_entry w c here s cell x class n).there ∙ at_run)) (begun_entry w c here s cell x class n).is
 
   pub high : length c.cells ≡ n.ready.runs.carries.0
   high =
-      let y = subst (λ i. Suits w.program w.code c.place n.ready.placed.locals n.ready.placed.cells i) n.ready.runs.carries.2 (suits w c here n.before (TakeEvent cell) n.ready) in
+      let y = subst (λ i. IsSuited w.program w.code c.place n.ready.placed.locals n.ready.placed.cells i) n.ready.runs.carries.2 (suits w c here n.before (TakeEvent cell) n.ready) in
       hold_length c.cells n.ready.placed.cells n.ready.fits.cells ∙ y.0
 
   -- the modes are there
@@ -62,11 +62,11 @@ module _ (w : Compiled) (c : Core) (here : Here) (s : State) (cell : ℕ) (x : �
   pub given_is : (vs : List Value) → length vs ≡ length (event w c here s cell x class n).given → AreRead s.world.heap class 0 x vs → attributes_given class 0 (length (event w c here s cell x class n).given) (Whole x) (with_seen c.store s.world) ≡ Ok vs
   given_is vs long read = ap (λ k. attributes_given class 0 k (Whole x) (with_seen c.store s.world)) (sym long) ∙ read_is s.world class 0 x vs c.store (modes_there vs long) read
 
-  module _ (s1 : State) (frame : ℕ) (enters : Enters here s s1 run cell frame) where
+  module _ (s1 : State) (frame : ℕ) (enters : HasEntered here s s1 run cell frame) where
     pub even_then : length s1.rows.texts ≡ length s1.rows.numbers
     even_then = subst (λ (t : State). length t.rows.texts ≡ length t.rows.numbers) (sym enters.is) (cleared_even enters.grown (frame + length run.given.items) run.others.items enters.even)
 
-    module _ (rows : TwoRows) (h : Received s1.world.heap class x run.given.items frame s1.rows rows) where
+    module _ (rows : TwoRows) (h : AreReceived s1.world.heap class x run.given.items frame s1.rows rows) where
       values_long : length h.values ≡ length (event w c here s cell x class n).given
       values_long = hold_length h.values run.given.items h.hold ∙ ap length entry_is.given
 
@@ -93,7 +93,7 @@ module _ (w : Compiled) (c : Core) (here : Here) (s : State) (cell : ℕ) (x : �
       hold_given : map mode_of h.values ≡ (entry_point w c here s cell x class n).given
       hold_given = h.hold ∙ entry_is.given
 
-      pub begins_gone : (seen : Seen) → n.coming.ranked.said.saved ≡ None → GoesAs w c here s cell x class n n.coming.ranked.said.saved seen (Ok tt) → OneTick s.ticks w n.ready.placed.line (act w.code n.ready.placed.line n.ready.placed.instruction c) n.before (record s1 { rows = rows; world = seen }) (Some (record { place = run.place; frame = frame }))
+      pub begins_gone : (seen : Seen) → n.coming.ranked.said.saved ≡ None → GoesAs w c here s cell x class n n.coming.ranked.said.saved seen (Ok tt) → HasOneTick s.ticks w n.ready.placed.line (act w.code n.ready.placed.line n.ready.placed.instruction c) n.before (record s1 { rows = rows; world = seen }) (Some (record { place = run.place; frame = frame }))
       begins_gone seen none goes =
           let e = entry_point w c here s cell x class n in
           let c' = begun_core w c here s cell x class n e run entry_is s1 frame enters high n.coming.ranked.rank h.values (with_seen c.store seen) in
@@ -123,7 +123,7 @@ module _ (w : Compiled) (c : Core) (here : Here) (s : State) (cell : ℕ) (x : �
             store = record (with_seen c.store seen) { locals = vs };
           }
 
-      pub begins_saved : (k : ℕ) (seen : Seen) → n.coming.ranked.said.saved ≡ Some k → k < length c.store.globals → k < frame → GoesAs w c here s cell x class n n.coming.ranked.said.saved seen (Ok tt) → OneTick s.ticks w n.ready.placed.line (act w.code n.ready.placed.line n.ready.placed.instruction c) n.before (record s1 { rows = with_number rows k x; world = seen }) (Some (record { place = run.place; frame = frame }))
+      pub begins_saved : (k : ℕ) (seen : Seen) → n.coming.ranked.said.saved ≡ Some k → k < length c.store.globals → k < frame → GoesAs w c here s cell x class n n.coming.ranked.said.saved seen (Ok tt) → HasOneTick s.ticks w n.ready.placed.line (act w.code n.ready.placed.line n.ready.placed.instruction c) n.before (record s1 { rows = with_number rows k x; world = seen }) (Some (record { place = run.place; frame = frame }))
       begins_saved k seen some lt low goes =
           let e = entry_point w c here s cell x class n in
           let c' = begun_core w c here s cell x class n e run entry_is s1 frame enters high n.coming.ranked.rank h.values (left_store w c here s cell x class n (Some k) seen) in
@@ -155,19 +155,19 @@ module _ (w : Compiled) (c : Core) (here : Here) (s : State) (cell : ℕ) (x : �
 
   -- ## Where it does not begin
 
-  pub fails_as : (kind : FaultKind) (mid new : State) (result : Option Here) → act w.code n.ready.placed.line n.ready.placed.instruction c ≡ Rest (Breaks kind n.coming.ranked.said.line) → mid.ticks ≡ s.ticks → mid.steps ≡ n.before.steps → new ≡ faulted kind (record mid { fault_line = Some n.coming.ranked.said.line }) → result ≡ None → OneTick s.ticks w n.ready.placed.line (act w.code n.ready.placed.line n.ready.placed.instruction c) n.before new result
+  pub fails_as : (kind : FaultKind) (mid new : State) (result : Option Here) → act w.code n.ready.placed.line n.ready.placed.instruction c ≡ Rest (Breaks kind n.coming.ranked.said.line) → mid.ticks ≡ s.ticks → mid.steps ≡ n.before.steps → new ≡ faulted kind (record mid { fault_line = Some n.coming.ranked.said.line }) → result ≡ None → HasOneTick s.ticks w n.ready.placed.line (act w.code n.ready.placed.line n.ready.placed.instruction c) n.before new result
   fails_as kind mid new result acts ticks steps same none =
       let m = act w.code n.ready.placed.line n.ready.placed.instruction c in
       let s' : State = faulted kind (record mid { fault_line = Some n.coming.ranked.said.line }) in
-      let plain : OneTick s.ticks w n.ready.placed.line m n.before s' None = record { leads = acts; ticks = ticks; steps = steps } in
-      subst (λ o. OneTick s.ticks w n.ready.placed.line m n.before new o) (sym none) (subst (λ (u : State). OneTick s.ticks w n.ready.placed.line m n.before u None) (sym same) plain)
+      let plain : HasOneTick s.ticks w n.ready.placed.line m n.before s' None = record { leads = acts; ticks = ticks; steps = steps } in
+      subst (λ o. HasOneTick s.ticks w n.ready.placed.line m n.before new o) (sym none) (subst (λ (u : State). HasOneTick s.ticks w n.ready.placed.line m n.before u None) (sym same) plain)
 
-  pub refused_as : (mid new : State) (result : Option Here) → mid.ticks ≡ s.ticks → mid.steps ≡ n.before.steps → new ≡ record mid { ticks = mid.ticks + 1; ending = NoMemory } → result ≡ None → OneTick s.ticks w n.ready.placed.line (act w.code n.ready.placed.line n.ready.placed.instruction c) n.before new result
+  pub refused_as : (mid new : State) (result : Option Here) → mid.ticks ≡ s.ticks → mid.steps ≡ n.before.steps → new ≡ record mid { ticks = mid.ticks + 1; ending = NoMemory } → result ≡ None → HasOneTick s.ticks w n.ready.placed.line (act w.code n.ready.placed.line n.ready.placed.instruction c) n.before new result
   refused_as mid new result ticks steps same none =
       let m = act w.code n.ready.placed.line n.ready.placed.instruction c in
       let s' : State = record mid { ticks = mid.ticks + 1; ending = NoMemory } in
-      let plain : OneTick s.ticks w n.ready.placed.line m n.before s' None = record { leads = tt; ticks = omega (arith, ticks); steps = steps } in
-      subst (λ o. OneTick s.ticks w n.ready.placed.line m n.before new o) (sym none) (subst (λ (u : State). OneTick s.ticks w n.ready.placed.line m n.before u None) (sym same) plain)
+      let plain : HasOneTick s.ticks w n.ready.placed.line m n.before s' None = record { leads = tt; ticks = omega (arith, ticks); steps = steps } in
+      subst (λ o. HasOneTick s.ticks w n.ready.placed.line m n.before new o) (sym none) (subst (λ (u : State). HasOneTick s.ticks w n.ready.placed.line m n.before u None) (sym same) plain)
 
   -- some attributes are there, read or not
   pub some_given : (vs : List Value) × (attributes_given class 0 (length (event w c here s cell x class n).given) (Whole x) (with_seen c.store s.world) ≡ Ok vs)
@@ -176,13 +176,13 @@ module _ (w : Compiled) (c : Core) (here : Here) (s : State) (cell : ℕ) (x : �
       (all.0, given_is all.0 all.1 all.2)
 
   -- there is no memory for the frame: a fault where one is due
-  pub unbegun_as : (s1 new : State) (result : Option Here) → IsOutOfMemory s s1 → IsUnbegun n.coming.ranked.said class x s1 new → result ≡ None → OneTick s.ticks w n.ready.placed.line (act w.code n.ready.placed.line n.ready.placed.instruction c) n.before new result
+  pub unbegun_as : (s1 new : State) (result : Option Here) → IsOutOfMemory s s1 → IsUnbegun n.coming.ranked.said class x s1 new → result ≡ None → HasOneTick s.ticks w n.ready.placed.line (act w.code n.ready.placed.line n.ready.placed.instruction c) n.before new result
   unbegun_as s1 new result refused u none = by u.answer u.lets_go u.is
     where
       steps_now : s.steps ≡ n.before.steps
       steps_now = ap (λ (t : State). t.steps) n.is
 
-      by : (q : OkOr (Unit {0}) FaultKind) → LetsGo n.coming.ranked.said.saved class x s1 u.mid q → Unbegun n.coming.ranked.said.line u.mid new q → OneTick s.ticks w n.ready.placed.line (act w.code n.ready.placed.line n.ready.placed.instruction c) n.before new result
+      by : (q : OkOr (Unit {0}) FaultKind) → HasLetGo n.coming.ranked.said.saved class x s1 u.mid q → IsUnbegunAfter n.coming.ranked.said.line u.mid new q → HasOneTick s.ticks w n.ready.placed.line (act w.code n.ready.placed.line n.ready.placed.instruction c) n.before new result
       by (Ok t) d is = refused_as u.mid new result (lets_go_ticks n.coming.ranked.said.saved class x s1 u.mid (Ok t) d ∙ refused.ticks) (lets_go_steps n.coming.ranked.said.saved class x s1 u.mid (Ok t) d ∙ refused.steps ∙ steps_now) is none
       by (Err kind) d is =
           let goes = goes_as w c here s cell x class n n.coming.ranked.said.saved s1 u.mid (Err kind) refused.world (begun_saving w c here s cell x class n) (goes_right w c here s cell x class n some_given.0 some_given.1) d in
@@ -190,20 +190,20 @@ module _ (w : Compiled) (c : Core) (here : Here) (s : State) (cell : ℕ) (x : �
 
   -- ## Where the frame is there
 
-  module _ (s1 : State) (frame : ℕ) (enters : Enters here s s1 run cell frame) (mid : State) (v : Receives n.coming.ranked.said class x run.given.items frame s1 mid (Ok tt)) where
+  module _ (s1 : State) (frame : ℕ) (enters : HasEntered here s s1 run cell frame) (mid : State) (v : HasReceived n.coming.ranked.said class x run.given.items frame s1 mid (Ok tt)) where
     -- the attributes were read
     pub was_read : (u : Unit {0}) × (v.read ≡ Ok u)
     was_read = by v.read v.lets_go
       where
-        by : (q : OkOr (Unit {0}) FaultKind) → ThenLetsGo n.coming.ranked.said class x (record s1 { rows = v.rows }) mid q (Ok tt) → (u : Unit {0}) × (q ≡ Ok u)
+        by : (q : OkOr (Unit {0}) FaultKind) → HasLetGoThen n.coming.ranked.said class x (record s1 { rows = v.rows }) mid q (Ok tt) → (u : Unit {0}) × (q ≡ Ok u)
         by (Ok u) d = (u, refl)
         by (Err kind) d = let wrong : Ok tt ≡ Err kind = d.0 in absurd cc
 
-    pub received : Received s1.world.heap class x run.given.items frame s1.rows v.rows
-    received = subst (λ q. ReceivedIf s1.world.heap class x run.given.items frame s1.rows v.rows q) was_read.1 (v.read_is (even_then s1 frame enters))
+    pub received : AreReceived s1.world.heap class x run.given.items frame s1.rows v.rows
+    received = subst (λ q. AreReceivedIf s1.world.heap class x run.given.items frame s1.rows v.rows q) was_read.1 (v.read_is (even_then s1 frame enters))
 
-    pub let_go : LetsGo n.coming.ranked.said.saved class x (record s1 { rows = v.rows }) mid (Ok tt)
-    let_go = subst (λ q. ThenLetsGo n.coming.ranked.said class x (record s1 { rows = v.rows }) mid q (Ok tt)) was_read.1 v.lets_go
+    pub let_go : HasLetGo n.coming.ranked.said.saved class x (record s1 { rows = v.rows }) mid (Ok tt)
+    let_go = subst (λ q. HasLetGoThen n.coming.ranked.said class x (record s1 { rows = v.rows }) mid q (Ok tt)) was_read.1 v.lets_go
 
     world_same : s1.world ≡ s.world
     world_same = ap (λ (t : State). t.world) enters.is
@@ -211,18 +211,18 @@ module _ (w : Compiled) (c : Core) (here : Here) (s : State) (cell : ℕ) (x : �
     goes_now : GoesAs w c here s cell x class n n.coming.ranked.said.saved mid.world (Ok tt)
     goes_now = goes_as w c here s cell x class n n.coming.ranked.said.saved (record s1 { rows = v.rows }) mid (Ok tt) world_same (begun_saving w c here s cell x class n) (goes_right w c here s cell x class n received.values (given_then s1 frame enters v.rows received)) let_go
 
-    pub begins : (result : Option Here) → result ≡ Some (record { place = run.place; frame = frame }) → here.frame ≤ frame → OneTick s.ticks w n.ready.placed.line (act w.code n.ready.placed.line n.ready.placed.instruction c) n.before mid result
+    pub begins : (result : Option Here) → result ≡ Some (record { place = run.place; frame = frame }) → here.frame ≤ frame → HasOneTick s.ticks w n.ready.placed.line (act w.code n.ready.placed.line n.ready.placed.instruction c) n.before mid result
     begins result way above =
-        subst (λ o. OneTick s.ticks w n.ready.placed.line (act w.code n.ready.placed.line n.ready.placed.instruction c) n.before mid o) (sym way)
+        subst (λ o. HasOneTick s.ticks w n.ready.placed.line (act w.code n.ready.placed.line n.ready.placed.instruction c) n.before mid o) (sym way)
         (by n.coming.ranked.said.saved refl let_go (begun_saved w c here s cell x class n) (begun_saving w c here s cell x class n))
       where
-        by : (o : Option ℕ) → n.coming.ranked.said.saved ≡ o → LetsGo o class x (record s1 { rows = v.rows }) mid (Ok tt) → IfSome o (λ k. k < here.frame) → IsSaving w c here s cell x class n o → OneTick s.ticks w n.ready.placed.line (act w.code n.ready.placed.line n.ready.placed.instruction c) n.before mid (Some (record { place = run.place; frame = frame }))
-        by None q d low saving = subst (λ (t : State). OneTick s.ticks w n.ready.placed.line (act w.code n.ready.placed.line n.ready.placed.instruction c) n.before t (Some (record { place = run.place; frame = frame }))) (sym d.1) (begins_gone s1 frame enters v.rows received mid.world q goes_now)
-        by (Some k) q d low saving = subst (λ (t : State). OneTick s.ticks w n.ready.placed.line (act w.code n.ready.placed.line n.ready.placed.instruction c) n.before t (Some (record { place = run.place; frame = frame }))) (sym d.1) (begins_saved s1 frame enters v.rows received k mid.world q (slice_get_within c.store.globals k saving.0 saving.1) (omega (arith, low, above)) goes_now)
+        by : (o : Option ℕ) → n.coming.ranked.said.saved ≡ o → HasLetGo o class x (record s1 { rows = v.rows }) mid (Ok tt) → IfSome o (λ k. k < here.frame) → IsSaving w c here s cell x class n o → HasOneTick s.ticks w n.ready.placed.line (act w.code n.ready.placed.line n.ready.placed.instruction c) n.before mid (Some (record { place = run.place; frame = frame }))
+        by None q d low saving = subst (λ (t : State). HasOneTick s.ticks w n.ready.placed.line (act w.code n.ready.placed.line n.ready.placed.instruction c) n.before t (Some (record { place = run.place; frame = frame }))) (sym d.1) (begins_gone s1 frame enters v.rows received mid.world q goes_now)
+        by (Some k) q d low saving = subst (λ (t : State). HasOneTick s.ticks w n.ready.placed.line (act w.code n.ready.placed.line n.ready.placed.instruction c) n.before t (Some (record { place = run.place; frame = frame }))) (sym d.1) (begins_saved s1 frame enters v.rows received k mid.world q (slice_get_within c.store.globals k saving.0 saving.1) (omega (arith, low, above)) goes_now)
 
   -- or there was a fault: it is due as the notice is let go, since its attributes can be read
-  module _ (s1 : State) (frame : ℕ) (enters : Enters here s s1 run cell frame) (mid : State) (kind : FaultKind) (v : Receives n.coming.ranked.said class x run.given.items frame s1 mid (Err kind)) where
-    pub begins_fault : (new : State) (result : Option Here) → new ≡ faulted kind (record mid { fault_line = Some n.coming.ranked.said.line }) → result ≡ None → OneTick s.ticks w n.ready.placed.line (act w.code n.ready.placed.line n.ready.placed.instruction c) n.before new result
+  module _ (s1 : State) (frame : ℕ) (enters : HasEntered here s s1 run cell frame) (mid : State) (kind : FaultKind) (v : HasReceived n.coming.ranked.said class x run.given.items frame s1 mid (Err kind)) where
+    pub begins_fault : (new : State) (result : Option Here) → new ≡ faulted kind (record mid { fault_line = Some n.coming.ranked.said.line }) → result ≡ None → HasOneTick s.ticks w n.ready.placed.line (act w.code n.ready.placed.line n.ready.placed.instruction c) n.before new result
     begins_fault new result same none = by v.read (v.read_is (even_then s1 frame enters)) v.lets_go
       where
         world_is : s1.world ≡ s.world
@@ -234,7 +234,7 @@ module _ (w : Compiled) (c : Core) (here : Here) (s : State) (cell : ℕ) (x : �
         steps_then : s1.steps ≡ n.before.steps
         steps_then = ap (λ (t : State). t.steps) enters.is ∙ ap (λ (t : State). t.steps) n.is
 
-        by : (q : OkOr (Unit {0}) FaultKind) → ReceivedIf s1.world.heap class x run.given.items frame s1.rows v.rows q → ThenLetsGo n.coming.ranked.said class x (record s1 { rows = v.rows }) mid q (Err kind) → OneTick s.ticks w n.ready.placed.line (act w.code n.ready.placed.line n.ready.placed.instruction c) n.before new result
+        by : (q : OkOr (Unit {0}) FaultKind) → AreReceivedIf s1.world.heap class x run.given.items frame s1.rows v.rows q → HasLetGoThen n.coming.ranked.said class x (record s1 { rows = v.rows }) mid q (Err kind) → HasOneTick s.ticks w n.ready.placed.line (act w.code n.ready.placed.line n.ready.placed.instruction c) n.before new result
         by (Ok u) h d =
             let goes = goes_as w c here s cell x class n n.coming.ranked.said.saved (record s1 { rows = v.rows }) mid (Err kind) world_is (begun_saving w c here s cell x class n) (goes_right w c here s cell x class n some_given.0 some_given.1) d in
             fails_as kind mid new result (begins_not w c here s cell x class n some_given.0 some_given.1 mid.world kind goes) (lets_go_ticks n.coming.ranked.said.saved class x (record s1 { rows = v.rows }) mid (Err kind) d ∙ ticks_then) (lets_go_steps n.coming.ranked.said.saved class x (record s1 { rows = v.rows }) mid (Err kind) d ∙ steps_then) same none

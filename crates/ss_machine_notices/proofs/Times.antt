@@ -13,7 +13,7 @@ use Rattle.ss_program.specs.WellTyped.{kind_of_class}
 use Rattle.ss_meaning.specs.Values.{Failure, Fails, if_ok, turned, due, number_of}
 use Rattle.ss_meaning.specs.Store.{Store}
 use Rattle.ss_meaning.specs.Events.{Moment, AtTime, Later, not_past, time_at, filed_notice, unscheduled}
-use Rattle.ss_meaning.specs.Fitting.{Fits}
+use Rattle.ss_meaning.specs.Fitting.{IsFittingStore}
 use Rattle.ss_meaning.proofs.Fine.{Any}
 use Rattle.ss_meaning.proofs.Events.{time_at_fine, filed_notice_fine, unscheduled_fine}
 use Rattle.ss_code_instructions.specs.declared.address.Address.{Address}
@@ -22,32 +22,32 @@ use Rattle.ss_code_instructions.specs.Instructions as i
 use Rattle.ss_code_instructions.specs.Instructions.{Instruction, Operand, Target}
 use Rattle.ss_code_instructions.specs.States.{Core, did, onward, with_operand_value, deliver}
 use Rattle.ss_code_instructions.specs.Machine.{act, is_due}
-use Rattle.ss_code_instructions.specs.Shape.{Suits, GivesMode, Accepts, typed_scope}
-use Rattle.ss_code_instructions.specs.Carried.{From, To, Is, OperandAt, TargetAt}
+use Rattle.ss_code_instructions.specs.Shape.{IsSuited, IsGivingMode, IsAccepting, typed_scope}
+use Rattle.ss_code_instructions.specs.Carried.{HasOperand, HasTarget, Is, IsOperandAt, IsTargetAt}
 use Rattle.ss_machine_frames.specs.Rows.{place_at}
 use Rattle.ss_machine_frames.proofs.Reading.{only_number, reads, read_within, reads_both, BothWithin, both_within}
 use Rattle.ss_machine_events.specs.Scheduled.{time_after, IsNoticeClass}
-use Rattle.ss_machine_world.specs.Seen.{Seen, IsRight, Looks, Changes, ChangesWithMemory, with_seen, as_value}
+use Rattle.ss_machine_world.specs.Seen.{Seen, IsRight, HasAnswer, HasChanged, HasChangedWithMemory, with_seen, as_value}
 use Rattle.ss_machine_instructions.specs.declared.flow.Ending.TheVariants.{NoMemory}
 use Rattle.ss_machine_instructions.specs.declared.flow.Here.{Here}
 use Rattle.ss_machine_instructions.specs.declared.state.State.{State}
-use Rattle.ss_machine_instructions.specs.Doing.{Compiled, Ready, NoTick, Performs, Delivers}
+use Rattle.ss_machine_instructions.specs.Doing.{Compiled, IsReadyFor, HasNoTick, HasPerformed, IsDelivering}
 use Rattle.ss_machine_instructions.specs.Ways.{stopped, faulted_by, on_after, done_unless_fault}
-use Rattle.ss_machine_instructions.specs.Worldly.{Settles, unless_refused, refused_where}
-use Rattle.ss_machine_notices.specs.Giving.{SettledInWithMemory}
+use Rattle.ss_machine_instructions.specs.Worldly.{IsSettling, unless_refused, refused_where}
+use Rattle.ss_machine_notices.specs.Giving.{IsSettledWithMemory}
 use Rattle.ss_machine_instructions.proofs.Placing.{site, located, suits, deep_at, deep_here, calm}
 use Rattle.ss_machine_instructions.proofs.Delivering.{delivers, deliver_is, number_right}
 use Rattle.ss_machine_instructions.proofs.Programs.{noticed_in}
 use Rattle.ss_machine_instructions.proofs.Settling.{fine_right, store_is, layout_seen, notices_seen, changes_settle, settles, went_on, fails_on}
 
-module _ (w : Compiled) (c : Core) (here : Here) (s : State) (run : Running) (r : Ready w c here s run) where
+module _ (w : Compiled) (c : Core) (here : Here) (s : State) (run : Running) (r : IsReadyFor w c here s run) where
   abbrev SuitsHere : Instruction → Type 0
-  SuitsHere x = Suits w.program w.code c.place r.placed.locals r.placed.cells x
+  SuitsHere x = IsSuited w.program w.code c.place r.placed.locals r.placed.cells x
 
   -- ## Times
 
   -- the time of a moment whose number was read
-  when_delivers : (moment : Value → Moment) (y : Operand) (target : Target) (time to : Address) (rest after : List Mode) (n : ℤ) (answer : OkOr ℤ FaultKind) → act w.code r.placed.line r.placed.instruction c ≡ with_operand_value y c.store c.cells (λ v below. deliver r.placed.line target (turned Whole (time_at (moment v) c.store)) below c) → GivesMode (typed_scope w.program w.code r.placed.locals) y Integer r.placed.cells rest → OperandAt w.code w.run.constants r.placed y time → Accepts (typed_scope w.program w.code r.placed.locals) target Integer rest after → TargetAt w.code w.run.constants r.placed target to → length after ≤ w.run.depth → slice_get s.rows.numbers (place_at here.frame time) ≡ Some n → time_at (moment (Whole n)) c.store ≡ due answer → Delivers w c r.placed.line (act w.code r.placed.line r.placed.instruction c) here s to (as_value answer)
+  when_delivers : (moment : Value → Moment) (y : Operand) (target : Target) (time to : Address) (rest after : List Mode) (n : ℤ) (answer : OkOr ℤ FaultKind) → act w.code r.placed.line r.placed.instruction c ≡ with_operand_value y c.store c.cells (λ v below. deliver r.placed.line target (turned Whole (time_at (moment v) c.store)) below c) → IsGivingMode (typed_scope w.program w.code r.placed.locals) y Integer r.placed.cells rest → IsOperandAt w.code w.run.constants r.placed y time → IsAccepting (typed_scope w.program w.code r.placed.locals) target Integer rest after → IsTargetAt w.code w.run.constants r.placed target to → length after ≤ w.run.depth → slice_get s.rows.numbers (place_at here.frame time) ≡ Some n → time_at (moment (Whole n)) c.store ≡ due answer → IsDelivering w c r.placed.line (act w.code r.placed.line r.placed.instruction c) here s to (as_value answer)
   when_delivers moment y target time to rest after n answer acts gives at_y accepts at_to deep at_time e =
       let l = r.placed.line in
       let one = reads (site w c here s run r) (located w c here s run r) y Integer r.placed.cells rest time c.cells (Whole n) gives at_y r.holds.held.cells r.fits.cells (only_number s.rows (place_at here.frame time) n at_time) in
@@ -58,12 +58,12 @@ module _ (w : Compiled) (c : Core) (here : Here) (s : State) (run : Running) (r 
       ∙ deliver_is l target answer one.below c)
       accepts at_to deep (number_right answer) one.modes one.cells
 
-  pub at_in : (time to : Address) → From w.code w.run.constants r.placed time (λ y. To w.code w.run.constants r.placed to (λ t. Is w.code w.run.constants r.placed (i.At y t))) → place_at here.frame time < length s.rows.numbers
+  pub at_in : (time to : Address) → HasOperand w.code w.run.constants r.placed time (λ y. HasTarget w.code w.run.constants r.placed to (λ t. Is w.code w.run.constants r.placed (i.At y t))) → place_at here.frame time < length s.rows.numbers
   at_in time to z =
       let y = subst SuitsHere z.2.2 (suits w c here s run r) in
       read_within (site w c here s run r) (located w c here s run r) z.0 Integer r.placed.cells y.0 time y.1 z.1 (deep_here w c here s run r)
 
-  pub ats : (time to : Address) (n : ℤ) (answer : OkOr ℤ FaultKind) → From w.code w.run.constants r.placed time (λ y. To w.code w.run.constants r.placed to (λ t. Is w.code w.run.constants r.placed (i.At y t))) → slice_get s.rows.numbers (place_at here.frame time) ≡ Some n → Looks (not_past n) s.world answer → Delivers w c r.placed.line (act w.code r.placed.line r.placed.instruction c) here s to (as_value answer)
+  pub ats : (time to : Address) (n : ℤ) (answer : OkOr ℤ FaultKind) → HasOperand w.code w.run.constants r.placed time (λ y. HasTarget w.code w.run.constants r.placed to (λ t. Is w.code w.run.constants r.placed (i.At y t))) → slice_get s.rows.numbers (place_at here.frame time) ≡ Some n → HasAnswer (not_past n) s.world answer → IsDelivering w c r.placed.line (act w.code r.placed.line r.placed.instruction c) here s to (as_value answer)
   ats time to n answer z at looks =
       let is = z.2.2 in
       let y = subst SuitsHere is (suits w c here s run r) in
@@ -72,12 +72,12 @@ module _ (w : Compiled) (c : Core) (here : Here) (s : State) (run : Running) (r 
       let e : f c.store ≡ due answer = ap f (store_is w c here s run r) ∙ looks c.store (λ wrong. right (ap f (store_is w c here s run r) ∙ wrong)) in
       when_delivers AtTime z.0 z.2.0 time to y.0 y.2.0 n answer (ap (λ x. act w.code r.placed.line x c) is) y.1 z.1 y.2.1 z.2.1 (deep_at w c here s run r (c.place + 1) r.placed.locals y.2.0 y.2.2) at e
 
-  pub in_in : (units to : Address) → From w.code w.run.constants r.placed units (λ y. To w.code w.run.constants r.placed to (λ t. Is w.code w.run.constants r.placed (i.In y t))) → place_at here.frame units < length s.rows.numbers
+  pub in_in : (units to : Address) → HasOperand w.code w.run.constants r.placed units (λ y. HasTarget w.code w.run.constants r.placed to (λ t. Is w.code w.run.constants r.placed (i.In y t))) → place_at here.frame units < length s.rows.numbers
   in_in units to z =
       let y = subst SuitsHere z.2.2 (suits w c here s run r) in
       read_within (site w c here s run r) (located w c here s run r) z.0 Integer r.placed.cells y.0 units y.1 z.1 (deep_here w c here s run r)
 
-  pub ins : (units to : Address) (n : ℤ) (answer : OkOr ℤ FaultKind) → From w.code w.run.constants r.placed units (λ y. To w.code w.run.constants r.placed to (λ t. Is w.code w.run.constants r.placed (i.In y t))) → slice_get s.rows.numbers (place_at here.frame units) ≡ Some n → Looks (time_after n) s.world answer → Delivers w c r.placed.line (act w.code r.placed.line r.placed.instruction c) here s to (as_value answer)
+  pub ins : (units to : Address) (n : ℤ) (answer : OkOr ℤ FaultKind) → HasOperand w.code w.run.constants r.placed units (λ y. HasTarget w.code w.run.constants r.placed to (λ t. Is w.code w.run.constants r.placed (i.In y t))) → slice_get s.rows.numbers (place_at here.frame units) ≡ Some n → HasAnswer (time_after n) s.world answer → IsDelivering w c r.placed.line (act w.code r.placed.line r.placed.instruction c) here s to (as_value answer)
   ins units to n answer z at looks =
       let is = z.2.2 in
       let y = subst SuitsHere is (suits w c here s run r) in
@@ -97,7 +97,7 @@ module _ (w : Compiled) (c : Core) (here : Here) (s : State) (run : Running) (r 
   -- ## Where memory may be refused
 
   -- by the answer
-  pub refuses : (f : Store → OkOr Store Failure) (e : Seen) (answer : OkOr (Unit {0}) Refused) (new : State) (result : Option Here) → is_due r.placed.instruction ≡ false → Settles c r.placed.line (act w.code r.placed.line r.placed.instruction c) here s f → SettledInWithMemory c.store f s.world e answer → new ≡ refused_where answer (record s { world = e }) → result ≡ on_after here (unless_refused answer) → Performs (is_due r.placed.instruction) w r.placed.line (act w.code r.placed.line r.placed.instruction c) s new result
+  pub refuses : (f : Store → OkOr Store Failure) (e : Seen) (answer : OkOr (Unit {0}) Refused) (new : State) (result : Option Here) → is_due r.placed.instruction ≡ false → IsSettling c r.placed.line (act w.code r.placed.line r.placed.instruction c) here s f → IsSettledWithMemory c.store f s.world e answer → new ≡ refused_where answer (record s { world = e }) → result ≡ on_after here (unless_refused answer) → HasPerformed (is_due r.placed.instruction) w r.placed.line (act w.code r.placed.line r.placed.instruction c) s new result
   refuses f e (Ok u) new result calmly z d same way = went_on w c here s run r f e new result calmly z d same way
   refuses f e (Err (Fault kind)) new result calmly z d same way =
       fails_on w c here s run r kind e new result calmly
@@ -106,12 +106,12 @@ module _ (w : Compiled) (c : Core) (here : Here) (s : State) (run : Running) (r 
       let m = act w.code r.placed.line r.placed.instruction c in
       let l = r.placed.line in
       let s' : State = stopped NoMemory (record s { world = e }) in
-      let plain : NoTick w l m s s' None = record { leads = tt; ticks = refl; steps = refl } in
+      let plain : HasNoTick w l m s s' None = record { leads = tt; ticks = refl; steps = refl } in
       calm w c here s run r new result calmly
-      (subst (λ o. NoTick w l m s new o) (sym way) (subst (λ n. NoTick w l m s n None) (sym same) plain))
+      (subst (λ o. HasNoTick w l m s new o) (sym way) (subst (λ n. HasNoTick w l m s n None) (sym same) plain))
 
   -- what holds of each store holds of this one
-  pub in_store : (f : Store → OkOr Store Failure) (e : Seen) (answer : OkOr (Unit {0}) Refused) → ChangesWithMemory f s.world e answer → SettledInWithMemory c.store f s.world e answer
+  pub in_store : (f : Store → OkOr Store Failure) (e : Seen) (answer : OkOr (Unit {0}) Refused) → HasChangedWithMemory f s.world e answer → IsSettledWithMemory c.store f s.world e answer
   in_store f e (Ok u) d = d c.store
   in_store f e (Err (Fault kind)) d = d.0 c.store
   in_store f e (Err Memory) d = λ kind fails. absurd (wrong (f (with_seen c.store s.world)) kind fails (d.0 c.store))
@@ -123,7 +123,7 @@ module _ (w : Compiled) (c : Core) (here : Here) (s : State) (run : Running) (r 
   -- ## FileNotice
 
   abbrev pub FilesNotice : (class : ℕ) → (notice time : Address) → Type 0
-  FilesNotice class notice time = From w.code w.run.constants r.placed notice (λ y. From w.code w.run.constants r.placed time (λ z. Is w.code w.run.constants r.placed (i.FileNotice class y z)))
+  FilesNotice class notice time = HasOperand w.code w.run.constants r.placed notice (λ y. HasOperand w.code w.run.constants r.placed time (λ z. Is w.code w.run.constants r.placed (i.FileNotice class y z)))
 
   pub file_notice_in : (class : ℕ) (notice time : Address) → FilesNotice class notice time → BothWithin (site w c here s run r) (located w c here s run r) notice time × IsNoticeClass s.world class
   file_notice_in class notice time z =
@@ -132,43 +132,43 @@ module _ (w : Compiled) (c : Core) (here : Here) (s : State) (run : Running) (r 
         noticed class y.0,
       )
 
-  pub file_notices : (class : ℕ) (notice time : Address) (n t : ℤ) (e : Seen) (answer : OkOr (Unit {0}) Refused) (new : State) (result : Option Here) → FilesNotice class notice time → slice_get s.rows.numbers (place_at here.frame notice) ≡ Some n → slice_get s.rows.numbers (place_at here.frame time) ≡ Some t → ChangesWithMemory (filed_notice class (Whole n) t) s.world e answer → new ≡ refused_where answer (record s { world = e }) → result ≡ on_after here (unless_refused answer) → Performs (is_due r.placed.instruction) w r.placed.line (act w.code r.placed.line r.placed.instruction c) s new result
+  pub file_notices : (class : ℕ) (notice time : Address) (n t : ℤ) (e : Seen) (answer : OkOr (Unit {0}) Refused) (new : State) (result : Option Here) → FilesNotice class notice time → slice_get s.rows.numbers (place_at here.frame notice) ≡ Some n → slice_get s.rows.numbers (place_at here.frame time) ≡ Some t → HasChangedWithMemory (filed_notice class (Whole n) t) s.world e answer → new ≡ refused_where answer (record s { world = e }) → result ≡ on_after here (unless_refused answer) → HasPerformed (is_due r.placed.instruction) w r.placed.line (act w.code r.placed.line r.placed.instruction c) s new result
   file_notices class notice time n t e answer new result z at_notice at_time d same way =
       let l = r.placed.line in
       let is = z.2.2 in
       let y = subst SuitsHere is (suits w c here s run r) in
       let both = reads_both (site w c here s run r) (located w c here s run r) z.0 z.2.0 Integer Integer r.placed.cells y.1.0 notice time c.cells (Whole n) (Whole t) y.1.1 z.1 z.2.1 r.holds.held.cells r.fits.cells (only_number s.rows (place_at here.frame notice) n at_notice) (only_number s.rows (place_at here.frame time) t at_time) in
       let op : Store → OkOr Store Failure = filed_notice class (Whole n) t in
-      let left : Settles c l (act w.code l r.placed.instruction c) here s op = record {
+      let left : IsSettling c l (act w.code l r.placed.instruction c) here s op = record {
         below = both.below;
         acts =
             ap (λ x. act w.code l x c) is
             ∙ both.is (λ x t below. did l (if_ok (number_of t) (λ t. filed_notice class x t c.store)) (λ s. onward below c s));
-        right = fine_right (Fits w.program r.placed.locals) (op c.store) (filed_notice_fine w.program r.compiled.typed r.placed.locals class (Whole n) t c.store y.0 refl r.fits.store);
+        right = fine_right (IsFittingStore w.program r.placed.locals) (op c.store) (filed_notice_fine w.program r.compiled.typed r.placed.locals class (Whole n) t c.store y.0 refl r.fits.store);
         at = both.cells;
       } in
       refuses op e answer new result (ap is_due is) left (in_store op e answer d) same way
 
   -- ## Cancel
 
-  pub cancels_in : (class : ℕ) (notice : Address) → From w.code w.run.constants r.placed notice (λ y. Is w.code w.run.constants r.placed (i.Cancel class y)) → (place_at here.frame notice < length s.rows.numbers) × (class < length s.world.heap.layout.classes)
+  pub cancels_in : (class : ℕ) (notice : Address) → HasOperand w.code w.run.constants r.placed notice (λ y. Is w.code w.run.constants r.placed (i.Cancel class y)) → (place_at here.frame notice < length s.rows.numbers) × (class < length s.world.heap.layout.classes)
   cancels_in class notice z =
       let y = subst SuitsHere z.2 (suits w c here s run r) in (
         read_within (site w c here s run r) (located w c here s run r) z.0 Integer r.placed.cells y.1.0 notice y.1.1 z.1 (deep_here w c here s run r),
         class_within class y.0,
       )
 
-  pub cancels : (class : ℕ) (notice : Address) (n : ℤ) (e : Seen) (answer : OkOr (Unit {0}) FaultKind) (new : State) (result : Option Here) → From w.code w.run.constants r.placed notice (λ y. Is w.code w.run.constants r.placed (i.Cancel class y)) → slice_get s.rows.numbers (place_at here.frame notice) ≡ Some n → Changes (unscheduled class (Whole n)) s.world e answer → new ≡ faulted_by answer (record s { world = e }) → result ≡ on_after here (done_unless_fault answer) → Performs (is_due r.placed.instruction) w r.placed.line (act w.code r.placed.line r.placed.instruction c) s new result
+  pub cancels : (class : ℕ) (notice : Address) (n : ℤ) (e : Seen) (answer : OkOr (Unit {0}) FaultKind) (new : State) (result : Option Here) → HasOperand w.code w.run.constants r.placed notice (λ y. Is w.code w.run.constants r.placed (i.Cancel class y)) → slice_get s.rows.numbers (place_at here.frame notice) ≡ Some n → HasChanged (unscheduled class (Whole n)) s.world e answer → new ≡ faulted_by answer (record s { world = e }) → result ≡ on_after here (done_unless_fault answer) → HasPerformed (is_due r.placed.instruction) w r.placed.line (act w.code r.placed.line r.placed.instruction c) s new result
   cancels class notice n e answer new result z at d same way =
       let l = r.placed.line in
       let is = z.2 in
       let y = subst SuitsHere is (suits w c here s run r) in
       let one = reads (site w c here s run r) (located w c here s run r) z.0 Integer r.placed.cells y.1.0 notice c.cells (Whole n) y.1.1 z.1 r.holds.held.cells r.fits.cells (only_number s.rows (place_at here.frame notice) n at) in
       let op : Store → OkOr Store Failure = unscheduled class (Whole n) in
-      let left : Settles c l (act w.code l r.placed.instruction c) here s op = record {
+      let left : IsSettling c l (act w.code l r.placed.instruction c) here s op = record {
         below = one.below;
         acts = ap (λ x. act w.code l x c) is ∙ one.is (λ x below. did l (unscheduled class x c.store) (λ s. onward below c s));
-        right = fine_right (Fits w.program r.placed.locals) (op c.store) (unscheduled_fine w.program r.compiled.typed r.placed.locals class (Whole n) c.store y.0 refl r.fits.store);
+        right = fine_right (IsFittingStore w.program r.placed.locals) (op c.store) (unscheduled_fine w.program r.compiled.typed r.placed.locals class (Whole n) c.store y.0 refl r.fits.store);
         at = one.cells;
       } in
       settles w c here s run r op e answer new result (ap is_due is) left (changes_settle op s.world e answer d) same way

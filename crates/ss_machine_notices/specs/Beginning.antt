@@ -15,13 +15,13 @@ use Rattle.ss_meaning.specs.Histories.{noted}
 use Rattle.ss_meaning.specs.Store.{Notices}
 use Rattle.ss_code_instructions.specs.declared.instruction.Instruction.TheVariants.{TakeEvent}
 use Rattle.ss_code_instructions.specs.States.{Core}
-use Rattle.ss_machine_frames.specs.Rows.{TwoRows, with_number, with_value, Agree}
-use Rattle.ss_machine_frames.specs.Holding.{AllAt}
-use Rattle.ss_machine_world.specs.Seen.{Changes, with_seen}
+use Rattle.ss_machine_frames.specs.Rows.{TwoRows, with_number, with_value, AreAlike}
+use Rattle.ss_machine_frames.specs.Holding.{AreValuesAt}
+use Rattle.ss_machine_world.specs.Seen.{HasChanged, with_seen}
 use Rattle.ss_machine_instructions.specs.declared.flow.Ending.TheVariants.{NoMemory}
 use Rattle.ss_machine_instructions.specs.declared.flow.Here.{Here}
 use Rattle.ss_machine_instructions.specs.declared.state.State.{State as Machine}
-use Rattle.ss_machine_instructions.specs.Doing.{Compiled, Ready}
+use Rattle.ss_machine_instructions.specs.Doing.{Compiled, IsReadyFor}
 use Rattle.ss_machine_instructions.specs.Ways.{faulted}
 
 -- ## The attributes
@@ -37,57 +37,57 @@ AreRead h class field n [] = Unit {0}
 AreRead h class field n (v ∷ vs) = (value_in h class field n ≡ Ok v) × AreRead h class (field + 1) n vs
 
 -- they have gone to places from one on, and nothing else has changed
-pub record Received (h : State) (class : ℕ) (notice : ℤ) (modes : List Mode) (from : ℕ) (old new : TwoRows) : Type 0 where
+pub record AreReceived (h : State) (class : ℕ) (notice : ℤ) (modes : List Mode) (from : ℕ) (old new : TwoRows) : Type 0 where
   pub values : List Value
   pub read : AreRead h class 0 notice values
   pub hold : map mode_of values ≡ modes
-  pub lie : AllAt new from values
-  pub below : Agree old new 0 from
-  pub above : (to : ℕ) → Agree old new (from + length modes) to
+  pub lie : AreValuesAt new from values
+  pub below : AreAlike old new 0 from
+  pub above : (to : ℕ) → AreAlike old new (from + length modes) to
   pub long : length new.numbers ≡ length old.numbers
   pub even : length new.texts ≡ length old.texts
 
-abbrev pub ReceivedIf : State → (class : ℕ) → (notice : ℤ) → List Mode → (from : ℕ) → (old new : TwoRows) → Result (Unit {0}) FaultKind → Type 0
-ReceivedIf h class n ms i old new (Ok u) = Received h class n ms i old new
-ReceivedIf h class n ms i old new (Err kind) = (field : ℕ) × (field < length ms) × (value_in h class field n ≡ Err kind)
+abbrev pub AreReceivedIf : State → (class : ℕ) → (notice : ℤ) → List Mode → (from : ℕ) → (old new : TwoRows) → Result (Unit {0}) FaultKind → Type 0
+AreReceivedIf h class n ms i old new (Ok u) = AreReceived h class n ms i old new
+AreReceivedIf h class n ms i old new (Err kind) = (field : ℕ) × (field < length ms) × (value_in h class field n ≡ Err kind)
 
 -- ## The notice
 
 -- it is saved in a variable, which is noted, or it goes
-abbrev pub LetsGo : (saved : Option ℕ) → (class : ℕ) → (notice : ℤ) → (old new : Machine) → Result (Unit {0}) FaultKind → Type 0
-LetsGo (Some k) class n old new r =
-    Changes (noted (OfVariable k) (pos 0) (Whole n)) old.world new.world r × (new ≡ record old { rows = with_number old.rows k n; world = new.world })
-LetsGo None class n old new r = Changes (gone class (Whole n)) old.world new.world r × (new ≡ record old { world = new.world })
+abbrev pub HasLetGo : (saved : Option ℕ) → (class : ℕ) → (notice : ℤ) → (old new : Machine) → Result (Unit {0}) FaultKind → Type 0
+HasLetGo (Some k) class n old new r =
+    HasChanged (noted (OfVariable k) (pos 0) (Whole n)) old.world new.world r × (new ≡ record old { rows = with_number old.rows k n; world = new.world })
+HasLetGo None class n old new r = HasChanged (gone class (Whole n)) old.world new.world r × (new ≡ record old { world = new.world })
 
 -- that is done once the attributes are read
-abbrev pub ThenLetsGo : (said : Notices) → (class : ℕ) → (notice : ℤ) → (mid new : Machine) → (read answer : Result (Unit {0}) FaultKind) → Type 0
-ThenLetsGo said class n mid new (Ok u) r = LetsGo said.saved class n mid new r
-ThenLetsGo said class n mid new (Err kind) r = (r ≡ Err kind) × (new ≡ mid)
+abbrev pub HasLetGoThen : (said : Notices) → (class : ℕ) → (notice : ℤ) → (mid new : Machine) → (read answer : Result (Unit {0}) FaultKind) → Type 0
+HasLetGoThen said class n mid new (Ok u) r = HasLetGo said.saved class n mid new r
+HasLetGoThen said class n mid new (Err kind) r = (r ≡ Err kind) × (new ≡ mid)
 
-pub record Receives (said : Notices) (class : ℕ) (notice : ℤ) (modes : List Mode) (from : ℕ) (old new : Machine) (answer : Result (Unit {0}) FaultKind) : Type 0 where
+pub record HasReceived (said : Notices) (class : ℕ) (notice : ℤ) (modes : List Mode) (from : ℕ) (old new : Machine) (answer : Result (Unit {0}) FaultKind) : Type 0 where
   pub rows : TwoRows
   pub read : Result (Unit {0}) FaultKind
-  pub read_is : length old.rows.texts ≡ length old.rows.numbers → ReceivedIf old.world.heap class notice modes from old.rows rows read
-  pub lets_go : ThenLetsGo said class notice (record old { rows = rows }) new read answer
+  pub read_is : length old.rows.texts ≡ length old.rows.numbers → AreReceivedIf old.world.heap class notice modes from old.rows rows read
+  pub lets_go : HasLetGoThen said class notice (record old { rows = rows }) new read answer
 
 -- There is no memory for the frame of its event: there is a fault where one is due as it lets its notice go, with the line of its routine. Only where none is,
 -- it is out of memory, and no tick is taken.
-abbrev pub Unbegun : Line → (mid new : Machine) → Result (Unit {0}) FaultKind → Type 0
-Unbegun l mid new (Ok u) = new ≡ record mid { ticks = mid.ticks + 1; ending = NoMemory }
-Unbegun l mid new (Err kind) = new ≡ faulted kind (record mid { fault_line = Some l })
+abbrev pub IsUnbegunAfter : Line → (mid new : Machine) → Result (Unit {0}) FaultKind → Type 0
+IsUnbegunAfter l mid new (Ok u) = new ≡ record mid { ticks = mid.ticks + 1; ending = NoMemory }
+IsUnbegunAfter l mid new (Err kind) = new ≡ faulted kind (record mid { fault_line = Some l })
 
 pub record IsUnbegun (said : Notices) (class : ℕ) (notice : ℤ) (old new : Machine) : Type 0 where
   pub mid : Machine
   pub answer : Result (Unit {0}) FaultKind
-  pub lets_go : LetsGo said.saved class notice old mid answer
-  pub is : Unbegun said.line mid new answer
+  pub lets_go : HasLetGo said.saved class notice old mid answer
+  pub is : IsUnbegunAfter said.line mid new answer
 
 -- ## The event
 
 -- A tick was taken, and this notice of this class was taken out, which comes next in the definition. The machine has changed in nothing else.
-pub record ComesNext (w : Compiled) (c : Core) (here : Here) (s : Machine) (cell : ℕ) (notice : ℤ) (class : ℕ) : Type 0 where
+pub record IsNextEvent (w : Compiled) (c : Core) (here : Here) (s : Machine) (cell : ℕ) (notice : ℤ) (class : ℕ) : Type 0 where
   pub before : Machine
-  pub ready : Ready w c here before (TakeEvent cell)
+  pub ready : IsReadyFor w c here before (TakeEvent cell)
   pub left : before.ticks ≡ suc s.ticks
   pub few : before.ticks < 2 ^ 64
   pub is : s ≡ record before { ticks = s.ticks; world = s.world }

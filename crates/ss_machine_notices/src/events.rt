@@ -10,9 +10,9 @@ ghost use Rattle.ss_meaning.specs.Fitting.{living};
 ghost use Rattle.ss_meaning.specs.Store.{Notices};
 ghost use Rattle.ss_code_instructions.specs.States.{Core};
 ghost use Rattle.ss_code_instructions.specs.Machine.{act};
-ghost use Rattle.ss_machine_instructions.specs.Doing.{Compiled, OneTick, CanWhere, DoesWhere};
+ghost use Rattle.ss_machine_instructions.specs.Doing.{Compiled, HasOneTick, CanWhere, HasDoneWhere};
 ghost use Rattle.ss_machine_instructions.specs.Ways.{faulted, begun_event_at, led};
-ghost use Rattle.ss_machine_notices.specs.Beginning.{IsReadTo, ReceivedIf, LetsGo, IsUnbegun, Receives, ComesNext};
+ghost use Rattle.ss_machine_notices.specs.Beginning.{IsReadTo, AreReceivedIf, HasLetGo, IsUnbegun, HasReceived, IsNextEvent};
 
 use crate::scheduling::Giving;
 use ss_base::{Alpha, FaultKind, Line, Mode};
@@ -147,7 +147,7 @@ fn read_given(world: &World, rows: &mut Rows, what: Giving, modes: &[Mode]) -> R
     requires modes { (i : ℕ) (m : ModeSeen) → slice_get modes.now i ≡ Some m → slice_get (modes_of world.now.heap.layout what.class) i ≡ Some m }
     requires places { what.from + length modes.now ≤ length rows.old.numbers }
     requires small { what.from + length modes.now ≤ 2 ^ 64 }
-    ensures received { length rows.old.texts ≡ length rows.old.numbers → ReceivedIf world.now.heap what.class what.notice modes.now what.from rows.old rows.new result }
+    ensures received { length rows.old.texts ≡ length rows.old.numbers → AreReceivedIf world.now.heap what.class what.notice modes.now what.from rows.old rows.new result }
     ensures long { length rows.new.numbers ≡ length rows.old.numbers }
 {
     for field in 0..modes.len() {
@@ -177,7 +177,7 @@ fn let_go(state: &mut State, rank: usize, class: usize, notice: i64) -> Result<(
     requires class { class < length state.old.world.heap.layout.classes }
     requires single { is_single (slice_get state.old.world.heap.layout.classes class) ≡ true }
     requires saved { (said : Notices) → slice_get state.old.world.notices rank ≡ Some said → IfSome said.saved (λ k. k < length state.old.rows.numbers) }
-    ensures { (said : Notices) → slice_get state.old.world.notices rank ≡ Some said → LetsGo said.saved class notice state.old state.new result }
+    ensures { (said : Notices) → slice_get state.old.world.notices rank ≡ Some said → HasLetGo said.saved class notice state.old state.new result }
 {
     match saved_of(&state.world, rank) {
         None => state.world.remove_entity(class, notice),
@@ -216,7 +216,7 @@ fn receive(state: &mut State, what: Giving, rank: usize, modes: &[Mode]) -> Resu
     requires modes { (i : ℕ) (m : ModeSeen) → slice_get modes.now i ≡ Some m → slice_get (modes_of state.old.world.heap.layout what.class) i ≡ Some m }
     requires places { what.from + length modes.now ≤ length state.old.rows.numbers }
     requires small { what.from + length modes.now ≤ 2 ^ 64 }
-    ensures { (said : Notices) → slice_get state.old.world.notices rank ≡ Some said → Receives said what.class what.notice modes.now what.from state.old state.new result }
+    ensures { (said : Notices) → slice_get state.old.world.notices rank ≡ Some said → HasReceived said what.class what.notice modes.now what.from state.old state.new result }
 {
     match read_given(&state.world, &mut state.rows, what, modes) {
         Err(kind) => Err(kind),
@@ -234,8 +234,8 @@ fn begin_event(
     events: &[SectionEntry],
     cell: u32,
 ) -> Option<usize>
-    requires { (w : Compiled) × (c : Core) × (events.now ≡ w.run.events) × ComesNext w c here state.old cell notice class }
-    ensures { (w : Compiled) (c : Core) → events.now ≡ w.run.events → (n : ComesNext w c here state.old cell notice class) → OneTick state.old.ticks w n.ready.placed.line (act w.code n.ready.placed.line n.ready.placed.instruction c) n.before state.new (begun_event_at here cell result) }
+    requires { (w : Compiled) × (c : Core) × (events.now ≡ w.run.events) × IsNextEvent w c here state.old cell notice class }
+    ensures { (w : Compiled) (c : Core) → events.now ≡ w.run.events → (n : IsNextEvent w c here state.old cell notice class) → HasOneTick state.old.ticks w n.ready.placed.line (act w.code n.ready.placed.line n.ready.placed.instruction c) n.before state.new (begun_event_at here cell result) }
 {
     let rank = state.world.rank(class);
     let entry = &events[rank];
@@ -258,7 +258,7 @@ fn begin_event(
 #[inline(always)]
 pub fn take_event(state: &mut State, here: Here, events: &[SectionEntry], cell: u32) -> Next
     requires { CanWhere (λ w. events.now ≡ w.run.events) here state.old (Instruction.TakeEvent cell) }
-    ensures { DoesWhere (λ w. events.now ≡ w.run.events) here state.old state.new (led result) (Instruction.TakeEvent cell) }
+    ensures { HasDoneWhere (λ w. events.now ≡ w.run.events) here state.old state.new (led result) (Instruction.TakeEvent cell) }
 {
     let on = here.on();
     if !state.has_taken_tick() {

@@ -7,11 +7,11 @@ ghost use Rattle.ss_world.specs.State.{modes_of, timed};
 ghost use Rattle.ss_meaning.specs.Places.{assigned_attribute};
 ghost use Rattle.ss_meaning.specs.Events.{endowed, prepared, rescheduled};
 ghost use Rattle.ss_machine_world.specs.Numbers.{attribute_noted};
-ghost use Rattle.ss_machine_world.specs.Seen.{Rearranges};
-ghost use Rattle.ss_machine_instructions.specs.Doing.{Can, Does};
+ghost use Rattle.ss_machine_world.specs.Seen.{HasRearranged};
+ghost use Rattle.ss_machine_instructions.specs.Doing.{Can, HasDone};
 ghost use Rattle.ss_machine_instructions.specs.Ways.{on_after};
-ghost use Rattle.ss_machine_instructions.specs.Worldly.{ChangesIf, unless_refused, refused_where};
-ghost use Rattle.ss_machine_notices.specs.Giving.{SettledIn, SettledInWithMemory, MadeIn, SetsField, IsReadBack, Suiting, GivesOne, HasGivenValues, number_or, unpended, refiled};
+ghost use Rattle.ss_machine_instructions.specs.Worldly.{HasChangedIf, unless_refused, refused_where};
+ghost use Rattle.ss_machine_notices.specs.Giving.{IsSettledIn, IsSettledWithMemory, IsNoticeMade, HasSetField, IsReadBack, IsSuitable, HasGivenOne, HasGivenValues, number_or, unpended, refiled};
 
 use ss_base::{Alpha, FaultKind, Mode, Refused};
 use ss_code_instructions::address::Address;
@@ -63,7 +63,7 @@ fn set_number(
 ) -> Result<(), FaultKind>
     requires class { class < length world.old.heap.layout.classes }
     requires mode { slice_get (modes_of world.old.heap.layout class) field ≡ Some Integer }
-    ensures set { SetsField class field notice (Whole number) world.old world.new result }
+    ensures set { HasSetField class field notice (Whole number) world.old world.new result }
     ensures read { IsReadBack class field notice (Whole number) world.new result }
 {
     world.population.set_whole(class, field, notice, number)
@@ -80,7 +80,7 @@ fn set_text(
 ) -> Result<(), FaultKind>
     requires class { class < length world.old.heap.layout.classes }
     requires mode { slice_get (modes_of world.old.heap.layout class) field ≡ Some AlphaMode }
-    ensures { SetsField class field notice (Text text) world.old world.new result }
+    ensures { HasSetField class field notice (Text text) world.old world.new result }
 {
     world.population.set_text(class, field, notice, text)
 }
@@ -96,7 +96,7 @@ fn note_if(
 ) -> Result<(), FaultKind>
     requires class { class < length world.old.heap.layout.classes }
     requires mode { slice_get (modes_of world.old.heap.layout class) field ≡ Some Integer }
-    ensures { ChangesIf noted (attribute_noted class field notice) world.old world.new result }
+    ensures { HasChangedIf noted (attribute_noted class field notice) world.old world.new result }
 {
     if noted {
         world.note_attribute(class, field, notice)
@@ -108,8 +108,8 @@ fn note_if(
 // An attribute of a notice is assigned a number, and noted, where that is so.
 #[inline(always)]
 fn give_number(world: &mut World, what: Giving, field: usize, number: i64) -> Result<(), FaultKind>
-    requires { Suiting what.class field what.noted (Whole number) world.old }
-    ensures { (g : Suiting what.class field what.noted (Whole number) world.old) → SettledIn g.store (assigned_attribute what.class field (Whole what.notice) (Whole number)) world.old world.new result }
+    requires { IsSuitable what.class field what.noted (Whole number) world.old }
+    ensures { (g : IsSuitable what.class field what.noted (Whole number) world.old) → IsSettledIn g.store (assigned_attribute what.class field (Whole what.notice) (Whole number)) world.old world.new result }
 {
     match set_number(world, what.class, field, what.notice, number) {
         Err(kind) => Err(kind),
@@ -120,8 +120,8 @@ fn give_number(world: &mut World, what: Giving, field: usize, number: i64) -> Re
 // .. or a text, which nothing notes.
 #[inline(always)]
 fn give_text(world: &mut World, what: Giving, field: usize, text: Alpha) -> Result<(), FaultKind>
-    requires { Suiting what.class field what.noted (Text text) world.old }
-    ensures { (g : Suiting what.class field what.noted (Text text) world.old) → SettledIn g.store (assigned_attribute what.class field (Whole what.notice) (Text text)) world.old world.new result }
+    requires { IsSuitable what.class field what.noted (Text text) world.old }
+    ensures { (g : IsSuitable what.class field what.noted (Text text) world.old) → IsSettledIn g.store (assigned_attribute what.class field (Whole what.notice) (Text text)) world.old world.new result }
 {
     set_text(world, what.class, field, what.notice, text)
 }
@@ -129,8 +129,8 @@ fn give_text(world: &mut World, what: Giving, field: usize, text: Alpha) -> Resu
 // An attribute of a notice is assigned what lies at its place.
 #[inline(always)]
 fn give_one(world: &mut World, rows: &Rows, what: Giving, field: usize) -> Result<(), FaultKind>
-    requires { GivesOne what.class field what.noted (what.from + field) rows.now world.old }
-    ensures { (g : GivesOne what.class field what.noted (what.from + field) rows.now world.old) → SettledIn g.suits.store (assigned_attribute what.class field (Whole what.notice) g.value) world.old world.new result }
+    requires { HasGivenOne what.class field what.noted (what.from + field) rows.now world.old }
+    ensures { (g : HasGivenOne what.class field what.noted (what.from + field) rows.now world.old) → IsSettledIn g.suits.store (assigned_attribute what.class field (Whole what.notice) g.value) world.old world.new result }
 {
     let at = what.from + field;
     match mode_at(world, what.class, field) {
@@ -143,7 +143,7 @@ fn give_one(world: &mut World, rows: &Rows, what: Giving, field: usize) -> Resul
 #[inline(always)]
 fn give(world: &mut World, rows: &Rows, what: Giving, given: usize) -> Result<(), FaultKind>
     requires { HasGivenValues what.class what.noted what.from given rows.now world.old }
-    ensures { (g : HasGivenValues what.class what.noted what.from given rows.now world.old) → SettledIn g.store (endowed what.class 0 (Whole what.notice) g.values) world.old world.new result }
+    ensures { (g : HasGivenValues what.class what.noted what.from given rows.now world.old) → IsSettledIn g.store (endowed what.class 0 (Whole what.notice) g.values) world.old world.new result }
 {
     for field in 0..given {
         match give_one(world, rows, what, field) {
@@ -157,7 +157,7 @@ fn give(world: &mut World, rows: &Rows, what: Giving, given: usize) -> Result<()
 // A notice has its time.
 #[inline(always)]
 fn set_time(world: &mut World, notice: i64, time: i64) -> Result<(), FaultKind>
-    ensures { Rearranges (λ h. timed h notice time) world.old world.new result }
+    ensures { HasRearranged (λ h. timed h notice time) world.old world.new result }
 {
     world.population.set_time_a(notice, time)
 }
@@ -172,7 +172,7 @@ fn prepare(
     time: i64,
 ) -> Result<(), FaultKind>
     requires { HasGivenValues what.class what.noted what.from given rows.now world.old }
-    ensures { (g : HasGivenValues what.class what.noted what.from given rows.now world.old) → SettledIn g.store (prepared what.class (Whole what.notice) g.values time) world.old world.new result }
+    ensures { (g : HasGivenValues what.class what.noted what.from given rows.now world.old) → IsSettledIn g.store (prepared what.class (Whole what.notice) g.values time) world.old world.new result }
 {
     match give(world, rows, what, given) {
         Err(kind) => Err(kind),
@@ -202,7 +202,7 @@ fn new_notice(
     time: i64,
 ) -> Result<i64, Refused>
     requires { HasGivenValues what.class what.noted what.from given rows.now world.old }
-    ensures { (g : HasGivenValues what.class what.noted what.from given rows.now world.old) → MadeIn g.store what.class g.values time world.old world.new result }
+    ensures { (g : HasGivenValues what.class what.noted what.from given rows.now world.old) → IsNoticeMade g.store what.class g.values time world.old world.new result }
 {
     match world.create(what.class) {
         Err(refused) => Err(refused),
@@ -247,7 +247,7 @@ fn prepare_and_file(
     time: i64,
 ) -> Result<(), Refused>
     requires { HasGivenValues what.class what.noted what.from given rows.now world.old }
-    ensures { (g : HasGivenValues what.class what.noted what.from given rows.now world.old) → SettledInWithMemory g.store (refiled what.class (Whole what.notice) g.values time) world.old world.new result }
+    ensures { (g : HasGivenValues what.class what.noted what.from given rows.now world.old) → IsSettledWithMemory g.store (refiled what.class (Whole what.notice) g.values time) world.old world.new result }
 {
     match prepare(world, rows, what, given, time) {
         Err(kind) => Err(Refused::Fault(kind)),
@@ -266,7 +266,7 @@ fn schedule_again(
     time: i64,
 ) -> Result<(), Refused>
     requires { HasGivenValues what.class what.noted what.from given rows.now world.old }
-    ensures { (g : HasGivenValues what.class what.noted what.from given rows.now world.old) → SettledInWithMemory g.store (rescheduled what.class (Whole what.notice) g.values time) world.old world.new result }
+    ensures { (g : HasGivenValues what.class what.noted what.from given rows.now world.old) → IsSettledWithMemory g.store (rescheduled what.class (Whole what.notice) g.values time) world.old world.new result }
 {
     match look_unpended(world, what.class, what.notice) {
         Err(kind) => Err(Refused::Fault(kind)),
@@ -290,7 +290,7 @@ fn settled(state: &mut State, answer: Result<(), Refused>) -> Option<()>
 #[inline]
 pub fn time_at(state: &mut State, here: Here, time: &Address, to: &Address) -> Option<()>
     requires { Can here state.old (Instruction.At time.now to.now) }
-    ensures { Does here state.old state.new (on_after here result) (Instruction.At time.now to.now) }
+    ensures { HasDone here state.old state.new (on_after here result) (Instruction.At time.now to.now) }
 {
     let time = state.number(here, time);
     let answer = scheduling::time_at(&state.world, time);
@@ -301,7 +301,7 @@ pub fn time_at(state: &mut State, here: Here, time: &Address, to: &Address) -> O
 #[inline]
 pub fn time_in(state: &mut State, here: Here, units: &Address, to: &Address) -> Option<()>
     requires { Can here state.old (Instruction.In units.now to.now) }
-    ensures { Does here state.old state.new (on_after here result) (Instruction.In units.now to.now) }
+    ensures { HasDone here state.old state.new (on_after here result) (Instruction.In units.now to.now) }
 {
     let units = state.number(here, units);
     let answer = scheduling::time_in(&state.world, units);
@@ -312,7 +312,7 @@ pub fn time_in(state: &mut State, here: Here, units: &Address, to: &Address) -> 
 #[inline]
 pub fn make_notice(state: &mut State, here: Here, values: Values, to: &Address) -> Option<()>
     requires { Can here state.old (Instruction.MakeNotice values.class values.cell values.count to.now values.noted) }
-    ensures { Does here state.old state.new (on_after here result) (Instruction.MakeNotice values.class values.cell values.count to.now values.noted) }
+    ensures { HasDone here state.old state.new (on_after here result) (Instruction.MakeNotice values.class values.cell values.count to.now values.noted) }
 {
     let from = state.cell(here, values.cell);
     let time = state.rows.number_at(from + values.count as usize);
@@ -347,7 +347,7 @@ pub fn file_notice(
     time: &Address,
 ) -> Option<()>
     requires { Can here state.old (Instruction.FileNotice class notice.now time.now) }
-    ensures { Does here state.old state.new (on_after here result) (Instruction.FileNotice class notice.now time.now) }
+    ensures { HasDone here state.old state.new (on_after here result) (Instruction.FileNotice class notice.now time.now) }
 {
     let notice = state.number(here, notice);
     let time = state.number(here, time);
@@ -359,7 +359,7 @@ pub fn file_notice(
 #[inline]
 pub fn reschedule(state: &mut State, here: Here, values: Values, notice: &Address) -> Option<()>
     requires { Can here state.old (Instruction.Reschedule values.class notice.now values.cell values.count values.noted) }
-    ensures { Does here state.old state.new (on_after here result) (Instruction.Reschedule values.class notice.now values.cell values.count values.noted) }
+    ensures { HasDone here state.old state.new (on_after here result) (Instruction.Reschedule values.class notice.now values.cell values.count values.noted) }
 {
     let notice = state.number(here, notice);
     let from = state.cell(here, values.cell);
@@ -385,7 +385,7 @@ pub fn reschedule(state: &mut State, here: Here, values: Values, notice: &Addres
 #[inline]
 pub fn cancel(state: &mut State, here: Here, class: u32, notice: &Address) -> Option<()>
     requires { Can here state.old (Instruction.Cancel class notice.now) }
-    ensures { Does here state.old state.new (on_after here result) (Instruction.Cancel class notice.now) }
+    ensures { HasDone here state.old state.new (on_after here result) (Instruction.Cancel class notice.now) }
 {
     let notice = state.number(here, notice);
     let answer = state.world.cancel(class as usize, notice);

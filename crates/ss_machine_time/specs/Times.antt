@@ -38,9 +38,9 @@ abbrev pub IsAt : (old new : Times) → Type 0
 IsAt old new = (new.time ≡ old.time) × (new.pending ≡ old.pending) × (new.histories.statistics ≡ old.histories.statistics)
 
 -- nothing is pending, and nothing changes; or this notice comes next, and once it was taken out the time is its time
-abbrev pub TakesNext : (old new : Times) → Option ℤ → Type 0
-TakesNext old new None = (least_event old.pending ≡ None) × (new ≡ old)
-TakesNext old new (Some x) = (least_event old.pending ≡ Some (new.time, x)) × (new ≡ record old { time = new.time; pending = after_next old.pending })
+abbrev pub HasTakenNext : (old new : Times) → Option ℤ → Type 0
+HasTakenNext old new None = (least_event old.pending ≡ None) × (new ≡ old)
+HasTakenNext old new (Some x) = (least_event old.pending ≡ Some (new.time, x)) × (new ≡ record old { time = new.time; pending = after_next old.pending })
 
 -- the list after a notice is scheduled under a key, whose time is not past, or the fault
 abbrev pub placed : SortKey → (notice : ℤ) → Times → Result PendingList FaultKind
@@ -52,12 +52,12 @@ MaySchedule t n at (Ok u) = (key : SortKey) → key.time ≡ t → IsOk (placed 
 MaySchedule t n at (Err kind) = (key : SortKey) → key.time ≡ t → placed key n at ≡ Err kind
 
 -- a notice is scheduled; or there is a fault, or no memory where there is none, and nothing changes
-abbrev pub Schedules : SortKey → (notice : ℤ) → (old new : Times) → Result (Unit {0}) Refused → Type 0
-Schedules key n old new (Ok u) = (placed key n old ≡ Ok new.pending) × (new ≡ record old { pending = new.pending })
-Schedules key n old new (Err (Fault kind)) = (placed key n old ≡ Err kind) × (new ≡ old)
-Schedules key n old new (Err Memory) = IsOk (placed key n old) × (new ≡ old)
+abbrev pub HasScheduled : SortKey → (notice : ℤ) → (old new : Times) → Result (Unit {0}) Refused → Type 0
+HasScheduled key n old new (Ok u) = (placed key n old ≡ Ok new.pending) × (new ≡ record old { pending = new.pending })
+HasScheduled key n old new (Err (Fault kind)) = (placed key n old ≡ Err kind) × (new ≡ old)
+HasScheduled key n old new (Err Memory) = IsOk (placed key n old) × (new ≡ old)
 
 -- histories note a value, or they don't, and nothing changes
-abbrev pub Noted : Subject → (entity : ℤ) → Value → (old new : Times) → Result (Unit {0}) Unnoted → Type 0
-Noted subject x v old new (Ok u) = (all_noting subject x old.time v old.histories.statistics (columns old) ≡ Ok (columns new)) × IsAt old new
-Noted subject x v old new (Err t) = (all_noting subject x old.time v old.histories.statistics (columns old) ≡ Err (why t)) × (new ≡ old)
+abbrev pub IsNoted : Subject → (entity : ℤ) → Value → (old new : Times) → Result (Unit {0}) Unnoted → Type 0
+IsNoted subject x v old new (Ok u) = (all_noting subject x old.time v old.histories.statistics (columns old) ≡ Ok (columns new)) × IsAt old new
+IsNoted subject x v old new (Err t) = (all_noting subject x old.time v old.histories.statistics (columns old) ≡ Err (why t)) × (new ≡ old)

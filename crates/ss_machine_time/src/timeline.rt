@@ -11,7 +11,7 @@ ghost use Rattle.ss_picture.specs.Suited.{IsMean};
 ghost use Rattle.ss_program.specs.declared.sections.Subject.TheVariants.{OfCount};
 ghost use Rattle.ss_base.specs.declared.value.Value.TheVariants.{Whole};
 ghost use Rattle.ss_machine_time.specs.Figures.{subject_in};
-ghost use Rattle.ss_machine_time.specs.Times.{IsAt, MaySchedule, Schedules, TakesNext, Noted, columns};
+ghost use Rattle.ss_machine_time.specs.Times.{IsAt, MaySchedule, HasScheduled, HasTakenNext, IsNoted, columns};
 
 use ss_base::{FaultKind, Layout, Owner, Refused, Value};
 use ss_events::{Key, Pending};
@@ -82,7 +82,7 @@ impl Timeline {
 
     /// Takes out the notice that comes next, if one is pending, and answers its number. TIME.V is then its time.
     pub fn next(&mut self) -> Option<i64>
-        ensures { TakesNext self.old self.new result }
+        ensures { HasTakenNext self.old self.new result }
     {
         match self.pending.take() {
             Some((time, notice)) => {
@@ -116,7 +116,7 @@ impl Timeline {
     /// scheduling.
     #[inline(always)]
     pub fn schedule(&mut self, key: Key, notice: i64) -> Result<(), Refused>
-        ensures { Schedules key notice self.old self.new result }
+        ensures { HasScheduled key notice self.old self.new result }
     {
         if key.is_before(self.time) {
             return Err(Refused::Fault(FaultKind::PastTime));
@@ -149,7 +149,7 @@ impl Timeline {
     /// Notes a value of a subject in each history of it that an entity has. Faults: 14 where one of them is full.
     #[inline(always)]
     pub fn note(&mut self, subject: Subject, entity: i64, value: Value) -> Result<(), Unnoted>
-        ensures { Noted subject entity value self.old self.new result }
+        ensures { IsNoted subject entity value self.old self.new result }
     {
         if !self.has_statistics() {
             return Ok(());
@@ -160,7 +160,7 @@ impl Timeline {
     /// Notes N. of the set of an owner in each history of it. Faults: 14 where one of them is full.
     #[inline(always)]
     pub fn note_count(&mut self, set: usize, owner: i64, number: i64) -> Result<(), Unnoted>
-        ensures { Noted (OfCount set) owner (Whole number) self.old self.new result }
+        ensures { IsNoted (OfCount set) owner (Whole number) self.old self.new result }
     {
         self.histories.note_count(set, owner, self.time, number)
     }

@@ -4,8 +4,8 @@ use Rattle.std.specs.Prelude.{Result as OkOr}
 use Rattle.ss_base.specs.declared.fault.FaultKind.{FaultKind}
 use Rattle.ss_meaning.specs.Values.{Failure}
 use Rattle.ss_meaning.specs.Store.{Store}
-use Rattle.ss_machine_world.specs.Seen.{Seen, Changes, with_seen}
+use Rattle.ss_machine_world.specs.Seen.{Seen, HasChanged, with_seen}
 
-pub changes_alike : (f g : Store → OkOr Store Failure) (old new : Seen) (r : OkOr (Unit {0}) FaultKind) → ((s : Store) → f (with_seen s old) ≡ g (with_seen s old)) → Changes g old new r → Changes f old new r
+pub changes_alike : (f g : Store → OkOr Store Failure) (old new : Seen) (r : OkOr (Unit {0}) FaultKind) → ((s : Store) → f (with_seen s old) ≡ g (with_seen s old)) → HasChanged g old new r → HasChanged f old new r
 changes_alike f g old new (Ok u) alike d = λ s right. alike s ∙ d s (λ wrong. right (alike s ∙ wrong))
 changes_alike f g old new (Err k) alike d = (λ s right. alike s ∙ d.0 s (λ wrong. right (alike s ∙ wrong)), d.1)

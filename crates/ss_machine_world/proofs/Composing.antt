@@ -28,7 +28,7 @@ use Rattle.ss_meaning.specs.Places.{is_of_mode, assigned_attribute}
 use Rattle.ss_meaning.specs.Sets.{Filing, ByRule, Foremost, Hindmost, JustBefore, JustAfter, owner_by_layout, owner_number, member, is_fit, filed_by, filed_in, removed_from, end_removed, removed_at, recounted}
 use Rattle.ss_meaning.specs.Store.{Column, Store, with_heap, with_histories}
 use Rattle.ss_meaning.specs.Values.{Failure, Fails, if_ok, turned, due, sure, where_fit, computed, calculated}
-use Rattle.ss_machine_world.specs.Numbers.{RefersTo, attribute_noted}
+use Rattle.ss_machine_world.specs.Numbers.{IsReferenceTo, attribute_noted}
 use Rattle.ss_machine_world.specs.Seen.{Seen, IsRight, with_seen}
 use Rattle.ss_machine_world.proofs.Reading.{value_once, set_once}
 
@@ -83,11 +83,11 @@ module _ (op : Operator) (by : ℤ) (class field : ℕ) (x : ℤ) (e : Seen) (mo
 -- ## Filing and removing
 
 -- the number of an owner
-owner_is : (t : Option SetLayout) (o : Option Value) (m : ℤ) → is_some t ≡ true → RefersTo (owner_in t) o m → owner_by_layout t o ≡ Ok m
+owner_is : (t : Option SetLayout) (o : Option Value) (m : ℤ) → is_some t ≡ true → IsReferenceTo (owner_in t) o m → owner_by_layout t o ≡ Ok m
 owner_is None o m there refers = absurd cc
 owner_is (Some t) o m there refers = refers
 
-module _ (e : Seen) (set : ℕ) (o : Option Value) (m : ℤ) (there : is_some (slice_get e.heap.layout.sets set) ≡ true) (refers : RefersTo (owner_in (slice_get e.heap.layout.sets set)) o m) where
+module _ (e : Seen) (set : ℕ) (o : Option Value) (m : ℤ) (there : is_some (slice_get e.heap.layout.sets set) ≡ true) (refers : IsReferenceTo (owner_in (slice_get e.heap.layout.sets set)) o m) where
   owner_found : (s : Store) → owner_number set o (with_seen s e) ≡ Ok m
   owner_found s = owner_is (slice_get e.heap.layout.sets set) o m there refers
 

@@ -25,8 +25,8 @@ use Rattle.ss_meaning.specs.Sets.{owner_by_layout}
 use Rattle.ss_meaning.specs.Statistics.{subject_of_statistic, bearer_number, present, figure, mean, reset}
 use Rattle.ss_meaning.specs.Store.{Column, Notices, Store, fetched, with_histories}
 use Rattle.ss_meaning.specs.Values.{Failure, if_ok, turned, due, sure, where_fit, number_of}
-use Rattle.ss_machine_world.specs.Numbers.{RefersTo, RefersToSubject, HasValidSubject, HoldsSubject, looked_in, present_in}
-use Rattle.ss_machine_world.specs.Seen.{Seen, IsRight, Looks, Changes, ChangesWhere, as_value, number_if, with_seen, without_value}
+use Rattle.ss_machine_world.specs.Numbers.{IsReferenceTo, IsReferenceToSubject, HasValidSubject, IsHeldBySubject, looked_in, present_in}
+use Rattle.ss_machine_world.specs.Seen.{Seen, IsRight, HasAnswer, HasChanged, HasChangedWhere, as_value, number_if, with_seen, without_value}
 use Rattle.ss_machine_world.proofs.Reading.{whole_is, value_once}
 use Rattle.ss_machine_world.proofs.Starting.{seen_of, seen_moved}
 
@@ -41,7 +41,7 @@ owner_looked : (x : ℤ) (q : OkOr ℕ FaultKind) → turned (λ _. x) (due q) �
 owner_looked x (Ok m) = refl
 owner_looked x (Err k) = refl
 
-borne : (t : Subject) (o : Option Value) (x : ℤ) (e : Seen) (s : Store) → RefersTo (home e.heap.layout t) o x → IsRight (bearer_number t o (with_seen s e)) → bearer_number t o (with_seen s e) ≡ due (number_if x (looked_in e.heap t x))
+borne : (t : Subject) (o : Option Value) (x : ℤ) (e : Seen) (s : Store) → IsReferenceTo (home e.heap.layout t) o x → IsRight (bearer_number t o (with_seen s e)) → bearer_number t o (with_seen s e) ≡ due (number_if x (looked_in e.heap t x))
 borne (OfVariable k) None x e s refers right = refers
 borne (OfVariable k) (Some v) x e s refers right = absurd cc
 borne (OfAttribute class field) None x e s refers right = absurd cc
@@ -55,12 +55,12 @@ borne (OfCount set) o x e s refers right = by (slice_get e.heap.layout.sets set)
     go : ℤ → OkOr ℤ Failure
     go n = turned (λ _. n) (due (owner e.heap set n))
 
-    by : (t : Option SetLayout) → RefersTo (owner_in t) o x → IsRight (if_ok (owner_by_layout t o) go) → if_ok (owner_by_layout t o) go ≡ due (number_if x (no_value (owner e.heap set x)))
+    by : (t : Option SetLayout) → IsReferenceTo (owner_in t) o x → IsRight (if_ok (owner_by_layout t o) go) → if_ok (owner_by_layout t o) go ≡ due (number_if x (no_value (owner e.heap set x)))
     by None refers right = absurd (right refl)
     by (Some t) refers right = ap (λ r. if_ok r go) refers ∙ owner_looked x (owner e.heap set x)
 
 -- what is asked of a statistic, once its entity was looked at
-module _ {B : Type 0} (kept : Subject → ℤ → Store → OkOr B Failure) (j : ℕ) (o : Option Value) (x : ℤ) (e : Seen) (refers : RefersToSubject e j o x) where
+module _ {B : Type 0} (kept : Subject → ℤ → Store → OkOr B Failure) (j : ℕ) (o : Option Value) (x : ℤ) (e : Seen) (refers : IsReferenceToSubject e j o x) where
   abbrev asked : Store → OkOr B Failure
   asked s = if_ok (subject_of_statistic j s) (λ t. if_ok (bearer_number t o s) (λ n. kept t n s))
 
@@ -85,12 +85,12 @@ abbrev pub MatchMean : Option (ℤ × ℤ) → OkOr (ℤ × ℤ) FaultKind → T
 MatchMean None r = Unit {0}
 MatchMean (Some m) r = Ok m ≡ r
 
-module _ (j : ℕ) (o : Option Value) (x : ℤ) (e : Seen) (refers : RefersToSubject e j o x) where
+module _ (j : ℕ) (o : Option Value) (x : ℤ) (e : Seen) (refers : IsReferenceToSubject e j o x) where
   -- where the entity has a fault
-  pub figure_not : (fold : Fold) (kind : FaultKind) → ((t : Subject) → subject_in e.statistics j ≡ Some t → Err kind ≡ looked_in e.heap t x) → Looks (figure fold j o) e (Err kind)
+  pub figure_not : (fold : Fold) (kind : FaultKind) → ((t : Subject) → subject_in e.statistics j ≡ Some t → Err kind ≡ looked_in e.heap t x) → HasAnswer (figure fold j o) e (Err kind)
   figure_not fold kind looks s right = (asked_is (λ t n s. figure_kept fold j n s) j o x e refers (Err kind) looks s right).2
 
-  pub mean_not : (kind : FaultKind) → ((t : Subject) → subject_in e.statistics j ≡ Some t → Err kind ≡ looked_in e.heap t x) → Looks (mean j o) e (Err kind)
+  pub mean_not : (kind : FaultKind) → ((t : Subject) → subject_in e.statistics j ≡ Some t → Err kind ≡ looked_in e.heap t x) → HasAnswer (mean j o) e (Err kind)
   mean_not kind looks s right = (asked_is (λ t n s. mean_kept j n s) j o x e refers (Err kind) looks s right).2
 
   -- what a figure is
@@ -99,7 +99,7 @@ module _ (j : ℕ) (o : Option Value) (x : ℤ) (e : Seen) (refers : RefersToSub
   figured_as (Some (Ok n)) r is right = ap (λ (r : OkOr ℤ FaultKind). due (as_value r)) is
   figured_as (Some (Err k)) r is right = ap (λ (r : OkOr ℤ FaultKind). due (as_value r)) is
 
-  pub figure_is : (fold : Fold) (answer : Option (OkOr ℤ FaultKind)) (r : OkOr ℤ FaultKind) → ((t : Subject) → subject_in e.statistics j ≡ Some t → Ok tt ≡ looked_in e.heap t x) → ((s : Store) → figure_kept fold j x (with_seen s e) ≡ figured answer) → MatchAnswer answer r → Looks (figure fold j o) e (as_value r)
+  pub figure_is : (fold : Fold) (answer : Option (OkOr ℤ FaultKind)) (r : OkOr ℤ FaultKind) → ((t : Subject) → subject_in e.statistics j ≡ Some t → Ok tt ≡ looked_in e.heap t x) → ((s : Store) → figure_kept fold j x (with_seen s e) ≡ figured answer) → MatchAnswer answer r → HasAnswer (figure fold j o) e (as_value r)
   figure_is fold answer r looks kept is s right =
       let all = (asked_is (λ t n s. figure_kept fold j n s) j o x e refers (Ok tt) looks s right).2 ∙ kept s in
       all ∙ figured_as answer r is (λ wrong. right (all ∙ wrong))
@@ -109,7 +109,7 @@ module _ (j : ℕ) (o : Option Value) (x : ℤ) (e : Seen) (refers : RefersToSub
   meant_as None r is right = absurd (right refl)
   meant_as (Some m) r is right = ap due is
 
-  pub mean_is : (answer : Option (ℤ × ℤ)) (r : OkOr (ℤ × ℤ) FaultKind) → ((t : Subject) → subject_in e.statistics j ≡ Some t → Ok tt ≡ looked_in e.heap t x) → ((s : Store) → mean_kept j x (with_seen s e) ≡ sure answer) → MatchMean answer r → Looks (mean j o) e r
+  pub mean_is : (answer : Option (ℤ × ℤ)) (r : OkOr (ℤ × ℤ) FaultKind) → ((t : Subject) → subject_in e.statistics j ≡ Some t → Ok tt ≡ looked_in e.heap t x) → ((s : Store) → mean_kept j x (with_seen s e) ≡ sure answer) → MatchMean answer r → HasAnswer (mean j o) e r
   mean_is answer r looks kept is s right =
       let all = (asked_is (λ t n s. mean_kept j n s) j o x e refers (Ok tt) looks s right).2 ∙ kept s in
       all ∙ meant_as answer r is (λ wrong. right (all ∙ wrong))
@@ -123,7 +123,7 @@ module _ (j : ℕ) (o : Option Value) (x : ℤ) (e : Seen) (refers : RefersToSub
       by None right = absurd (right refl)
       by (Some h) right = refl
 
-  pub mean_looked : (look : OkOr (Unit {0}) FaultKind) → ((t : Subject) → subject_in e.statistics j ≡ Some t → look ≡ looked_in e.heap t x) → Looks (without_value (mean j o)) e look
+  pub mean_looked : (look : OkOr (Unit {0}) FaultKind) → ((t : Subject) → subject_in e.statistics j ≡ Some t → look ≡ looked_in e.heap t x) → HasAnswer (without_value (mean j o)) e look
   mean_looked (Err kind) looks s right =
       ap (turned (λ _. tt)) (mean_not kind looks s (λ wrong. right (ap (turned (λ _. tt)) wrong)))
   mean_looked (Ok u) looks s right =
@@ -150,9 +150,9 @@ counted_value : (q : OkOr ℤ FaultKind) → turned Whole (due q) ≡ due (and_t
 counted_value (Ok n) = refl
 counted_value (Err k) = refl
 
-module _ (j : ℕ) (o : Option Value) (x held : ℤ) (e : Seen) (refers : RefersToSubject e j o x) (has : HasValidSubject e j) where
+module _ (j : ℕ) (o : Option Value) (x held : ℤ) (e : Seen) (refers : IsReferenceToSubject e j o x) (has : HasValidSubject e j) where
   -- the present value
-  present_is : (t : Subject) → subject_in e.statistics j ≡ Some t → (s : Store) → HoldsSubject j held (with_seen s e) → IsRight (present t o (with_seen s e)) → present t o (with_seen s e) ≡ due (present_in e.heap t x held)
+  present_is : (t : Subject) → subject_in e.statistics j ≡ Some t → (s : Store) → IsHeldBySubject j held (with_seen s e) → IsRight (present t o (with_seen s e)) → present t o (with_seen s e) ≡ due (present_in e.heap t x held)
   present_is (OfVariable k) is s holds right = by (fetched (Global k) (with_seen s e)) refl right
     where
       by : (v : Option Value) → fetched (Global k) (with_seen s e) ≡ v → IsRight (sure v) → sure v ≡ Ok (Whole held)
@@ -160,7 +160,7 @@ module _ (j : ℕ) (o : Option Value) (x held : ℤ) (e : Seen) (refers : Refers
       by (Some v) at right = ap Ok (holds v (ap (λ t. held_in (variable_in t) (with_seen s e)) is ∙ at))
   present_is (OfAttribute class field) is s holds right = by o (refers (OfAttribute class field) is)
     where
-      by : (o : Option Value) → RefersTo (home e.heap.layout (OfAttribute class field)) o x → present (OfAttribute class field) o (with_seen s e) ≡ due (value_in e.heap class field x)
+      by : (o : Option Value) → IsReferenceTo (home e.heap.layout (OfAttribute class field)) o x → present (OfAttribute class field) o (with_seen s e) ≡ due (value_in e.heap class field x)
       by None refers = absurd cc
       by (Some v) refers =
           ap (λ v. attribute class field v (with_seen s e)) (whole_is v x refers)
@@ -170,7 +170,7 @@ module _ (j : ℕ) (o : Option Value) (x held : ℤ) (e : Seen) (refers : Refers
       go : ℤ → OkOr Value Failure
       go n = turned Whole (due (count_in e.heap set n))
 
-      by : (t : Option SetLayout) → RefersTo (owner_in t) o x → IsRight (if_ok (owner_by_layout t o) go) → if_ok (owner_by_layout t o) go ≡ due (and_then (count_in e.heap set x) (λ n. Ok (Whole n)))
+      by : (t : Option SetLayout) → IsReferenceTo (owner_in t) o x → IsRight (if_ok (owner_by_layout t o) go) → if_ok (owner_by_layout t o) go ≡ due (and_then (count_in e.heap set x) (λ n. Ok (Whole n)))
       by None refers right = absurd (right refl)
       by (Some t) refers right = ap (λ r. if_ok r go) refers ∙ counted_value (count_in e.heap set x)
 
@@ -179,13 +179,13 @@ module _ (j : ℕ) (o : Option Value) (x held : ℤ) (e : Seen) (refers : Refers
   afresh t n s = if_ok (present t o s) (λ v. if_ok (number_of v) (λ z. turned (with_histories s) (renewed j n s.world.time z s.world.histories)))
 
   -- there is a fault
-  pub reset_not : (kind : FaultKind) → ((t : Subject) → subject_in e.statistics j ≡ Some t → Err kind ≡ present_in e.heap t x held) → ChangesWhere (λ s. IsRight (reset j o s) × HoldsSubject j held s) (reset j o) e e (Err kind)
+  pub reset_not : (kind : FaultKind) → ((t : Subject) → subject_in e.statistics j ≡ Some t → Err kind ≡ present_in e.heap t x held) → HasChangedWhere (λ s. IsRight (reset j o s) × IsHeldBySubject j held s) (reset j o) e e (Err kind)
   reset_not kind presents =
       (λ s p. (asked_is afresh j o x e refers (Err kind) (λ t is. ap no_value (presents t is) ∙ present_looked e.heap t x held) s p.0).2, refl)
 
   -- a number, and a history that starts afresh with it
   module _ (p : ℤ) (presents : (t : Subject) → subject_in e.statistics j ≡ Some t → Ok (Whole p) ≡ present_in e.heap t x held) where
-    reset_by : (s : Store) → IsRight (reset j o (with_seen s e)) → HoldsSubject j held (with_seen s e) → reset j o (with_seen s e) ≡ renewed_known j x p (with_seen s e)
+    reset_by : (s : Store) → IsRight (reset j o (with_seen s e)) → IsHeldBySubject j held (with_seen s e) → reset j o (with_seen s e) ≡ renewed_known j x p (with_seen s e)
     reset_by s right holds =
         let a = asked_is afresh j o x e refers (Ok tt) (λ t is. ap no_value (presents t is) ∙ present_looked e.heap t x held) s right in
         a.2 ∙ ap after (present_is a.0 a.1 s holds (λ wrong. right (a.2 ∙ ap after wrong)) ∙ ap due (sym (presents a.0 a.1)))
@@ -193,19 +193,19 @@ module _ (j : ℕ) (o : Option Value) (x held : ℤ) (e : Seen) (refers : Refers
         after : OkOr Value Failure → OkOr Store Failure
         after r = if_ok r (λ v. if_ok (number_of v) (λ z. renewed_known j x z (with_seen s e)))
 
-    pub reset_then : (new : Seen) (r : OkOr (Unit {0}) FaultKind) → Changes (renewed_known j x p) e new r → ChangesWhere (λ s. IsRight (reset j o s) × HoldsSubject j held s) (reset j o) e new r
+    pub reset_then : (new : Seen) (r : OkOr (Unit {0}) FaultKind) → HasChanged (renewed_known j x p) e new r → HasChangedWhere (λ s. IsRight (reset j o s) × IsHeldBySubject j held s) (reset j o) e new r
     reset_then new (Ok u) d = λ s q. reset_by s q.0 q.1 ∙ d s (λ wrong. q.0 (reset_by s q.0 q.1 ∙ wrong))
     reset_then new (Err k) d = (λ s q. reset_by s q.0 q.1 ∙ d.0 s (λ wrong. q.0 (reset_by s q.0 q.1 ∙ wrong)), d.1)
 
 -- the history starts afresh
 module _ (ds : List Discipline) (ns : List Notices) (h : State) (t w : Times) (j : ℕ) (x p : ℤ) where
-  pub renew_changes : renewed j x t.time p (columns t) ≡ renewed_where true (columns w) → IsAt t w → Changes (renewed_known j x p) (seen_of ds ns h t) (seen_of ds ns h w) (Ok tt)
+  pub renew_changes : renewed j x t.time p (columns t) ≡ renewed_where true (columns w) → IsAt t w → HasChanged (renewed_known j x p) (seen_of ds ns h t) (seen_of ds ns h w) (Ok tt)
   renew_changes is at = λ s right.
       ap (turned (with_histories (with_seen s (seen_of ds ns h t)))) is
       ∙ ap (λ (e : Seen). Ok (with_seen s e)) (sym (seen_moved ds ns h t w at.0 at.1 at.2))
 
   -- or there is none, and this is not right
-  pub renew_wrong : renewed j x t.time p (columns t) ≡ renewed_where false (columns w) → w ≡ t → Changes (renewed_known j x p) (seen_of ds ns h t) (seen_of ds ns h w) (Err NoEntity)
+  pub renew_wrong : renewed j x t.time p (columns t) ≡ renewed_where false (columns w) → w ≡ t → HasChanged (renewed_known j x p) (seen_of ds ns h t) (seen_of ds ns h w) (Err NoEntity)
   renew_wrong is same =
       (λ s right. absurd (right (ap (turned (with_histories (with_seen s (seen_of ds ns h t)))) is)), ap (λ (u : Times). seen_of ds ns h u) same)
 

@@ -17,7 +17,7 @@ use Rattle.ss_meaning.specs.Store.{Store, Notices, with_pending}
 use Rattle.ss_meaning.specs.Histories.{ending}
 use Rattle.ss_meaning.specs.Entities.{entity, is_single, gone, without, with_none}
 use Rattle.ss_meaning.specs.Events.{unscheduled}
-use Rattle.ss_machine_world.specs.Seen.{Seen, Changes, with_seen}
+use Rattle.ss_machine_world.specs.Seen.{Seen, HasChanged, with_seen}
 use Rattle.ss_machine_world.proofs.Changing.{changes_alike}
 use Rattle.ss_machine_world.proofs.Starting.{joined, seen_of}
 
@@ -61,10 +61,10 @@ module _ (ds : List Discipline) (ns : List Notices) (h : State) (t : Times) (cla
   abbrev before : Seen
   before = seen_of ds ns h t
 
-  pub not_cancelled : (kind : FaultKind) → Err kind ≡ known_in h class n → Changes (unscheduled class (Whole n)) before before (Err kind)
+  pub not_cancelled : (kind : FaultKind) → Err kind ≡ known_in h class n → HasChanged (unscheduled class (Whole n)) before before (Err kind)
   not_cancelled kind is = (λ s right. looked_by before class n there (λ n. turned (with_pending (with_seen s before)) (due (cancelled n t.pending))) (Err kind) is s, refl)
 
-  pub cancelled_changes : (u : Unit {0}) → Ok u ≡ known_in h class n → (w : Times) (r : OkOr (Unit {0}) FaultKind) → MatchResult r (λ _. (cancelled n t.pending ≡ Ok w.pending) × (w ≡ record t { pending = w.pending })) (λ k. (cancelled n t.pending ≡ Err k) × (w ≡ t)) → Changes (unscheduled class (Whole n)) before (seen_of ds ns h w) r
+  pub cancelled_changes : (u : Unit {0}) → Ok u ≡ known_in h class n → (w : Times) (r : OkOr (Unit {0}) FaultKind) → MatchResult r (λ _. (cancelled n t.pending ≡ Ok w.pending) × (w ≡ record t { pending = w.pending })) (λ k. (cancelled n t.pending ≡ Err k) × (w ≡ t)) → HasChanged (unscheduled class (Whole n)) before (seen_of ds ns h w) r
   cancelled_changes u is w (Ok v) d = λ s right.
       looked_by before class n there (λ n. turned (with_pending (with_seen s before)) (due (cancelled n t.pending))) (Ok u) is s
       ∙ ap (λ q. turned (with_pending (with_seen s before)) (due q)) d.0
@@ -102,11 +102,11 @@ module _ (e : Seen) (class : ℕ) (n : ℤ) (single : is_single (slice_get e.hea
       ∙ ap (λ r. turned (with_none class n (with_seen s e)) (due r)) is
 
   -- one may not
-  pub gone_not : (h : State) (kind : FaultKind) → destroyed e.heap class n ≡ Err kind → h ≡ e.heap → Changes (gone class (Whole n)) e (record e { heap = h }) (Err kind)
+  pub gone_not : (h : State) (kind : FaultKind) → destroyed e.heap class n ≡ Err kind → h ≡ e.heap → HasChanged (gone class (Whole n)) e (record e { heap = h }) (Err kind)
   gone_not h kind is same = (λ s right. gone_by (Err kind) is s, ap (λ (h : State). record e { heap = h }) same)
 
   -- one goes, and its histories end
-  pub gone_ended : (new : Seen) (h : State) → new ≡ record e { heap = h; histories = new.histories } → destroyed e.heap class n ≡ Ok h → columns_of new.histories ≡ ending h.layout class n e.statistics (columns_of e.histories) → Changes (gone class (Whole n)) e new (Ok tt)
+  pub gone_ended : (new : Seen) (h : State) → new ≡ record e { heap = h; histories = new.histories } → destroyed e.heap class n ≡ Ok h → columns_of new.histories ≡ ending h.layout class n e.statistics (columns_of e.histories) → HasChanged (gone class (Whole n)) e new (Ok tt)
   gone_ended new h same is ended = λ s right. gone_by (Ok h) is s ∙ ap Ok (joined e new h same _ s ended)
 
   -- one that may go and is not pending: DESTROY finds nothing else
@@ -123,7 +123,7 @@ module _ (e : Seen) (class : ℕ) (n : ℤ) (single : is_single (slice_get e.hea
       at : rest n ≡ gone class (Whole n) (with_seen s e)
       at = ap (λ b. unless_fault b Scheduled (gone class (Whole n) (with_seen s e))) free
 
-  pub gone_without : (new : Seen) (r : OkOr (Unit {0}) FaultKind) → is_pending n e.pending.entries ≡ false → Changes (gone class (Whole n)) e new r → Changes (without class (Whole n)) e new r
+  pub gone_without : (new : Seen) (r : OkOr (Unit {0}) FaultKind) → is_pending n e.pending.entries ≡ false → HasChanged (gone class (Whole n)) e new r → HasChanged (without class (Whole n)) e new r
   gone_without new r free d = changes_alike (without class (Whole n)) (gone class (Whole n)) e new r (λ s. gone_once s free) d
 
 -- whatever is cancelled, the statistics are the same

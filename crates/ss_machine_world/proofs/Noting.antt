@@ -10,20 +10,20 @@ use Rattle.ss_program.specs.declared.sections.Subject.{Subject}
 use Rattle.ss_program.specs.declared.sections.Subject.TheVariants.{OfAttribute, OfCount}
 use Rattle.ss_world.specs.State.{State, modes_of, value_in}
 use Rattle.ss_world.specs.Sets.{count_in}
-use Rattle.ss_machine_time.specs.Times.{Times, Noted}
+use Rattle.ss_machine_time.specs.Times.{Times, IsNoted}
 use Rattle.ss_machine_time.specs.Unnoted.{Unnoted}
 use Rattle.ss_machine_time.specs.Unnoted.TheVariants.{Full, TypeError}
 use Rattle.ss_meaning.specs.Histories.{noted}
 use Rattle.ss_meaning.specs.Store.{Notices, Store, with_histories}
 use Rattle.ss_meaning.specs.Values.{if_ok, turned, due}
 use Rattle.ss_machine_world.specs.Numbers.{attribute_noted, count_noted, or_full}
-use Rattle.ss_machine_world.specs.Seen.{Seen, Changes, with_seen}
+use Rattle.ss_machine_world.specs.Seen.{Seen, HasChanged, with_seen}
 use Rattle.ss_machine_world.proofs.Changing.{changes_alike}
 use Rattle.ss_machine_world.proofs.Reading.{value_once}
 use Rattle.ss_machine_world.proofs.Starting.{seen_of, seen_moved}
 
 -- a value that is noted, or is not
-pub noted_changes : (ds : List Discipline) (ns : List Notices) (h : State) (subject : Subject) (x : ℤ) (v : Value) (t w : Times) (r : OkOr (Unit {0}) Unnoted) → Noted subject x v t w r → Changes (noted subject x v) (seen_of ds ns h t) (seen_of ds ns h w) (or_full r)
+pub noted_changes : (ds : List Discipline) (ns : List Notices) (h : State) (subject : Subject) (x : ℤ) (v : Value) (t w : Times) (r : OkOr (Unit {0}) Unnoted) → IsNoted subject x v t w r → HasChanged (noted subject x v) (seen_of ds ns h t) (seen_of ds ns h w) (or_full r)
 noted_changes ds ns h subject x v t w (Ok u) d = λ s right.
     ap (turned (with_histories (with_seen s (seen_of ds ns h t)))) d.0
     ∙ ap (λ (e : Seen). Ok (with_seen s e)) (sym (seen_moved ds ns h t w d.1.0 d.1.1 d.1.2))
@@ -33,18 +33,18 @@ noted_changes ds ns h subject x v t w (Err TypeError) d = λ s right.
     absurd (right (ap (turned (with_histories (with_seen s (seen_of ds ns h t)))) d.0))
 
 -- whatever is noted, the statistics are the same
-pub noted_statistics : (subject : Subject) (x : ℤ) (v : Value) (t w : Times) (r : OkOr (Unit {0}) Unnoted) → Noted subject x v t w r → w.histories.statistics ≡ t.histories.statistics
+pub noted_statistics : (subject : Subject) (x : ℤ) (v : Value) (t w : Times) (r : OkOr (Unit {0}) Unnoted) → IsNoted subject x v t w r → w.histories.statistics ≡ t.histories.statistics
 noted_statistics subject x v t w (Ok u) d = d.1.2
 noted_statistics subject x v t w (Err k) d = ap (λ (u : Times). u.histories.statistics) d.1
 
 -- N. of the set of an owner
 module _ (e : Seen) (set : ℕ) (o : ℤ) where
-  pub counted_changes : (new : Seen) (n : ℤ) (r : OkOr (Unit {0}) FaultKind) → Ok n ≡ count_in e.heap set o → Changes (noted (OfCount set) o (Whole n)) e new r → Changes (count_noted set o) e new r
+  pub counted_changes : (new : Seen) (n : ℤ) (r : OkOr (Unit {0}) FaultKind) → Ok n ≡ count_in e.heap set o → HasChanged (noted (OfCount set) o (Whole n)) e new r → HasChanged (count_noted set o) e new r
   counted_changes new n r is d =
       changes_alike (count_noted set o) (noted (OfCount set) o (Whole n)) e new r
       (λ s. ap (λ q. if_ok (due q) (λ n. noted (OfCount set) o (Whole n) (with_seen s e))) (sym is)) d
 
-  pub not_counted : (kind : FaultKind) → Err kind ≡ count_in e.heap set o → Changes (count_noted set o) e e (Err kind)
+  pub not_counted : (kind : FaultKind) → Err kind ≡ count_in e.heap set o → HasChanged (count_noted set o) e e (Err kind)
   not_counted kind is = (λ s right. ap (λ q. if_ok (due q) (λ n. noted (OfCount set) o (Whole n) (with_seen s e))) (sym is), refl)
 
 -- an attribute of an entity
@@ -52,10 +52,10 @@ module _ (e : Seen) (class field : ℕ) (x : ℤ) (mode : slice_get (modes_of e.
   read : (s : Store) → attribute_noted class field x (with_seen s e) ≡ if_ok (due (value_in e.heap class field x)) (λ v. noted (OfAttribute class field) x v (with_seen s e))
   read s = ap (λ r. if_ok r (λ v. noted (OfAttribute class field) x v (with_seen s e))) (value_once e class field x s (ap is_some mode))
 
-  pub attribute_changes : (new : Seen) (v : Value) (r : OkOr (Unit {0}) FaultKind) → value_in e.heap class field x ≡ Ok v → Changes (noted (OfAttribute class field) x v) e new r → Changes (attribute_noted class field x) e new r
+  pub attribute_changes : (new : Seen) (v : Value) (r : OkOr (Unit {0}) FaultKind) → value_in e.heap class field x ≡ Ok v → HasChanged (noted (OfAttribute class field) x v) e new r → HasChanged (attribute_noted class field x) e new r
   attribute_changes new v r is d =
       changes_alike (attribute_noted class field x) (noted (OfAttribute class field) x v) e new r
       (λ s. read s ∙ ap (λ q. if_ok (due q) (λ v. noted (OfAttribute class field) x v (with_seen s e))) is) d
 
-  pub attribute_not : (kind : FaultKind) → value_in e.heap class field x ≡ Err kind → Changes (attribute_noted class field x) e e (Err kind)
+  pub attribute_not : (kind : FaultKind) → value_in e.heap class field x ≡ Err kind → HasChanged (attribute_noted class field x) e e (Err kind)
   attribute_not kind is = (λ s right. read s ∙ ap (λ q. if_ok (due q) (λ v. noted (OfAttribute class field) x v (with_seen s e))) is, refl)

@@ -12,7 +12,7 @@ use Rattle.ss_base.specs.declared.layout.Owner.{Owner}
 use Rattle.ss_base.specs.declared.layout.Owner.TheVariants.{Class}
 use Rattle.ss_base.specs.declared.value.Value.TheVariants.{Whole}
 use Rattle.ss_program.specs.declared.sections.Statistic.{Statistic}
-use Rattle.ss_world.specs.State.{State, Record, LAST_NUMBER, MOST_ENTITIES, RefusedFor, first_record, with_created, created, is_made, with_made, made_many, created_all, records_in, no_value}
+use Rattle.ss_world.specs.State.{State, Record, LAST_NUMBER, MOST_ENTITIES, IsRefusalOf, first_record, with_created, created, is_made, with_made, made_many, created_all, records_in, no_value}
 use Rattle.ss_world.specs.PendingList.{PendingList}
 use Rattle.ss_machine_time.specs.Records.{columns_of, is_up_to, HasRooms}
 use Rattle.ss_machine_time.specs.Times.{Times}
@@ -22,7 +22,7 @@ use Rattle.ss_meaning.specs.Histories.{starting}
 use Rattle.ss_meaning.specs.Entities.{is_single, is_permanent, with_new, made_one, with_all}
 use Rattle.ss_machine_entities.proofs.Counting.{length_replicate}
 use Rattle.ss_machine_world.specs.Numbers.{created_all_known, count_open}
-use Rattle.ss_machine_world.specs.Seen.{Seen, IsRight, Looks, GoesWell, Makes, ChangesWithMemory, with_seen}
+use Rattle.ss_machine_world.specs.Seen.{Seen, IsRight, HasAnswer, IsAlwaysOk, HasMade, HasChangedWithMemory, with_seen}
 
 -- ## Which fault is due
 
@@ -82,7 +82,7 @@ module _ (e : Seen) (class : ℕ) (single : is_single (slice_get e.heap.layout.c
       ap (λ b. where_fit b (turned (with_new class (with_seen s e)) (due (created e.heap class)))) single
       ∙ ap (λ r. turned (with_new class (with_seen s e)) (due r)) made
 
-  one_well : IsOk (created e.heap class) → GoesWell (made_one class) e
+  one_well : IsOk (created e.heap class) → IsAlwaysOk (made_one class) e
   one_well ok s = subst (λ b. IsOk (where_fit b (turned (with_new class (with_seen s e)) (due (created e.heap class))))) (sym single) (by (created e.heap class) ok)
     where
       by : (r : OkOr (ℤ × State) FaultKind) → IsOk r → IsOk (turned (with_new class (with_seen s e)) (due r))
@@ -90,22 +90,22 @@ module _ (e : Seen) (class : ℕ) (single : is_single (slice_get e.heap.layout.c
       by (Err k) ok = absurd cc
 
   -- there is none
-  pub one_refused : (r : Refused) → RefusedFor (created e.heap class) r → Makes (made_one class) e e (Err r)
+  pub one_refused : (r : Refused) → IsRefusalOf (created e.heap class) r → HasMade (made_one class) e e (Err r)
   one_refused (Fault kind) due = (λ s. one_by (Err kind) due s, refl)
   one_refused Memory ok = (one_well ok, refl)
 
   -- one whose histories start
-  pub one_made : (new : Seen) (h : State) (n : ℤ) → new ≡ record e { heap = h; histories = new.histories } → created e.heap class ≡ Ok (n, h) → columns_of new.histories ≡ starting h.layout (Class class) (int_eq n) e.time e.statistics (columns_of e.histories) → Makes (made_one class) e new (Ok n)
+  pub one_made : (new : Seen) (h : State) (n : ℤ) → new ≡ record e { heap = h; histories = new.histories } → created e.heap class ≡ Ok (n, h) → columns_of new.histories ≡ starting h.layout (Class class) (int_eq n) e.time e.statistics (columns_of e.histories) → HasMade (made_one class) e new (Ok n)
   one_made new h n same made started = λ s.
       one_by (Ok (n, h)) made s
       ∙ ap (λ (t : Store). Ok (Whole n, t)) (joined e new h same (starting h.layout (Class class) (int_eq n) e.time e.statistics (columns_of e.histories)) s started)
 
   -- or one of a class of which there is no history
-  pub one_alone : (h : State) (r : OkOr ℤ Refused) → ((here : ℤ → Bool) (now : ℤ) → starting e.heap.layout (Class class) here now e.statistics (columns_of e.histories) ≡ columns_of e.histories) → MatchResult r (λ n. created e.heap class ≡ Ok (n, h)) (λ k. (h ≡ e.heap) × RefusedFor (created e.heap class) k) → Makes (made_one class) e (record e { heap = h }) r
+  pub one_alone : (h : State) (r : OkOr ℤ Refused) → ((here : ℤ → Bool) (now : ℤ) → starting e.heap.layout (Class class) here now e.statistics (columns_of e.histories) ≡ columns_of e.histories) → MatchResult r (λ n. created e.heap class ≡ Ok (n, h)) (λ k. (h ≡ e.heap) × IsRefusalOf (created e.heap class) k) → HasMade (made_one class) e (record e { heap = h }) r
   one_alone h (Ok n) starts made =
       one_made (record e { heap = h }) h n refl made
       (sym (ap (λ (l : Layout). starting l (Class class) (int_eq n) e.time e.statistics (columns_of e.histories)) (created_layout e.heap h class n made) ∙ starts (int_eq n) e.time))
-  one_alone h (Err k) starts d = subst (λ (h : State). Makes (made_one class) e (record e { heap = h }) (Err k)) (sym d.0) (one_refused k d.1)
+  one_alone h (Err k) starts d = subst (λ (h : State). HasMade (made_one class) e (record e { heap = h }) (Err k)) (sym d.0) (one_refused k d.1)
 
 -- ## All entities of a class
 
@@ -153,7 +153,7 @@ module _ (e : Seen) (class : ℕ) (n : ℤ) (permanent : is_permanent (slice_get
   pub all_fault : (kind : FaultKind) → created_all e.heap class n ≡ Err kind → (s : Store) → created_all_known class n (with_seen s e) ≡ Err (Fails kind)
   all_fault kind made s = all_by (Err kind) made s
 
-  pub all_well : IsOk (created_all e.heap class n) → GoesWell (created_all_known class n) e
+  pub all_well : IsOk (created_all e.heap class n) → IsAlwaysOk (created_all_known class n) e
   all_well ok s = subst (λ b. IsOk (where_fit b (turned (with_all class (with_seen s e)) (due (created_all e.heap class n))))) (sym permanent) (by (created_all e.heap class n) ok)
     where
       by : (r : OkOr State FaultKind) → IsOk r → IsOk (turned (with_all class (with_seen s e)) (due r))
@@ -161,7 +161,7 @@ module _ (e : Seen) (class : ℕ) (n : ℤ) (permanent : is_permanent (slice_get
       by (Err k) ok = absurd cc
 
   -- there are none
-  pub all_refused : (r : Refused) → RefusedFor (created_all e.heap class n) r → ChangesWithMemory (created_all_known class n) e e (Err r)
+  pub all_refused : (r : Refused) → IsRefusalOf (created_all e.heap class n) r → HasChangedWithMemory (created_all_known class n) e e (Err r)
   all_refused (Fault kind) due = (λ s. all_fault kind due s, refl)
   all_refused Memory ok = (all_well ok, refl)
 
@@ -182,8 +182,8 @@ module _ (e : Seen) (class : ℕ) where
       by true right = is
       by false right = absurd (right refl)
 
-  pub open_not : is_made e.heap class ≡ true → Looks (count_open class) e (Err CreatedTwice)
+  pub open_not : is_made e.heap class ≡ true → HasAnswer (count_open class) e (Err CreatedTwice)
   open_not made s right = open_by (Err (Fails CreatedTwice)) (ap (λ b. unless_fault b CreatedTwice (Ok tt)) made) s right
 
-  pub open_still : is_made e.heap class ≡ false → Looks (count_open class) e (Ok tt)
+  pub open_still : is_made e.heap class ≡ false → HasAnswer (count_open class) e (Ok tt)
   open_still made s right = open_by (Ok tt) (ap (λ b. unless_fault b CreatedTwice (Ok tt)) made) s right

@@ -25,12 +25,12 @@ use Rattle.ss_machine_world.specs.Seen.{Seen}
 -- ## References
 
 -- what refers to an owner, or to nothing where that is the system, has this number
-abbrev pub RefersTo : Owner → Option Value → (number : ℤ) → Type 0
-RefersTo whose o n = owner_as whose o ≡ Ok n
+abbrev pub IsReferenceTo : Owner → Option Value → (number : ℤ) → Type 0
+IsReferenceTo whose o n = owner_as whose o ≡ Ok n
 
 -- and so has what refers to the entity of which a statistic is asked
-abbrev pub RefersToSubject : Seen → (statistic : ℕ) → Option Value → (number : ℤ) → Type 0
-RefersToSubject e j o n = (t : Subject) → subject_in e.statistics j ≡ Some t → RefersTo (home e.heap.layout t) o n
+abbrev pub IsReferenceToSubject : Seen → (statistic : ℕ) → Option Value → (number : ℤ) → Type 0
+IsReferenceToSubject e j o n = (t : Subject) → subject_in e.statistics j ≡ Some t → IsReferenceTo (home e.heap.layout t) o n
 
 -- ## Classes
 
@@ -90,5 +90,5 @@ present_in h (OfAttribute class field) x held = value_in h class field x
 present_in h (OfCount set) x held = and_then (count_in h set x) (λ n. Ok (Whole n))
 
 -- the global variable that a statistic is about holds this number, if it is about one
-abbrev pub HoldsSubject : (statistic : ℕ) → (held : ℤ) → Store → Type 0
-HoldsSubject j held s = (v : Value) → held_by j s ≡ Some v → v ≡ Whole held
+abbrev pub IsHeldBySubject : (statistic : ℕ) → (held : ℤ) → Store → Type 0
+IsHeldBySubject j held s = (v : Value) → held_by j s ≡ Some v → v ≡ Whole held

@@ -44,41 +44,41 @@ abbrev pub IsRight : {A : Type 0} → Result A Failure → Type 0
 IsRight r = r ≡ Err TypeError → ⊥
 
 -- an operation looks: in each store with what is seen it has this answer
-abbrev pub Looks : {A : Type 0} → (Store → Result A Failure) → Seen → Result A FaultKind → Type 0
-Looks f e answer = (s : Store) → IsRight (f (with_seen s e)) → f (with_seen s e) ≡ due answer
+abbrev pub HasAnswer : {A : Type 0} → (Store → Result A Failure) → Seen → Result A FaultKind → Type 0
+HasAnswer f e answer = (s : Store) → IsRight (f (with_seen s e)) → f (with_seen s e) ≡ due answer
 
 -- an operation changes what is seen, or has a fault and changes nothing, in each store of which something holds
-abbrev pub ChangesWhere : (Store → Type 0) → (Store → Result Store Failure) → (old new : Seen) → Result (Unit {0}) FaultKind → Type 0
-ChangesWhere P f old new (Ok u) = (s : Store) → P (with_seen s old) → f (with_seen s old) ≡ Ok (with_seen s new)
-ChangesWhere P f old new (Err kind) = ((s : Store) → P (with_seen s old) → f (with_seen s old) ≡ Err (Fails kind)) × (new ≡ old)
+abbrev pub HasChangedWhere : (Store → Type 0) → (Store → Result Store Failure) → (old new : Seen) → Result (Unit {0}) FaultKind → Type 0
+HasChangedWhere P f old new (Ok u) = (s : Store) → P (with_seen s old) → f (with_seen s old) ≡ Ok (with_seen s new)
+HasChangedWhere P f old new (Err kind) = ((s : Store) → P (with_seen s old) → f (with_seen s old) ≡ Err (Fails kind)) × (new ≡ old)
 
 -- and that in each store
-abbrev pub Changes : (Store → Result Store Failure) → (old new : Seen) → Result (Unit {0}) FaultKind → Type 0
-Changes f old new r = ChangesWhere (λ s. IsRight (f s)) f old new r
+abbrev pub HasChanged : (Store → Result Store Failure) → (old new : Seen) → Result (Unit {0}) FaultKind → Type 0
+HasChanged f old new r = HasChangedWhere (λ s. IsRight (f s)) f old new r
 
 -- no failure is due to an operation: it goes well in each store with what is seen
-abbrev pub GoesWell : {A : Type 0} → (Store → Result A Failure) → Seen → Type 0
-GoesWell f e = (s : Store) → IsOk (f (with_seen s e))
+abbrev pub IsAlwaysOk : {A : Type 0} → (Store → Result A Failure) → Seen → Type 0
+IsAlwaysOk f e = (s : Store) → IsOk (f (with_seen s e))
 
 -- an operation that needs memory changes what is seen and gives a number, or has a fault and changes nothing. It is out of memory only where
 -- no failure is due, and then it changes nothing.
-abbrev pub Makes : (Store → Result (Value × Store) Failure) → (old new : Seen) → Result ℤ Refused → Type 0
-Makes f old new (Ok n) = (s : Store) → f (with_seen s old) ≡ Ok (Whole n, with_seen s new)
-Makes f old new (Err (Fault kind)) = ((s : Store) → f (with_seen s old) ≡ Err (Fails kind)) × (new ≡ old)
-Makes f old new (Err Memory) = GoesWell f old × (new ≡ old)
+abbrev pub HasMade : (Store → Result (Value × Store) Failure) → (old new : Seen) → Result ℤ Refused → Type 0
+HasMade f old new (Ok n) = (s : Store) → f (with_seen s old) ≡ Ok (Whole n, with_seen s new)
+HasMade f old new (Err (Fault kind)) = ((s : Store) → f (with_seen s old) ≡ Err (Fails kind)) × (new ≡ old)
+HasMade f old new (Err Memory) = IsAlwaysOk f old × (new ≡ old)
 
 -- and one that gives nothing
-abbrev pub ChangesWithMemory : (Store → Result Store Failure) → (old new : Seen) → Result (Unit {0}) Refused → Type 0
-ChangesWithMemory f old new (Ok u) = (s : Store) → f (with_seen s old) ≡ Ok (with_seen s new)
-ChangesWithMemory f old new (Err (Fault kind)) = ((s : Store) → f (with_seen s old) ≡ Err (Fails kind)) × (new ≡ old)
-ChangesWithMemory f old new (Err Memory) = GoesWell f old × (new ≡ old)
+abbrev pub HasChangedWithMemory : (Store → Result Store Failure) → (old new : Seen) → Result (Unit {0}) Refused → Type 0
+HasChangedWithMemory f old new (Ok u) = (s : Store) → f (with_seen s old) ≡ Ok (with_seen s new)
+HasChangedWithMemory f old new (Err (Fault kind)) = ((s : Store) → f (with_seen s old) ≡ Err (Fails kind)) × (new ≡ old)
+HasChangedWithMemory f old new (Err Memory) = IsAlwaysOk f old × (new ≡ old)
 
 -- ## What an operation on the entities does
 
 -- it changes the entities, or has a fault and changes nothing
-abbrev pub Rearranges : (State → Result State FaultKind) → (old new : Seen) → Result (Unit {0}) FaultKind → Type 0
-Rearranges f old new (Ok u) = (f old.heap ≡ Ok new.heap) × (new ≡ record old { heap = new.heap })
-Rearranges f old new (Err kind) = (f old.heap ≡ Err kind) × (new ≡ old)
+abbrev pub HasRearranged : (State → Result State FaultKind) → (old new : Seen) → Result (Unit {0}) FaultKind → Type 0
+HasRearranged f old new (Ok u) = (f old.heap ≡ Ok new.heap) × (new ≡ record old { heap = new.heap })
+HasRearranged f old new (Err kind) = (f old.heap ≡ Err kind) × (new ≡ old)
 
 -- ## Answers
 

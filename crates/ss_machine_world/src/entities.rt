@@ -11,7 +11,7 @@ ghost use Rattle.ss_world.specs.PendingList.{is_pending};
 ghost use Rattle.ss_machine_time.specs.Times.{IsAt, columns};
 ghost use Rattle.ss_machine_world.specs.Classes.{AreSaid};
 ghost use Rattle.ss_machine_world.specs.Numbers.{created_all_known, count_open};
-ghost use Rattle.ss_machine_world.specs.Seen.{Looks, Changes, GoesWell, Makes, ChangesWithMemory, with_seen};
+ghost use Rattle.ss_machine_world.specs.Seen.{HasAnswer, HasChanged, IsAlwaysOk, HasMade, HasChangedWithMemory, with_seen};
 
 use crate::class::{ClassEntry, is_watched};
 use crate::world::World;
@@ -25,7 +25,7 @@ impl World {
     pub fn create(&mut self, class: usize) -> Result<i64, Refused>
         requires class { class < length self.old.heap.layout.classes }
         requires single { is_single (slice_get self.old.heap.layout.classes class) ≡ true }
-        ensures { Makes (made_one class) self.old self.new result }
+        ensures { HasMade (made_one class) self.old self.new result }
     {
         if !is_watched(&self.classes, class) {
             return self.population.create(class);
@@ -41,7 +41,7 @@ impl World {
     fn create_watched(&mut self, class: usize) -> Option<i64>
         requires class { class < length self.old.heap.layout.classes }
         requires single { is_single (slice_get self.old.heap.layout.classes class) ≡ true }
-        ensures made { IfSome result (λ number. Makes (made_one class) self.old self.new (Ok number)) }
+        ensures made { IfSome result (λ number. HasMade (made_one class) self.old self.new (Ok number)) }
         ensures same { result ≡ None → self.new ≡ self.old }
     {
         if self
@@ -64,7 +64,7 @@ impl World {
     #[cold]
     #[inline(never)]
     fn uncreated(&self) -> Refused
-        ensures { (class : ℕ) → is_single (slice_get self.now.heap.layout.classes class) ≡ true → Makes (made_one class) self.now self.now (Err result) }
+        ensures { (class : ℕ) → is_single (slice_get self.now.heap.layout.classes class) ≡ true → HasMade (made_one class) self.now self.now (Err result) }
     {
         match self.population.may_create() {
             Err(kind) => Refused::Fault(kind),
@@ -77,7 +77,7 @@ impl World {
     pub fn create_all(&mut self, class: usize, count: i64) -> Result<(), Refused>
         requires class { class < length self.old.heap.layout.classes }
         requires permanent { is_permanent (slice_get self.old.heap.layout.classes class) ≡ true }
-        ensures { ChangesWithMemory (created_all_known class count) self.old self.new result }
+        ensures { HasChangedWithMemory (created_all_known class count) self.old self.new result }
     {
         match self.population.may_create_all(class, count) {
             Err(kind) => Err(Refused::Fault(kind)),
@@ -89,8 +89,8 @@ impl World {
     fn create_counted(&mut self, class: usize, count: i64) -> Result<(), Refused>
         requires class { class < length self.old.heap.layout.classes }
         requires permanent { is_permanent (slice_get self.old.heap.layout.classes class) ≡ true }
-        requires well { GoesWell (created_all_known class count) self.old }
-        ensures { ChangesWithMemory (created_all_known class count) self.old self.new result }
+        requires well { IsAlwaysOk (created_all_known class count) self.old }
+        ensures { HasChangedWithMemory (created_all_known class count) self.old self.new result }
     {
         if self
             .timeline
@@ -115,7 +115,7 @@ impl World {
     pub fn destroy(&mut self, class: usize, number: i64) -> Result<(), FaultKind>
         requires class { class < length self.old.heap.layout.classes }
         requires single { is_single (slice_get self.old.heap.layout.classes class) ≡ true }
-        ensures { Changes (without class (Whole number)) self.old self.new result }
+        ensures { HasChanged (without class (Whole number)) self.old self.new result }
     {
         if self.timeline.is_scheduled(number) {
             return Err(self.scheduled(class, number));
@@ -142,7 +142,7 @@ impl World {
     pub fn remove_entity(&mut self, class: usize, number: i64) -> Result<(), FaultKind>
         requires class { class < length self.old.heap.layout.classes }
         requires single { is_single (slice_get self.old.heap.layout.classes class) ≡ true }
-        ensures { Changes (gone class (Whole number)) self.old self.new result }
+        ensures { HasChanged (gone class (Whole number)) self.old self.new result }
     {
         match self.population.destroy(class, number) {
             Ok(()) => {
@@ -161,7 +161,7 @@ impl World {
 
     /// Whether N. of a permanent class may be assigned a value. Faults: 18 where its entities are made.
     pub fn look_count(&self, class: usize) -> Result<(), FaultKind>
-        ensures { Looks (count_open class) self.now result }
+        ensures { HasAnswer (count_open class) self.now result }
     {
         if self.population.is_made(class) {
             return Err(FaultKind::CreatedTwice);
@@ -173,7 +173,7 @@ impl World {
     #[inline(never)]
     pub fn cancel(&mut self, class: usize, notice: i64) -> Result<(), FaultKind>
         requires class { class < length self.old.heap.layout.classes }
-        ensures { Changes (unscheduled class (Whole notice)) self.old self.new result }
+        ensures { HasChanged (unscheduled class (Whole notice)) self.old self.new result }
     {
         match self.population.known(class, notice) {
             Ok(()) => self.timeline.cancel(notice),

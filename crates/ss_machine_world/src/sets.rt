@@ -3,9 +3,9 @@
 ghost use Rattle.std.specs.Prelude.{◌≡◌, ◌<◌, length, Some, slice_get};
 ghost use Rattle.ss_base.specs.declared.layout.Discipline.{Discipline};
 ghost use Rattle.ss_meaning.specs.Sets.{outset};
-ghost use Rattle.ss_world.specs.Disciplines.{FitsMembers, filed};
+ghost use Rattle.ss_world.specs.Disciplines.{HasMemberKeys, filed};
 ghost use Rattle.ss_machine_world.specs.Numbers.{begun_from};
-ghost use Rattle.ss_machine_world.specs.Seen.{Rearranges};
+ghost use Rattle.ss_machine_world.specs.Seen.{HasRearranged};
 
 use crate::world::World;
 use ss_base::FaultKind;
@@ -16,8 +16,8 @@ impl World {
     #[inline(always)]
     pub fn file_ranked(&mut self, set: usize, owner: i64, member: i64) -> Result<(), FaultKind>
         requires set { set < length self.old.heap.layout.sets }
-        requires keys { (d : Discipline) → slice_get self.old.disciplines set ≡ Some d → FitsMembers self.old.heap.layout set d }
-        ensures { (d : Discipline) → slice_get self.old.disciplines set ≡ Some d → Rearranges (λ h. filed h d set owner member) self.old self.new result }
+        requires keys { (d : Discipline) → slice_get self.old.disciplines set ≡ Some d → HasMemberKeys self.old.heap.layout set d }
+        ensures { (d : Discipline) → slice_get self.old.disciplines set ≡ Some d → HasRearranged (λ h. filed h d set owner member) self.old self.new result }
     {
         match self.disciplines.get(set) {
             None => Err(FaultKind::NoEntity),

@@ -11,8 +11,8 @@ ghost use Rattle.ss_picture.specs.Suited.{IsMean};
 ghost use Rattle.ss_program.specs.declared.sections.Subject.{Subject as SubjectSeen};
 ghost use Rattle.ss_program.specs.declared.sections.Subject.TheVariants.{OfVariable};
 ghost use Rattle.ss_world.specs.State.{modes_of};
-ghost use Rattle.ss_machine_world.specs.Numbers.{RefersToSubject, IsSubject, HasValidSubject, HoldsSubject, attribute_noted, count_noted, looked_in, present_in, or_full};
-ghost use Rattle.ss_machine_world.specs.Seen.{IsRight, Looks, Changes, ChangesWhere, as_value, without_value};
+ghost use Rattle.ss_machine_world.specs.Numbers.{IsReferenceToSubject, IsSubject, HasValidSubject, IsHeldBySubject, attribute_noted, count_noted, looked_in, present_in, or_full};
+ghost use Rattle.ss_machine_world.specs.Seen.{IsRight, HasAnswer, HasChanged, HasChangedWhere, as_value, without_value};
 
 use crate::world::World;
 use ss_base::{FaultKind, Value};
@@ -24,7 +24,7 @@ impl World {
     /// Notes the value of a global variable. Faults: 14.
     #[inline(never)]
     pub fn note_variable(&mut self, number: usize, value: i64) -> Result<(), FaultKind>
-        ensures { Changes (noted (OfVariable number) (pos 0) (Whole value)) self.old self.new result }
+        ensures { HasChanged (noted (OfVariable number) (pos 0) (Whole value)) self.old self.new result }
     {
         let subject = Subject::OfVariable { number };
         or_full(self.timeline.note(subject, 0, Value::Whole(value)))
@@ -40,7 +40,7 @@ impl World {
     ) -> Result<(), FaultKind>
         requires class { class < length self.old.heap.layout.classes }
         requires mode { slice_get (modes_of self.old.heap.layout class) field ≡ Some Integer }
-        ensures { Changes (attribute_noted class field entity) self.old self.new result }
+        ensures { HasChanged (attribute_noted class field entity) self.old self.new result }
     {
         match self.population.whole(class, field, entity) {
             Ok(value) => {
@@ -55,7 +55,7 @@ impl World {
     #[inline(never)]
     pub fn note_count(&mut self, set: usize, owner: i64) -> Result<(), FaultKind>
         requires set { set < length self.old.heap.layout.sets }
-        ensures { Changes (count_noted set owner) self.old self.new result }
+        ensures { HasChanged (count_noted set owner) self.old self.new result }
     {
         match self.population.member_count(set, owner) {
             Ok(count) => or_full(self.timeline.note_count(set, owner, count)),
@@ -90,7 +90,7 @@ impl World {
     #[inline(never)]
     pub fn figure(&self, fold: Fold, statistic: usize, entity: i64) -> Result<i64, FaultKind>
         requires subject { HasValidSubject self.now statistic }
-        ensures { (o : Option ValueSeen) → RefersToSubject self.now statistic o entity → Looks (figure fold statistic o) self.now (as_value result) }
+        ensures { (o : Option ValueSeen) → IsReferenceToSubject self.now statistic o entity → HasAnswer (figure fold statistic o) self.now (as_value result) }
     {
         match self.look_statistic(statistic, entity) {
             Err(kind) => Err(kind),
@@ -105,7 +105,7 @@ impl World {
     #[inline(never)]
     pub fn look_mean(&self, statistic: usize, entity: i64) -> Result<(), FaultKind>
         requires subject { HasValidSubject self.now statistic }
-        ensures { (o : Option ValueSeen) → RefersToSubject self.now statistic o entity → Looks (without_value (mean statistic o)) self.now result }
+        ensures { (o : Option ValueSeen) → IsReferenceToSubject self.now statistic o entity → HasAnswer (without_value (mean statistic o)) self.now result }
     {
         self.look_statistic(statistic, entity)
     }
@@ -115,7 +115,7 @@ impl World {
     #[inline(never)]
     pub fn mean(&self, statistic: usize, entity: i64) -> Result<(i128, i64), FaultKind>
         requires subject { HasValidSubject self.now statistic }
-        ensures value { (o : Option ValueSeen) → RefersToSubject self.now statistic o entity → Looks (mean statistic o) self.now result }
+        ensures value { (o : Option ValueSeen) → IsReferenceToSubject self.now statistic o entity → HasAnswer (mean statistic o) self.now result }
         ensures is_mean { IfOk result (λ mean. IsMean mean.0 mean.1) }
     {
         match self.look_statistic(statistic, entity) {
@@ -161,7 +161,7 @@ impl World {
 
     // The history of a statistic of an entity starts afresh, with the present value.
     fn renew(&mut self, statistic: usize, entity: i64, present: i64) -> Result<(), FaultKind>
-        ensures { Changes (renewed_known statistic entity present) self.old self.new result }
+        ensures { HasChanged (renewed_known statistic entity present) self.old self.new result }
     {
         if self.timeline.renew(statistic, entity, present) {
             Ok(())
@@ -175,7 +175,7 @@ impl World {
     #[inline(never)]
     pub fn reset(&mut self, statistic: usize, entity: i64, held: i64) -> Result<(), FaultKind>
         requires subject { HasValidSubject self.old statistic }
-        ensures { (o : Option ValueSeen) → RefersToSubject self.old statistic o entity → ChangesWhere (λ s. IsRight (reset statistic o s) × HoldsSubject statistic held s) (reset statistic o) self.old self.new result }
+        ensures { (o : Option ValueSeen) → IsReferenceToSubject self.old statistic o entity → HasChangedWhere (λ s. IsRight (reset statistic o s) × IsHeldBySubject statistic held s) (reset statistic o) self.old self.new result }
     {
         match self.present_value(statistic, entity, held) {
             Err(kind) => Err(kind),

@@ -25,14 +25,14 @@ use Rattle.ss_world.specs.Order.{comes_before}
 use Rattle.ss_world.specs.PendingList.{PendingList, scheduling_limit, is_pending, without_notice, earlier_notice, least, with_entry, scheduled, cancelled}
 use Rattle.ss_program.specs.declared.expression.Variable.TheVariants.{Global}
 use Rattle.ss_program.specs.Program.{Event, Program}
-use Rattle.ss_program.specs.WellTyped.{WellTyped, field_mode, fields_of, kind_of_class as kind_said, is_created_singly, GoodKeys, GoodEvent, IsPlain}
+use Rattle.ss_program.specs.WellTyped.{IsWellTyped, field_mode, fields_of, kind_of_class as kind_said, is_created_singly, AreTypedKeys, IsTypedEvent, IsPlain}
 use Rattle.ss_meaning.specs.Values.{if_ok, turned, due, sure, unless_fault, number_of}
 use Rattle.ss_meaning.specs.Store.{Notices, Store, with_heap, with_pending}
 use Rattle.ss_meaning.specs.Entities.{entity, attribute, made_one}
 use Rattle.ss_meaning.specs.Places.{assigned_attribute}
 use Rattle.ss_meaning.specs.Events.{Moment, AtTime, Later, AtOnce, not_past, time_at, endowed, with_notice_time, prepared, made_notice, Ranked, ranked_from, ranked, ties_of, filed_notice, rescheduled, unscheduled, is_awaited, Beginning, attributes_given, saved_or_gone, Coming, at_event, ranked_as, coming_as, coming_with, next_event, event_begun}
 use Rattle.ss_meaning.specs.Meaning.{said_of}
-use Rattle.ss_meaning.specs.Fitting.{Hold, class_of_record, LivesAs, Lives, IsNotice, Fits}
+use Rattle.ss_meaning.specs.Fitting.{AreOfModes, class_of_record, IsLivingAs, IsLiving, IsNotice, IsFittingStore}
 use Rattle.ss_meaning.proofs.Fine.{Fine, Sane, There, Any, fine_then, fine_turned, due_fine, any_due, sure_fine, unless_fine}
 use Rattle.ss_meaning.proofs.Lists.{every_get, every_both, every_filter}
 use Rattle.ss_meaning.proofs.Heaps.{Changed, timed_sane}
@@ -119,8 +119,8 @@ ranked_from_there (e ∷ es) k i c q = by (e.class == c) refl i q (ranked_from_t
     by false g zero q h = let same : e.class ≡ c = cc in absurd (eqb-false e.class c g same)
     by false g (suc i) q h = weaker (ranked_from (k + 1) (map said_of es) c) (h i c q)
 
-module _ (p : Program) (typed : WellTyped p) (ms : List Mode) where
-  pub ranked_there : (c : ℕ) (s : Store) → kind_said p c ≡ Some Notice → Fits p ms s → There (RankedAs p.events c) (ranked c s)
+module _ (p : Program) (typed : IsWellTyped p) (ms : List Mode) where
+  pub ranked_there : (c : ℕ) (s : Store) → kind_said p c ≡ Some Notice → IsFittingStore p ms s → There (RankedAs p.events c) (ranked c s)
   ranked_there c s q f =
       let found = contains_get (map (λ (e : Event). e.class) p.events) c (typed.served c q) in
       subst (λ t. There (RankedAs p.events c) (ranked_from 0 t.notices c)) (sym f.sound.world.setting)
@@ -132,8 +132,8 @@ module _ (p : Program) (typed : WellTyped p) (ms : List Mode) where
           record { event = h.2.0; there = subst (λ k. slice_get p.events k ≡ Some h.2.0) (sym (h.1 ∙ one)) h.2.1; said = h.2.2; class = h.2.3 }
       weaker None h = absurd h
 
-  good_event : (k : ℕ) (e : Event) → slice_get p.events k ≡ Some e → GoodEvent p e
-  good_event k e q = every_get (GoodEvent p) p.events k e typed.events q
+  good_event : (k : ℕ) (e : Event) → slice_get p.events k ≡ Some e → IsTypedEvent p e
+  good_event k e q = every_get (IsTypedEvent p) p.events k e typed.events q
 
   alone : (c : ℕ) → kind_said p c ≡ Some Notice → is_created_singly (kind_said p c) ≡ true
   alone c q = ap is_created_singly q
@@ -172,36 +172,36 @@ module _ (p : Program) (typed : WellTyped p) (ms : List Mode) where
       let none_on : 0 + i ≡ i = omega arith in
       subst (λ j. field_mode p c j ≡ Some m) (sym none_on) (ap (λ o. option_and_then (λ fs. slice_get fs i) o) q ∙ taken_get n modes i m g)
 
-  pub endowed_fine : (c k : ℕ) (x : Value) (vs : List Value) (ns : List Mode) (s : Store) → Hold vs ns → FieldsAre c k ns → mode_of x ≡ Integer → Fits p ms s → Fine (Fits p ms) (endowed c k x vs s)
+  pub endowed_fine : (c k : ℕ) (x : Value) (vs : List Value) (ns : List Mode) (s : Store) → AreOfModes vs ns → FieldsAre c k ns → mode_of x ≡ Integer → IsFittingStore p ms s → Fine (IsFittingStore p ms) (endowed c k x vs s)
   endowed_fine c k x [] ns s h g m f = f
   endowed_fine c k x (v ∷ vs) [] s h g m f = absurd cc
   endowed_fine c k x (v ∷ vs) (n ∷ ns) s h g m f =
       let here : mode_of v ≡ n = cc in
-      let rest : Hold vs ns = cc in
-      fine_then (Fits p ms) (assigned_attribute c k x v s) (endowed c (k + 1) x vs) (attribute_assigned_fine p typed ms c k n x v s (first_field c k n ns g) m here f) (λ t ft.
+      let rest : AreOfModes vs ns = cc in
+      fine_then (IsFittingStore p ms) (assigned_attribute c k x v s) (endowed c (k + 1) x vs) (attribute_assigned_fine p typed ms c k n x v s (first_field c k n ns g) m here f) (λ t ft.
       endowed_fine c (k + 1) x vs ns t rest (later_fields c k n ns g) m ft)
 
-  with_time_fine : (x : Value) (t : ℤ) (s : Store) → mode_of x ≡ Integer → Fits p ms s → Fine (Fits p ms) (with_notice_time x t s)
+  with_time_fine : (x : Value) (t : ℤ) (s : Store) → mode_of x ≡ Integer → IsFittingStore p ms s → Fine (IsFittingStore p ms) (with_notice_time x t s)
   with_time_fine x t s m f =
-      fine_then (Fits p ms) (number_of x) (λ n. turned (with_heap s) (due (timed s.world.heap n t))) (number_fine x m) (λ n u.
-      fine_turned (Fits p ms) (with_heap s) (due (timed s.world.heap n t)) (due_fine (Changed s.world.heap) (timed s.world.heap n t) (timed_sane s.world.heap n t f.sound.world.heap)) (λ h g. heap_fits p ms s h f g))
+      fine_then (IsFittingStore p ms) (number_of x) (λ n. turned (with_heap s) (due (timed s.world.heap n t))) (number_fine x m) (λ n u.
+      fine_turned (IsFittingStore p ms) (with_heap s) (due (timed s.world.heap n t)) (due_fine (Changed s.world.heap) (timed s.world.heap n t) (timed_sane s.world.heap n t f.sound.world.heap)) (λ h g. heap_fits p ms s h f g))
 
-  prepared_fine : (c : ℕ) (x : Value) (vs : List Value) (ns : List Mode) (t : ℤ) (s : Store) → Hold vs ns → FieldsAre c 0 ns → mode_of x ≡ Integer → Fits p ms s → Fine (Fits p ms) (prepared c x vs t s)
+  prepared_fine : (c : ℕ) (x : Value) (vs : List Value) (ns : List Mode) (t : ℤ) (s : Store) → AreOfModes vs ns → FieldsAre c 0 ns → mode_of x ≡ Integer → IsFittingStore p ms s → Fine (IsFittingStore p ms) (prepared c x vs t s)
   prepared_fine c x vs ns t s h g m f =
-      fine_then (Fits p ms) (endowed c 0 x vs s) (with_notice_time x t) (endowed_fine c 0 x vs ns s h g m f) (λ r fr. with_time_fine x t r m fr)
+      fine_then (IsFittingStore p ms) (endowed c 0 x vs s) (with_notice_time x t) (endowed_fine c 0 x vs ns s h g m f) (λ r fr. with_time_fine x t r m fr)
 
-  pub made_notice_fine : (c : ℕ) (vs : List Value) (ns : List Mode) (t : ℤ) (s : Store) → kind_said p c ≡ Some Notice → Hold vs ns → FieldsAre c 0 ns → Fits p ms s → Fine (λ b. (mode_of b.0 ≡ Integer) × Fits p ms b.1) (made_notice c vs t s)
+  pub made_notice_fine : (c : ℕ) (vs : List Value) (ns : List Mode) (t : ℤ) (s : Store) → kind_said p c ≡ Some Notice → AreOfModes vs ns → FieldsAre c 0 ns → IsFittingStore p ms s → Fine (λ b. (mode_of b.0 ≡ Integer) × IsFittingStore p ms b.1) (made_notice c vs t s)
   made_notice_fine c vs ns t s q h g f =
-      fine_then (λ b. (mode_of b.0 ≡ Integer) × Fits p ms b.1) (made_one c s) (λ b. turned (λ r. (b.0, r)) (prepared c b.0 vs t b.1)) (made_one_fine p typed ms c s (alone c q) f) (λ b new.
-      fine_turned (λ b. (mode_of b.0 ≡ Integer) × Fits p ms b.1) (λ r. (b.0, r)) (prepared c b.0 vs t b.1) (prepared_fine c b.0 vs ns t b.1 h g new.0 new.1) (λ r fr. (new.0, fr)))
+      fine_then (λ b. (mode_of b.0 ≡ Integer) × IsFittingStore p ms b.1) (made_one c s) (λ b. turned (λ r. (b.0, r)) (prepared c b.0 vs t b.1)) (made_one_fine p typed ms c s (alone c q) f) (λ b new.
+      fine_turned (λ b. (mode_of b.0 ≡ Integer) × IsFittingStore p ms b.1) (λ r. (b.0, r)) (prepared c b.0 vs t b.1) (prepared_fine c b.0 vs ns t b.1 h g new.0 new.1) (λ r fr. (new.0, fr)))
 
-  ties_fine : (c : ℕ) (x : Value) (s : Store) (keys : List RankKey) → GoodKeys p c keys → mode_of x ≡ Integer → Fits p ms s → Fine Any (ties_of c x s keys)
+  ties_fine : (c : ℕ) (x : Value) (s : Store) (keys : List RankKey) → AreTypedKeys p c keys → mode_of x ≡ Integer → IsFittingStore p ms s → Fine Any (ties_of c x s keys)
   ties_fine c x s [] h m f = tt
   ties_fine c x s (key ∷ keys) h m f =
       fine_then Any (attribute c key.field x s) (λ v. turned (λ ts. record { value = v; high = key.high } ∷ ts) (ties_of c x s keys)) (attribute_fine p typed ms c key.field h.0.0 x s h.0.1 m f) (λ v g.
       fine_turned Any (λ ts. record { value = v; high = key.high } ∷ ts) (ties_of c x s keys) (ties_fine c x s keys h.1 m f) (λ ts u. tt))
 
-  pending_fits : (s : Store) (q : PendingList) → Fits p ms s → Every (λ (e : PendingNotice). IsNotice s.world.heap e.notice) q.entries → Fits p ms (with_pending s q)
+  pending_fits : (s : Store) (q : PendingList) → IsFittingStore p ms s → Every (λ (e : PendingNotice). IsNotice s.world.heap e.notice) q.entries → IsFittingStore p ms (with_pending s q)
   pending_fits s q f h = record {
     sound = record {
       globals = f.sound.globals;
@@ -210,13 +210,13 @@ module _ (p : Program) (typed : WellTyped p) (ms : List Mode) where
     locals = f.locals;
   }
 
-  kind_here : (c : ℕ) (s : Store) → kind_said p c ≡ Some Notice → Fits p ms s → kind_of s.world.heap.layout c ≡ Notice
+  kind_here : (c : ℕ) (s : Store) → kind_said p c ≡ Some Notice → IsFittingStore p ms s → kind_of s.world.heap.layout c ≡ Notice
   kind_here c s q f = let cl = class_said p c Notice q in ap (λ l. kind_in (slice_get l.classes c)) f.sound.world.layout ∙ ap kind_in cl.1 ∙ cl.2
 
-  is_notice_here : (c : ℕ) (n : ℤ) (s : Store) → kind_said p c ≡ Some Notice → Fits p ms s → Lives s.world.heap c n → IsNotice s.world.heap n
-  is_notice_here c n s q f l = (c, subst (λ k. LivesAs k s.world.heap c n) (kind_here c s q f) l, kind_here c s q f)
+  is_notice_here : (c : ℕ) (n : ℤ) (s : Store) → kind_said p c ≡ Some Notice → IsFittingStore p ms s → IsLiving s.world.heap c n → IsNotice s.world.heap n
+  is_notice_here c n s q f l = (c, subst (λ k. IsLivingAs k s.world.heap c n) (kind_here c s q f) l, kind_here c s q f)
 
-  scheduled_sane : (key : SortKey) (n : ℤ) (s : Store) → Fits p ms s → IsNotice s.world.heap n → Sane (λ (q : PendingList). Every (λ (e : PendingNotice). IsNotice s.world.heap e.notice) q.entries) (scheduled key n s.world.pending)
+  scheduled_sane : (key : SortKey) (n : ℤ) (s : Store) → IsFittingStore p ms s → IsNotice s.world.heap n → Sane (λ (q : PendingList). Every (λ (e : PendingNotice). IsNotice s.world.heap e.notice) q.entries) (scheduled key n s.world.pending)
   scheduled_sane key n s f h = by (is_pending n s.world.pending.entries) (s.world.pending.schedulings == scheduling_limit)
     where
       by : (b c : Bool) → Sane (λ (q : PendingList). Every (λ (e : PendingNotice). IsNotice s.world.heap e.notice) q.entries) (if b then Err faults.AlreadyScheduled else if c then Err faults.Overflow else Ok (with_entry key n s.world.pending))
@@ -224,40 +224,40 @@ module _ (p : Program) (typed : WellTyped p) (ms : List Mode) where
       by false true = tt
       by false false = every_both (λ (e : PendingNotice). IsNotice s.world.heap e.notice) s.world.pending.entries (record { key = key; number = s.world.pending.schedulings; notice = n } ∷ []) f.sound.world.pending (h, tt)
 
-  pub filed_notice_fine : (c : ℕ) (x : Value) (t : ℤ) (s : Store) → kind_said p c ≡ Some Notice → mode_of x ≡ Integer → Fits p ms s → Fine (Fits p ms) (filed_notice c x t s)
+  pub filed_notice_fine : (c : ℕ) (x : Value) (t : ℤ) (s : Store) → kind_said p c ≡ Some Notice → mode_of x ≡ Integer → IsFittingStore p ms s → Fine (IsFittingStore p ms) (filed_notice c x t s)
   filed_notice_fine c x t s q m f =
       let cl = class_said p c Notice q in
-      fine_then (Fits p ms) (entity c x s) (λ n. if_ok (sure (ranked c s)) (λ r. if_ok (ties_of c x s r.said.ties) (λ ties. unless_fault (int_lt t s.world.time) faults.PastTime (turned (with_pending s) (due (scheduled (record { time = t; rank = r.rank; ties = ties }) n s.world.pending)))))) (entity_fine p typed ms c cl.0 x s cl.1 m f) (λ n l.
-      fine_then (Fits p ms) (sure (ranked c s)) (λ r. if_ok (ties_of c x s r.said.ties) (λ ties. unless_fault (int_lt t s.world.time) faults.PastTime (turned (with_pending s) (due (scheduled (record { time = t; rank = r.rank; ties = ties }) n s.world.pending))))) (sure_fine (RankedAs p.events c) (ranked c s) (ranked_there c s q f)) (λ r ok.
-      fine_then (Fits p ms) (ties_of c x s r.said.ties) (λ ties. unless_fault (int_lt t s.world.time) faults.PastTime (turned (with_pending s) (due (scheduled (record { time = t; rank = r.rank; ties = ties }) n s.world.pending)))) (ties_fine c x s r.said.ties (keys r ok) m f) (λ ties u.
-      unless_fine (Fits p ms) (int_lt t s.world.time) faults.PastTime (turned (with_pending s) (due (scheduled (record { time = t; rank = r.rank; ties = ties }) n s.world.pending))) (λ due_time.
-      fine_turned (Fits p ms) (with_pending s) (due (scheduled (record { time = t; rank = r.rank; ties = ties }) n s.world.pending))
+      fine_then (IsFittingStore p ms) (entity c x s) (λ n. if_ok (sure (ranked c s)) (λ r. if_ok (ties_of c x s r.said.ties) (λ ties. unless_fault (int_lt t s.world.time) faults.PastTime (turned (with_pending s) (due (scheduled (record { time = t; rank = r.rank; ties = ties }) n s.world.pending)))))) (entity_fine p typed ms c cl.0 x s cl.1 m f) (λ n l.
+      fine_then (IsFittingStore p ms) (sure (ranked c s)) (λ r. if_ok (ties_of c x s r.said.ties) (λ ties. unless_fault (int_lt t s.world.time) faults.PastTime (turned (with_pending s) (due (scheduled (record { time = t; rank = r.rank; ties = ties }) n s.world.pending))))) (sure_fine (RankedAs p.events c) (ranked c s) (ranked_there c s q f)) (λ r ok.
+      fine_then (IsFittingStore p ms) (ties_of c x s r.said.ties) (λ ties. unless_fault (int_lt t s.world.time) faults.PastTime (turned (with_pending s) (due (scheduled (record { time = t; rank = r.rank; ties = ties }) n s.world.pending)))) (ties_fine c x s r.said.ties (keys r ok) m f) (λ ties u.
+      unless_fine (IsFittingStore p ms) (int_lt t s.world.time) faults.PastTime (turned (with_pending s) (due (scheduled (record { time = t; rank = r.rank; ties = ties }) n s.world.pending))) (λ due_time.
+      fine_turned (IsFittingStore p ms) (with_pending s) (due (scheduled (record { time = t; rank = r.rank; ties = ties }) n s.world.pending))
       (due_fine (λ (q : PendingList). Every (λ (e : PendingNotice). IsNotice s.world.heap e.notice) q.entries) (scheduled (record { time = t; rank = r.rank; ties = ties }) n s.world.pending) (scheduled_sane (record { time = t; rank = r.rank; ties = ties }) n s f (is_notice_here c n s q f l.1))) (λ d h. pending_fits s d f h)))))
     where
-      keys : (r : Ranked) → RankedAs p.events c r → GoodKeys p c r.said.ties
+      keys : (r : Ranked) → RankedAs p.events c r → AreTypedKeys p c r.said.ties
       keys r ok =
-          let good : GoodEvent p ok.event = good_event r.rank ok.event ok.there in
-          subst (λ (n : Notices). GoodKeys p c n.ties) (sym ok.said) (subst (λ d. GoodKeys p d ok.event.ties) ok.class good.ties)
+          let good : IsTypedEvent p ok.event = good_event r.rank ok.event ok.there in
+          subst (λ (n : Notices). AreTypedKeys p c n.ties) (sym ok.said) (subst (λ d. AreTypedKeys p d ok.event.ties) ok.class good.ties)
 
-  pub rescheduled_fine : (c : ℕ) (x : Value) (vs : List Value) (ns : List Mode) (t : ℤ) (s : Store) → kind_said p c ≡ Some Notice → Hold vs ns → FieldsAre c 0 ns → mode_of x ≡ Integer → Fits p ms s → Fine (Fits p ms) (rescheduled c x vs t s)
+  pub rescheduled_fine : (c : ℕ) (x : Value) (vs : List Value) (ns : List Mode) (t : ℤ) (s : Store) → kind_said p c ≡ Some Notice → AreOfModes vs ns → FieldsAre c 0 ns → mode_of x ≡ Integer → IsFittingStore p ms s → Fine (IsFittingStore p ms) (rescheduled c x vs t s)
   rescheduled_fine c x vs ns t s q h g m f =
       let cl = class_said p c Notice q in
-      fine_then (Fits p ms) (entity c x s) (λ n. unless_fault (is_pending n s.world.pending.entries) faults.AlreadyScheduled (if_ok (prepared c x vs t s) (filed_notice c x t))) (entity_fine p typed ms c cl.0 x s cl.1 m f) (λ n l.
-      unless_fine (Fits p ms) (is_pending n s.world.pending.entries) faults.AlreadyScheduled (if_ok (prepared c x vs t s) (filed_notice c x t)) (λ e.
-      fine_then (Fits p ms) (prepared c x vs t s) (filed_notice c x t) (prepared_fine c x vs ns t s h g m f) (λ r fr. filed_notice_fine c x t r q m fr)))
+      fine_then (IsFittingStore p ms) (entity c x s) (λ n. unless_fault (is_pending n s.world.pending.entries) faults.AlreadyScheduled (if_ok (prepared c x vs t s) (filed_notice c x t))) (entity_fine p typed ms c cl.0 x s cl.1 m f) (λ n l.
+      unless_fine (IsFittingStore p ms) (is_pending n s.world.pending.entries) faults.AlreadyScheduled (if_ok (prepared c x vs t s) (filed_notice c x t)) (λ e.
+      fine_then (IsFittingStore p ms) (prepared c x vs t s) (filed_notice c x t) (prepared_fine c x vs ns t s h g m f) (λ r fr. filed_notice_fine c x t r q m fr)))
 
-  cancelled_sane : (n : ℤ) (s : Store) → Fits p ms s → Sane (λ (q : PendingList). Every (λ (e : PendingNotice). IsNotice s.world.heap e.notice) q.entries) (cancelled n s.world.pending)
+  cancelled_sane : (n : ℤ) (s : Store) → IsFittingStore p ms s → Sane (λ (q : PendingList). Every (λ (e : PendingNotice). IsNotice s.world.heap e.notice) q.entries) (cancelled n s.world.pending)
   cancelled_sane n s f = by (is_pending n s.world.pending.entries)
     where
       by : (b : Bool) → Sane (λ (q : PendingList). Every (λ (e : PendingNotice). IsNotice s.world.heap e.notice) q.entries) (if b then Ok (record s.world.pending { entries = without_notice n s.world.pending.entries }) else Err faults.NotScheduled)
       by true = every_filter (λ (e : PendingNotice). IsNotice s.world.heap e.notice) (λ (e : PendingNotice). IsNotice s.world.heap e.notice) (λ e. not (int_eq n e.notice)) s.world.pending.entries f.sound.world.pending (λ e h t. h)
       by false = tt
 
-  pub unscheduled_fine : (c : ℕ) (x : Value) (s : Store) → kind_said p c ≡ Some Notice → mode_of x ≡ Integer → Fits p ms s → Fine (Fits p ms) (unscheduled c x s)
+  pub unscheduled_fine : (c : ℕ) (x : Value) (s : Store) → kind_said p c ≡ Some Notice → mode_of x ≡ Integer → IsFittingStore p ms s → Fine (IsFittingStore p ms) (unscheduled c x s)
   unscheduled_fine c x s q m f =
       let cl = class_said p c Notice q in
-      fine_then (Fits p ms) (entity c x s) (λ n. turned (with_pending s) (due (cancelled n s.world.pending))) (entity_fine p typed ms c cl.0 x s cl.1 m f) (λ n l.
-      fine_turned (Fits p ms) (with_pending s) (due (cancelled n s.world.pending)) (due_fine (λ (q : PendingList). Every (λ (e : PendingNotice). IsNotice s.world.heap e.notice) q.entries) (cancelled n s.world.pending) (cancelled_sane n s f)) (λ d h. pending_fits s d f h))
+      fine_then (IsFittingStore p ms) (entity c x s) (λ n. turned (with_pending s) (due (cancelled n s.world.pending))) (entity_fine p typed ms c cl.0 x s cl.1 m f) (λ n l.
+      fine_turned (IsFittingStore p ms) (with_pending s) (due (cancelled n s.world.pending)) (due_fine (λ (q : PendingList). Every (λ (e : PendingNotice). IsNotice s.world.heap e.notice) q.entries) (cancelled n s.world.pending) (cancelled_sane n s f)) (λ d h. pending_fits s d f h))
 
   -- ## Events
 
@@ -269,16 +269,16 @@ module _ (p : Program) (typed : WellTyped p) (ms : List Mode) where
     pub number : ℤ
     pub notice : c.notice ≡ Whole number
     pub apart : Every (λ (e : PendingNotice). number ≡ e.notice → ⊥) c.store.world.pending.entries
-    pub fits : Fits p ms c.store
+    pub fits : IsFittingStore p ms c.store
 
-  said_kind : (c : ℕ) (s : Store) → Fits p ms s → kind_of s.world.heap.layout c ≡ Notice → kind_said p c ≡ Some Notice
+  said_kind : (c : ℕ) (s : Store) → IsFittingStore p ms s → kind_of s.world.heap.layout c ≡ Notice → kind_said p c ≡ Some Notice
   said_kind c s f q = by (slice_get p.layout.classes c) (sym (ap (λ l. kind_in (slice_get l.classes c)) f.sound.world.layout) ∙ q)
     where
       by : (o : Option ClassLayout) → kind_in o ≡ Notice → option_map (λ (d : ClassLayout). d.kind) o ≡ Some Notice
       by None h = absurd cc
       by (Some d) h = ap Some h
 
-  event_fits : (t : ℤ) (s : Store) (e : PendingNotice) → least s.world.pending.entries ≡ Some e → Fits p ms s → Fits p ms (at_event t s) × Every (λ (i : PendingNotice). e.notice ≡ i.notice → ⊥) (at_event t s).world.pending.entries
+  event_fits : (t : ℤ) (s : Store) (e : PendingNotice) → least s.world.pending.entries ≡ Some e → IsFittingStore p ms s → IsFittingStore p ms (at_event t s) × Every (λ (i : PendingNotice). e.notice ≡ i.notice → ⊥) (at_event t s).world.pending.entries
   event_fits t s e q f = (
     record {
       sound = record {
@@ -301,7 +301,7 @@ module _ (p : Program) (typed : WellTyped p) (ms : List Mode) where
       apart_by : (i : PendingNotice) → not (int_eq e.notice i.notice) ≡ true → e.notice ≡ i.notice → ⊥
       apart_by i t same = let are : int_eq e.notice i.notice ≡ true = (Decides-int_eq e.notice i.notice).1 same in let back : not true ≡ true = sym (ap not are) ∙ t in absurd cc
 
-  pub next_event_there : (s : Store) → is_awaited s ≡ true → Fits p ms s → There ComingAs (next_event s)
+  pub next_event_there : (s : Store) → is_awaited s ≡ true → IsFittingStore p ms s → There ComingAs (next_event s)
   next_event_there s a f = by (least s.world.pending.entries) refl a
     where
       with_class : (e : PendingNotice) → least s.world.pending.entries ≡ Some e → (class : ℕ) → kind_said p class ≡ Some Notice → (o : Option Ranked) → There (RankedAs p.events class) o → There ComingAs (coming_as o e.key.time e.notice s)
@@ -319,13 +319,13 @@ module _ (p : Program) (typed : WellTyped p) (ms : List Mode) where
           (subst (λ r. There ComingAs (coming_as (ranked_as r s) e.key.time e.notice s)) (sym n.1)
           (with_class e q n.0.class k (ranked n.0.class s) (ranked_there n.0.class s k f)))
 
-  attributes_fine : (c k : ℕ) (ns : List Mode) (x : Value) (s : Store) → FieldsAre c k ns → mode_of x ≡ Integer → Fits p ms s → Fine (λ vs. Hold vs ns) (attributes_given c k (length ns) x s)
+  attributes_fine : (c k : ℕ) (ns : List Mode) (x : Value) (s : Store) → FieldsAre c k ns → mode_of x ≡ Integer → IsFittingStore p ms s → Fine (λ vs. AreOfModes vs ns) (attributes_given c k (length ns) x s)
   attributes_fine c k [] x s g m f = refl
   attributes_fine c k (n ∷ ns) x s g m f =
-      fine_then (λ vs. Hold vs (n ∷ ns)) (attribute c k x s) (λ v. turned (λ vs. v ∷ vs) (attributes_given c (k + 1) (length ns) x s)) (attribute_fine p typed ms c k n x s (first_field c k n ns g) m f) (λ v h.
-      fine_turned (λ vs. Hold vs (n ∷ ns)) (λ vs. v ∷ vs) (attributes_given c (k + 1) (length ns) x s) (attributes_fine c (k + 1) ns x s (later_fields c k n ns g) m f) (λ vs hs. let all : Hold (v ∷ vs) (n ∷ ns) = cc in all))
+      fine_then (λ vs. AreOfModes vs (n ∷ ns)) (attribute c k x s) (λ v. turned (λ vs. v ∷ vs) (attributes_given c (k + 1) (length ns) x s)) (attribute_fine p typed ms c k n x s (first_field c k n ns g) m f) (λ v h.
+      fine_turned (λ vs. AreOfModes vs (n ∷ ns)) (λ vs. v ∷ vs) (attributes_given c (k + 1) (length ns) x s) (attributes_fine c (k + 1) ns x s (later_fields c k n ns g) m f) (λ vs hs. let all : AreOfModes (v ∷ vs) (n ∷ ns) = cc in all))
 
-  saved_fine : (o : Option ℕ) (c : ℕ) (n : ℤ) (s : Store) → IfSome o (λ k. (slice_get p.globals k ≡ Some Integer) × IsPlain p (Global k)) → kind_said p c ≡ Some Notice → Every (λ (e : PendingNotice). n ≡ e.notice → ⊥) s.world.pending.entries → Fits p ms s → Fine (Fits p ms) (saved_or_gone o c (Whole n) s)
+  saved_fine : (o : Option ℕ) (c : ℕ) (n : ℤ) (s : Store) → IfSome o (λ k. (slice_get p.globals k ≡ Some Integer) × IsPlain p (Global k)) → kind_said p c ≡ Some Notice → Every (λ (e : PendingNotice). n ≡ e.notice → ⊥) s.world.pending.entries → IsFittingStore p ms s → Fine (IsFittingStore p ms) (saved_or_gone o c (Whole n) s)
   saved_fine (Some k) c n s h q a f = global_fine p typed ms k Integer (Whole n) s h.0 refl f
   saved_fine None c n s h q a f = gone_fine p typed ms c n s (alone c q) a f
 
@@ -333,8 +333,8 @@ module _ (p : Program) (typed : WellTyped p) (ms : List Mode) where
   pub record BegunAs (b : Beginning) : Type 0 where
     pub event : Event
     pub there : slice_get p.events b.rank ≡ Some event
-    pub given : Hold b.given event.given
-    pub fits : Fits p ms b.store
+    pub given : AreOfModes b.given event.given
+    pub fits : IsFittingStore p ms b.store
 
   pub begun_fine : (c : Coming) → ComingAs c → Fine BegunAs (event_begun c)
   begun_fine c ok =
@@ -342,11 +342,11 @@ module _ (p : Program) (typed : WellTyped p) (ms : List Mode) where
       (fine_then BegunAs (attributes_given e.class 0 (length e.given) c.notice c.store) (λ vs. turned (λ t. record { rank = c.ranked.rank; given = vs; store = t }) (saved_or_gone e.saved e.class c.notice c.store))
       (attributes_fine e.class 0 e.given c.notice c.store (subst (λ ns. FieldsAre e.class 0 ns) (sym good.given) (fields_are e.class (length e.given) good.modes good.fields)) (ap mode_of ok.notice) ok.fits) (λ vs h.
       fine_turned BegunAs (λ t. record { rank = c.ranked.rank; given = vs; store = t }) (saved_or_gone e.saved e.class c.notice c.store)
-      (subst (λ x. Fine (Fits p ms) (saved_or_gone e.saved e.class x c.store)) (sym ok.notice) (saved_fine e.saved e.class ok.number c.store good.saved good.notice ok.apart ok.fits)) (λ t ft.
+      (subst (λ x. Fine (IsFittingStore p ms) (saved_or_gone e.saved e.class x c.store)) (sym ok.notice) (saved_fine e.saved e.class ok.number c.store good.saved good.notice ok.apart ok.fits)) (λ t ft.
       record { event = e; there = ok.ranked.there; given = h; fits = ft })))
     where
       e : Event
       e = ok.ranked.event
 
-      good : GoodEvent p ok.ranked.event
+      good : IsTypedEvent p ok.ranked.event
       good = good_event c.ranked.rank ok.ranked.event ok.ranked.there

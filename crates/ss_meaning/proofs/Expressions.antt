@@ -19,7 +19,7 @@ use Rattle.ss_base.specs.declared.words.Operator.{Operator}
 use Rattle.ss_base.specs.declared.words.UnaryOperator.{UnaryOperator}
 use Rattle.ss_base.specs.declared.words.Relation.{Relation}
 use Rattle.ss_program.specs.Program.{Expression, Constant, Fetch, Attribute, OfSystemSet, OfSet, OfMember, Clock, TimeOf, Figure, FigureOf, Signed, Unary, Calculate, SetOwner, TheSystem, Entity, Test, Compare, DataEnded, Empty, Member, Condition, Guard, Place, ToVariable, ToAttribute, ToCount, Position, ByDiscipline, AsFirst, AsLast, BeforeMember, AfterMember, When, At, In, Now, PrintItem, AValue, AMean, AMeanOf, Program}
-use Rattle.ss_program.specs.WellTyped.{TypedScope, WellTyped, HasMode, HaveModes, IsSet, OwnerFits, GoodTest, GoodCondition, TakesMode, GoodPosition, GoodWhen, HasSubject, IsAlone, IsOfEntities, TakesItem}
+use Rattle.ss_program.specs.WellTyped.{TypedScope, IsWellTyped, HasMode, HaveModes, IsSet, IsTypedOwner, IsTypedTest, IsTypedCondition, CanTakeMode, IsTypedPosition, IsTypedWhen, HasSubject, IsAlone, IsOfEntities, CanTakeItem}
 use Rattle.ss_meaning.specs.Values.{Failure, if_ok, turned, due, sure, computed, calculated, operator_of, signed, computed_alone, applied, related, takes, take_all}
 use Rattle.ss_meaning.specs.Store.{Store, fetched}
 use Rattle.ss_meaning.specs.Entities.{entity, attribute, time_of}
@@ -28,7 +28,7 @@ use Rattle.ss_meaning.specs.Sets.{member, known_owner, of_set, of_member, is_emp
 use Rattle.ss_meaning.specs.Events.{AtTime, Later, AtOnce, time_at}
 use Rattle.ss_meaning.specs.Statistics.{figure, mean}
 use Rattle.ss_meaning.specs.Expressions.{value, values, mean_shown, shown_item, shown_items, value_if_any, looked_at, entity_value, member_value, owner_value, owner_looked_at, spot, filing, time_value, not_if, passed, both, either, all_hold, holds, passes, all_pass}
-use Rattle.ss_meaning.specs.Fitting.{Hold, Fits}
+use Rattle.ss_meaning.specs.Fitting.{AreOfModes, IsFittingStore}
 use Rattle.ss_meaning.proofs.Fine.{Fine, There, Any, fine_then, fine_turned, any_due, sure_fine}
 use Rattle.ss_meaning.proofs.Entities.{HasField as FieldThere, field_said, entity_fine, attribute_fine, time_of_fine, fetched_there, SpotTakes}
 use Rattle.ss_meaning.proofs.Sets.{OwnerOk, set_of, member_fine, known_owner_fine, of_set_fine, of_member_fine, is_empty_fine, is_in_fine, FilingOk, AskedStatistic, figure_fine, mean_fine}
@@ -70,7 +70,7 @@ both_true true true p q = refl
 both_true true false p q = absurd cc
 both_true false b p q = absurd cc
 
-module _ (p : Program) (typed : WellTyped p) (ms : List Mode) (b : Bool) where
+module _ (p : Program) (typed : IsWellTyped p) (ms : List Mode) (b : Bool) where
   abbrev here : TypedScope
   here = record { program = p; locals = ms; is_main = b }
 
@@ -82,7 +82,7 @@ module _ (p : Program) (typed : WellTyped p) (ms : List Mode) (b : Bool) where
 
   -- ## Expressions
 
-  pub value_fine : (e : Expression) (m : Mode) → HasMode here e m → (s : Store) → Fits p ms s → Fine (HasMode_is m) (value e s)
+  pub value_fine : (e : Expression) (m : Mode) → HasMode here e m → (s : Store) → IsFittingStore p ms s → Fine (HasMode_is m) (value e s)
   value_fine (Constant v) m h s f = h
   value_fine (Fetch x) m h s f = sure_fine (HasMode_is m) (fetched x s) (fetched_there p typed ms b x m s h f)
   value_fine (Attribute c k e) m h s f =
@@ -111,27 +111,27 @@ module _ (p : Program) (typed : WellTyped p) (ms : List Mode) (b : Bool) where
       (fine_then (HasMode_is Integer) (value a s) (λ x. if_ok (value c s) (λ y. calculated op x y)) (value_fine a Integer h.1 s f) (λ x g.
       fine_then (HasMode_is Integer) (value c s) (λ y. calculated op x y) (value_fine c Integer h.2 s f) (λ y k. calculated_fine op x y g k)))
 
-  pub values_fine : (es : List Expression) (ns : List Mode) → HaveModes here es ns → (s : Store) → Fits p ms s → Fine (λ vs. Hold vs ns) (values es s)
+  pub values_fine : (es : List Expression) (ns : List Mode) → HaveModes here es ns → (s : Store) → IsFittingStore p ms s → Fine (λ vs. AreOfModes vs ns) (values es s)
   values_fine [] [] h s f = refl
   values_fine [] (n ∷ ns) h s f = absurd h
   values_fine (e ∷ es) [] h s f = absurd h
   values_fine (e ∷ es) (n ∷ ns) h s f =
-      fine_then (λ vs. Hold vs (n ∷ ns)) (value e s) (λ v. turned (λ vs. v ∷ vs) (values es s)) (value_fine e n h.0 s f) (λ v g.
-      fine_turned (λ vs. Hold vs (n ∷ ns)) (λ vs. v ∷ vs) (values es s) (values_fine es ns h.1 s f) (λ vs k. let all : Hold (v ∷ vs) (n ∷ ns) = cc in all))
+      fine_then (λ vs. AreOfModes vs (n ∷ ns)) (value e s) (λ v. turned (λ vs. v ∷ vs) (values es s)) (value_fine e n h.0 s f) (λ v g.
+      fine_turned (λ vs. AreOfModes vs (n ∷ ns)) (λ vs. v ∷ vs) (values es s) (values_fine es ns h.1 s f) (λ vs k. let all : AreOfModes (v ∷ vs) (n ∷ ns) = cc in all))
 
   -- ## Items of PRINT
 
-  mean_shown_fine : (field : Field) (k : ℕ) (o : Option Value) → field.decimals ≤ 9 → (s : Store) → AskedStatistic p typed ms k o → Fits p ms s → Fine (TakenBy field) (mean_shown (mean k o s))
+  mean_shown_fine : (field : Field) (k : ℕ) (o : Option Value) → field.decimals ≤ 9 → (s : Store) → AskedStatistic p typed ms k o → IsFittingStore p ms s → Fine (TakenBy field) (mean_shown (mean k o s))
   mean_shown_fine field k o h s a f =
       fine_turned (TakenBy field) (λ m. Mean m.0 m.1) (mean k o s) (mean_fine p typed ms k o s a f) (λ m u. le-leb field.decimals 9 h)
 
-  item_fine : (field : Field) (x : PrintItem) → TakesItem here field x → (s : Store) → Fits p ms s → Fine (TakenBy field) (shown_item x s)
+  item_fine : (field : Field) (x : PrintItem) → CanTakeItem here field x → (s : Store) → IsFittingStore p ms s → Fine (TakenBy field) (shown_item x s)
   item_fine field (AValue e) h s f = fine_turned (TakenBy field) Is (value e s) (value_fine e h.0.0 h.0.1 s f) (λ v g. eq-eqb field.decimals 0 h.1)
   item_fine field (AMean k) h s f = mean_shown_fine field k None h.1 s (asked_alone k h.0) f
   item_fine field (AMeanOf k e) h s f =
       fine_then (TakenBy field) (value e s) (λ x. mean_shown (mean k (Some x) s)) (value_fine e Integer h.1 s f) (λ x g. mean_shown_fine field k (Some x) h.2 s (asked_of k x h.0 g) f)
 
-  pub items_fine : (fields : List Field) (xs : List PrintItem) → AllZip (TakesItem here) fields xs → (s : Store) → Fits p ms s → Fine (AllTaken fields) (shown_items xs s)
+  pub items_fine : (fields : List Field) (xs : List PrintItem) → AllZip (CanTakeItem here) fields xs → (s : Store) → IsFittingStore p ms s → Fine (AllTaken fields) (shown_items xs s)
   items_fine [] [] h s f = refl
   items_fine [] (x ∷ xs) h s f = absurd h
   items_fine (field ∷ fields) [] h s f = absurd h
@@ -144,7 +144,7 @@ module _ (p : Program) (typed : WellTyped p) (ms : List Mode) (b : Bool) where
   OptionOk None = Unit {0}
   OptionOk (Some v) = mode_of v ≡ Integer
 
-  pub value_if_any_fine : (e : Option Expression) → IfSome e (λ e. HasMode here e Integer) → (s : Store) → Fits p ms s → Fine OptionOk (value_if_any e s)
+  pub value_if_any_fine : (e : Option Expression) → IfSome e (λ e. HasMode here e Integer) → (s : Store) → IsFittingStore p ms s → Fine OptionOk (value_if_any e s)
   value_if_any_fine None h s f = tt
   value_if_any_fine (Some e) h s f = fine_turned OptionOk Some (value e s) (value_fine e Integer h s f) (λ v g. g)
 
@@ -153,51 +153,51 @@ module _ (p : Program) (typed : WellTyped p) (ms : List Mode) (b : Bool) where
   looked_fine : (known : Value → Result ℤ Failure) (Q : ℤ → Type 0) (x : Value) → mode_of x ≡ Integer → Fine Q (known x) → Fine (HasMode_is Integer) (looked_at known x)
   looked_fine known Q x m h = fine_turned (HasMode_is Integer) (λ n. x) (known x) h (λ n g. m)
 
-  pub entity_value_fine : (c : ℕ) (cl : ClassLayout) (e : Expression) → Rattle.std.specs.Prelude.slice_get p.layout.classes c ≡ Some cl → HasMode here e Integer → (s : Store) → Fits p ms s → Fine (HasMode_is Integer) (entity_value c e s)
+  pub entity_value_fine : (c : ℕ) (cl : ClassLayout) (e : Expression) → Rattle.std.specs.Prelude.slice_get p.layout.classes c ≡ Some cl → HasMode here e Integer → (s : Store) → IsFittingStore p ms s → Fine (HasMode_is Integer) (entity_value c e s)
   entity_value_fine c cl e q h s f =
       fine_then (HasMode_is Integer) (value e s) (looked_at (λ x. entity c x s)) (value_fine e Integer h s f) (λ x g.
       fine_turned (HasMode_is Integer) (λ n. x) (entity c x s) (entity_fine p typed ms c cl x s q g f) (λ n k. g))
 
-  pub member_value_fine : (set : ℕ) (e : Expression) → IsSet p set → HasMode here e Integer → (s : Store) → Fits p ms s → Fine (HasMode_is Integer) (member_value set e s)
+  pub member_value_fine : (set : ℕ) (e : Expression) → IsSet p set → HasMode here e Integer → (s : Store) → IsFittingStore p ms s → Fine (HasMode_is Integer) (member_value set e s)
   member_value_fine set e q h s f =
       fine_then (HasMode_is Integer) (value e s) (looked_at (λ x. member set x s)) (value_fine e Integer h s f) (λ x g.
       fine_turned (HasMode_is Integer) (λ n. x) (member set x s) (member_fine p typed ms set x s q g f) (λ n k. g))
 
-  pub owner_value_fine : (set : ℕ) (owner : SetOwner) → OwnerFits here set owner → (s : Store) → Fits p ms s → Fine (OwnerOk p typed ms set) (owner_value owner s)
+  pub owner_value_fine : (set : ℕ) (owner : SetOwner) → IsTypedOwner here set owner → (s : Store) → IsFittingStore p ms s → Fine (OwnerOk p typed ms set) (owner_value owner s)
   owner_value_fine set TheSystem h s f = h
   owner_value_fine set (Entity e) h s f = fine_turned (OwnerOk p typed ms set) Some (value e s) (value_fine e Integer h.1 s f) (λ x g. (h.0, g))
 
-  pub owner_looked_at_fine : (set : ℕ) (owner : SetOwner) → OwnerFits here set owner → (s : Store) → Fits p ms s → Fine (OwnerOk p typed ms set) (owner_looked_at set owner s)
+  pub owner_looked_at_fine : (set : ℕ) (owner : SetOwner) → IsTypedOwner here set owner → (s : Store) → IsFittingStore p ms s → Fine (OwnerOk p typed ms set) (owner_looked_at set owner s)
   owner_looked_at_fine set owner h s f =
       fine_then (OwnerOk p typed ms set) (owner_value owner s) (λ o. turned (λ n. o) (known_owner set o s)) (owner_value_fine set owner h s f) (λ o g.
       fine_turned (OwnerOk p typed ms set) (λ n. o) (known_owner set o s) (known_owner_fine p typed ms set o s g f) (λ n k. g))
 
-  pub set_of_owner : (set : ℕ) (owner : SetOwner) → OwnerFits here set owner → IsSet p set
+  pub set_of_owner : (set : ℕ) (owner : SetOwner) → IsTypedOwner here set owner → IsSet p set
   set_of_owner set TheSystem h = set_of p typed ms set None h
   set_of_owner set (Entity e) h = set_of p typed ms set (Some (Whole (pos 0))) (h.0, refl)
 
-  pub spot_fine : (t : Place) (m : Mode) → TakesMode here t m → (s : Store) → Fits p ms s → Fine (λ x. SpotTakes p typed ms b x m) (spot t s)
+  pub spot_fine : (t : Place) (m : Mode) → CanTakeMode here t m → (s : Store) → IsFittingStore p ms s → Fine (λ x. SpotTakes p typed ms b x m) (spot t s)
   spot_fine (ToVariable x) m h s f = h.0
   spot_fine (ToAttribute c k e) m h s f =
       let there : FieldThere p c k m = field_said p c k m h.0 in
       fine_turned (λ x. SpotTakes p typed ms b x m) (InAttribute c k) (entity_value c e s) (entity_value_fine c there.class e there.there h.1 s f) (λ x g. (h.0, g))
   spot_fine (ToCount count) m h s f = h
 
-  pub filing_fine : (set : ℕ) (position : Position) → IsSet p set → GoodPosition here position → (s : Store) → Fits p ms s → Fine (FilingOk p typed ms) (filing set position s)
+  pub filing_fine : (set : ℕ) (position : Position) → IsSet p set → IsTypedPosition here position → (s : Store) → IsFittingStore p ms s → Fine (FilingOk p typed ms) (filing set position s)
   filing_fine set ByDiscipline q h s f = tt
   filing_fine set AsFirst q h s f = tt
   filing_fine set AsLast q h s f = tt
   filing_fine set (BeforeMember e) q h s f = fine_turned (FilingOk p typed ms) JustBefore (member_value set e s) (member_value_fine set e q h s f) (λ x g. g)
   filing_fine set (AfterMember e) q h s f = fine_turned (FilingOk p typed ms) JustAfter (member_value set e s) (member_value_fine set e q h s f) (λ x g. g)
 
-  pub time_value_fine : (when : When) → GoodWhen here when → (s : Store) → Fits p ms s → Fine Any (time_value when s)
+  pub time_value_fine : (when : When) → IsTypedWhen here when → (s : Store) → IsFittingStore p ms s → Fine Any (time_value when s)
   time_value_fine (At e) h s f = fine_then Any (value e s) (λ v. time_at (AtTime v) s) (value_fine e Integer h s f) (λ v g. time_at_fine p typed ms (AtTime v) s g)
   time_value_fine (In e) h s f = fine_then Any (value e s) (λ v. time_at (Later v) s) (value_fine e Integer h s f) (λ v g. time_at_fine p typed ms (Later v) s g)
   time_value_fine Now h s f = time_at_fine p typed ms AtOnce s tt
 
   -- ## Conditions
 
-  pub passed_fine : (t : Test) → GoodTest here t → (s : Store) → Fits p ms s → Fine Any (passed t s)
+  pub passed_fine : (t : Test) → IsTypedTest here t → (s : Store) → IsFittingStore p ms s → Fine Any (passed t s)
   passed_fine (Compare r a c) h s f =
       fine_then Any (value a s) (λ x. if_ok (value c s) (λ y. sure (related r x y))) (value_fine a h.0 h.1 s f) (λ x g.
       fine_then Any (value c s) (λ y. sure (related r x y)) (value_fine c h.0 h.2 s f) (λ y k. sure_fine Any (related r x y) (related_there r h.0 x y g k)))
@@ -218,14 +218,14 @@ module _ (p : Program) (typed : WellTyped p) (ms : List Mode) (b : Bool) where
   either_fine true r h = tt
   either_fine false r h = h
 
-  all_hold_fine : (ts : List Test) → Every (GoodTest here) ts → (s : Store) → Fits p ms s → Fine Any (all_hold ts s)
+  all_hold_fine : (ts : List Test) → Every (IsTypedTest here) ts → (s : Store) → IsFittingStore p ms s → Fine Any (all_hold ts s)
   all_hold_fine [] h s f = tt
   all_hold_fine (t ∷ ts) h s f = fine_then Any (passed t s) (λ c. both c (all_hold ts s)) (passed_fine t h.0 s f) (λ c u. both_fine c (all_hold ts s) (all_hold_fine ts h.1 s f))
 
-  pub holds_fine : (c : Condition) → GoodCondition here c → (s : Store) → Fits p ms s → Fine Any (holds c s)
+  pub holds_fine : (c : Condition) → IsTypedCondition here c → (s : Store) → IsFittingStore p ms s → Fine Any (holds c s)
   holds_fine [] h s f = tt
   holds_fine (ts ∷ others) h s f = fine_then Any (all_hold ts s) (λ c. either c (holds others s)) (all_hold_fine ts h.0 s f) (λ c u. either_fine c (holds others s) (holds_fine others h.1 s f))
 
-  pub all_pass_fine : (gs : List Guard) → Every (λ (g : Guard). GoodCondition here g.condition) gs → (s : Store) → Fits p ms s → Fine Any (all_pass gs s)
+  pub all_pass_fine : (gs : List Guard) → Every (λ (g : Guard). IsTypedCondition here g.condition) gs → (s : Store) → IsFittingStore p ms s → Fine Any (all_pass gs s)
   all_pass_fine [] h s f = tt
   all_pass_fine (g ∷ gs) h s f = fine_then Any (holds g.condition s) (λ c. both (passes g.kind c) (all_pass gs s)) (holds_fine g.condition h.0 s f) (λ c u. both_fine (passes g.kind c) (all_pass gs s) (all_pass_fine gs h.1 s f))

@@ -12,7 +12,7 @@ use Rattle.ss_base.specs.declared.layout.Layout.{Layout}
 use Rattle.ss_base.specs.declared.value.Value.{Value}
 use Rattle.ss_base.specs.Layout.{mode_of, first_value}
 use Rattle.ss_world.specs.State.{Record, State, kind_of, modes_of, and_then, issued_record, numbered_record, indexed_record, indexed, records_in, of_class, of_notice, is_notice, entity_in, entity_of_kind, notice, number_in, record_with_value, with_time, with_entity, with_entity_of_kind, with_indexed, value_in, assigned, timed, created, with_created, first_record, created_all, is_made, with_made, made_many, destroyed, let_go, in_a_set, owns_members, LAST_NUMBER, MOST_ENTITIES}
-use Rattle.ss_meaning.specs.Fitting.{Hold, RecordFits, HeapFits, class_of_record, living, made, IsIndex, LivesAs, Lives}
+use Rattle.ss_meaning.specs.Fitting.{AreOfModes, IsFittingRecord, IsFittingHeap, class_of_record, living, made, IsIndex, IsLivingAs, IsLiving}
 use Rattle.ss_meaning.proofs.Fine.{Sane, sane_then}
 use Rattle.ss_meaning.proofs.Lists.{every_get, every_set, every_both, every_replicate}
 
@@ -100,56 +100,56 @@ index_by h c (pos zero) r q = absurd q
 index_by h c (pos (suc i)) r q = get_within (records_in (slice_get h.permanents c)) i r q
 index_by h c (negsuc k) r q = absurd q
 
-lives_by : (k : ClassKind) (h : State) (c : ℕ) (x : ℤ) (r : Record) → IsEntityAs k h c x r → LivesAs k h c x
+lives_by : (k : ClassKind) (h : State) (c : ℕ) (x : ℤ) (r : Record) → IsEntityAs k h c x r → IsLivingAs k h c x
 lives_by Permanent h c x r q = index_by h c x r q
 lives_by Temporary h c x r q = living_by h x r q.0 ∙ ap Some q.1
 lives_by Notice h c x r q = living_by h x r q.0 ∙ ap Some q.1
 
 -- what a reference means lives
-pub entity_lives : (h : State) (c : ℕ) (x : ℤ) (r : Record) → IsEntityAs (kind_of h.layout c) h c x r → Lives h c x
+pub entity_lives : (h : State) (c : ℕ) (x : ℤ) (r : Record) → IsEntityAs (kind_of h.layout c) h c x r → IsLiving h c x
 entity_lives h c x r q = lives_by (kind_of h.layout c) h c x r q
 
 -- ## Attributes
 
-made_modes : (o : Option (Option (List Record))) (modes : List Mode) → ((rs : List Record) → o ≡ Some (Some rs) → Every (λ (r : Record). Hold r.values modes) rs) → Every (λ (r : Record). Hold r.values modes) (records_in o)
+made_modes : (o : Option (Option (List Record))) (modes : List Mode) → ((rs : List Record) → o ≡ Some (Some rs) → Every (λ (r : Record). AreOfModes r.values modes) rs) → Every (λ (r : Record). AreOfModes r.values modes) (records_in o)
 made_modes None modes h = tt
 made_modes (Some None) modes h = tt
 made_modes (Some (Some rs)) modes h = h rs refl
 
-record_modes : (h : State) (x : ℤ) (r : Record) → HeapFits h → HasRecord h x r → Hold r.values (modes_of h.layout r.class)
+record_modes : (h : State) (x : ℤ) (r : Record) → IsFittingHeap h → HasRecord h x r → AreOfModes r.values (modes_of h.layout r.class)
 record_modes h (pos zero) r f q = absurd q
-record_modes h (pos (suc i)) r f q = every_get (RecordFits h.layout) h.records i (Some r) f.0 q
+record_modes h (pos (suc i)) r f q = every_get (IsFittingRecord h.layout) h.records i (Some r) f.0 q
 record_modes h (negsuc k) r f q = absurd q
 
-indexed_modes : (h : State) (c : ℕ) (x : ℤ) (r : Record) → HeapFits h → HasIndexed h c x r → Hold r.values (modes_of h.layout c)
+indexed_modes : (h : State) (c : ℕ) (x : ℤ) (r : Record) → IsFittingHeap h → HasIndexed h c x r → AreOfModes r.values (modes_of h.layout c)
 indexed_modes h c (pos zero) r f q = absurd q
 indexed_modes h c (pos (suc i)) r f q =
-    every_get (λ (r : Record). Hold r.values (modes_of h.layout c)) (records_in (slice_get h.permanents c)) i r (made_modes (slice_get h.permanents c) (modes_of h.layout c) (f.1 c)) q
+    every_get (λ (r : Record). AreOfModes r.values (modes_of h.layout c)) (records_in (slice_get h.permanents c)) i r (made_modes (slice_get h.permanents c) (modes_of h.layout c) (f.1 c)) q
 indexed_modes h c (negsuc k) r f q = absurd q
 
-modes_by : (k : ClassKind) (h : State) (c : ℕ) (x : ℤ) (r : Record) → HeapFits h → IsEntityAs k h c x r → Hold r.values (modes_of h.layout c)
+modes_by : (k : ClassKind) (h : State) (c : ℕ) (x : ℤ) (r : Record) → IsFittingHeap h → IsEntityAs k h c x r → AreOfModes r.values (modes_of h.layout c)
 modes_by Permanent h c x r f q = indexed_modes h c x r f q
-modes_by Temporary h c x r f q = subst (λ d. Hold r.values (modes_of h.layout d)) q.1 (record_modes h x r f q.0)
-modes_by Notice h c x r f q = subst (λ d. Hold r.values (modes_of h.layout d)) q.1 (record_modes h x r f q.0)
+modes_by Temporary h c x r f q = subst (λ d. AreOfModes r.values (modes_of h.layout d)) q.1 (record_modes h x r f q.0)
+modes_by Notice h c x r f q = subst (λ d. AreOfModes r.values (modes_of h.layout d)) q.1 (record_modes h x r f q.0)
 
-mode_at : (vs : List Value) (ms : List Mode) (k : ℕ) (m : Mode) (d : Value) → Hold vs ms → slice_get ms k ≡ Some m → mode_of (slice_index_or vs k d) ≡ m
+mode_at : (vs : List Value) (ms : List Mode) (k : ℕ) (m : Mode) (d : Value) → AreOfModes vs ms → slice_get ms k ≡ Some m → mode_of (slice_index_or vs k d) ≡ m
 mode_at vs [] k m d q g = absurd cc
 mode_at [] (n ∷ ms) k m d q g = absurd cc
 mode_at (v ∷ vs) (n ∷ ms) zero m d q g = cc
-mode_at (v ∷ vs) (n ∷ ms) (suc k) m d q g = let rest : Hold vs ms = cc in mode_at vs ms k m d rest g
+mode_at (v ∷ vs) (n ∷ ms) (suc k) m d q g = let rest : AreOfModes vs ms = cc in mode_at vs ms k m d rest g
 
-pub value_sane : (h : State) (c f : ℕ) (x : ℤ) (m : Mode) → HeapFits h → slice_get (modes_of h.layout c) f ≡ Some m → Sane (λ v. mode_of v ≡ m) (value_in h c f x)
+pub value_sane : (h : State) (c f : ℕ) (x : ℤ) (m : Mode) → IsFittingHeap h → slice_get (modes_of h.layout c) f ≡ Some m → Sane (λ v. mode_of v ≡ m) (value_in h c f x)
 value_sane h c f x m fits q =
     sane_then (λ v. mode_of v ≡ m) (entity_in h c x) (λ r. Ok (slice_index_or r.values f (Rattle.ss_base.specs.declared.value.Value.TheVariants.Whole (pos 0)))) (entity_known h c x) (λ r g.
     mode_at r.values (modes_of h.layout c) f m (Rattle.ss_base.specs.declared.value.Value.TheVariants.Whole (pos 0)) (modes_by (kind_of h.layout c) h c x r fits g) q)
 
-set_modes : (vs : List Value) (ms : List Mode) (k : ℕ) (m : Mode) (v : Value) → Hold vs ms → slice_get ms k ≡ Some m → mode_of v ≡ m → Hold (slice_set vs k v) ms
+set_modes : (vs : List Value) (ms : List Mode) (k : ℕ) (m : Mode) (v : Value) → AreOfModes vs ms → slice_get ms k ≡ Some m → mode_of v ≡ m → AreOfModes (slice_set vs k v) ms
 set_modes vs [] k m v q g p = absurd cc
 set_modes [] (n ∷ ms) k m v q g p = absurd cc
 set_modes (w ∷ vs) (n ∷ ms) zero m v q g p = cc
 set_modes (w ∷ vs) (n ∷ ms) (suc k) m v q g p =
-    let rest : Hold vs ms = cc in
-    let later : Hold (slice_set vs k v) ms = set_modes vs ms k m v rest g p in cc
+    let rest : AreOfModes vs ms = cc in
+    let later : AreOfModes (slice_set vs k v) ms = set_modes vs ms k m v rest g p in cc
 
 -- another record of the same class in place of one
 set_class : (rs : List (Option Record)) (i : ℕ) (r q : Record) → slice_get rs i ≡ Some (Some r) → q.class ≡ r.class → (j : ℕ) → class_of_record (slice_get (slice_set rs i (Some q)) j) ≡ class_of_record (slice_get rs j)
@@ -177,11 +177,11 @@ set_same h i r q g c = record { layout = refl; living = lives; made = λ k. refl
 
 -- with the heap that fits
 abbrev pub Changed : State → State → Type 0
-Changed h t = HeapFits t × Same h t
+Changed h t = IsFittingHeap t × Same h t
 
-set_single : (h : State) (i : ℕ) (r q : Record) → HeapFits h → slice_get h.records i ≡ Some (Some r) → q.class ≡ r.class → Hold q.values (modes_of h.layout r.class) → Changed h (record h { records = slice_set h.records i (Some q) })
+set_single : (h : State) (i : ℕ) (r q : Record) → IsFittingHeap h → slice_get h.records i ≡ Some (Some r) → q.class ≡ r.class → AreOfModes q.values (modes_of h.layout r.class) → Changed h (record h { records = slice_set h.records i (Some q) })
 set_single h i r q f g c m =
-    ((every_set (RecordFits h.layout) h.records i (Some q) f.0 (subst (λ d. Hold q.values (modes_of h.layout d)) (sym c) m), f.1), set_same h i r q g c)
+    ((every_set (IsFittingRecord h.layout) h.records i (Some q) f.0 (subst (λ d. AreOfModes q.values (modes_of h.layout d)) (sym c) m), f.1), set_same h i r q g c)
 
 -- the number of an entity that is there
 number_is : (h : State) (x : ℤ) (r : Record) → HasRecord h x r → slice_get h.records (number_in x - 1) ≡ Some (Some r)
@@ -204,14 +204,14 @@ made_at (o ∷ ps) (suc c) i r (suc k) = made_at ps c i r k
 
 -- they all hold these modes
 abbrev pub RowFits : List Mode → Option (Option (List Record)) → Type 0
-RowFits modes o = (rs : List Record) → o ≡ Some (Some rs) → Every (λ (r : Record). Hold r.values modes) rs
+RowFits modes o = (rs : List Record) → o ≡ Some (Some rs) → Every (λ (r : Record). AreOfModes r.values modes) rs
 
-row_set : (modes : List Mode) (o : Option (Option (List Record))) (i : ℕ) (r : Record) → RowFits modes o → Hold r.values modes → RowFits modes (Some (with_indexed o i r))
+row_set : (modes : List Mode) (o : Option (Option (List Record))) (i : ℕ) (r : Record) → RowFits modes o → AreOfModes r.values modes → RowFits modes (Some (with_indexed o i r))
 row_set modes None i r h g rs q = absurd cc
 row_set modes (Some None) i r h g rs q = absurd cc
 row_set modes (Some (Some qs)) i r h g rs q =
     let there : slice_set qs (i - 1) r ≡ rs = cc in
-    subst (λ xs. Every (λ (r : Record). Hold r.values modes) xs) there (every_set (λ (r : Record). Hold r.values modes) qs (i - 1) r (h qs refl) g)
+    subst (λ xs. Every (λ (r : Record). AreOfModes r.values modes) xs) there (every_set (λ (r : Record). AreOfModes r.values modes) qs (i - 1) r (h qs refl) g)
 
 rows_set : (ps : List (Option (List Record))) (modes : ℕ → List Mode) (c : ℕ) (o : Option (List Record)) → ((k : ℕ) → RowFits (modes k) (slice_get ps k)) → RowFits (modes c) (Some o) → (k : ℕ) → RowFits (modes k) (slice_get (slice_set ps c o) k)
 rows_set [] modes c o h g k = h k
@@ -220,7 +220,7 @@ rows_set (p ∷ ps) modes zero o h g (suc k) = h (suc k)
 rows_set (p ∷ ps) modes (suc c) o h g zero = h zero
 rows_set (p ∷ ps) modes (suc c) o h g (suc k) = rows_set ps (λ j. modes (suc j)) c o (λ j. h (suc j)) g k
 
-indexed_changed : (h : State) (c : ℕ) (n : ℕ) (r : Record) → HeapFits h → Hold r.values (modes_of h.layout c) → Changed h (with_entity_of_kind h Permanent c n r)
+indexed_changed : (h : State) (c : ℕ) (n : ℕ) (r : Record) → IsFittingHeap h → AreOfModes r.values (modes_of h.layout c) → Changed h (with_entity_of_kind h Permanent c n r)
 indexed_changed h c n r f m = (
   (f.0, rows_set h.permanents (modes_of h.layout) c (with_indexed (slice_get h.permanents c) n r) f.1 (row_set (modes_of h.layout c) (slice_get h.permanents c) n r (f.1 c) m)),
   record { layout = refl; living = lives; made = made_at h.permanents c n r },
@@ -231,13 +231,13 @@ indexed_changed h c n r f m = (
     lives (pos (suc j)) = refl
     lives (negsuc k) = refl
 
-assigned_by : (k : ClassKind) (h : State) (c : ℕ) (x : ℤ) (r q : Record) → HeapFits h → IsEntityAs k h c x r → q.class ≡ r.class → Hold q.values (modes_of h.layout c) → Changed h (with_entity_of_kind h k c (number_in x) q)
+assigned_by : (k : ClassKind) (h : State) (c : ℕ) (x : ℤ) (r q : Record) → IsFittingHeap h → IsEntityAs k h c x r → q.class ≡ r.class → AreOfModes q.values (modes_of h.layout c) → Changed h (with_entity_of_kind h k c (number_in x) q)
 assigned_by Permanent h c x r q f e g m = indexed_changed h c (number_in x) q f m
-assigned_by Temporary h c x r q f e g m = set_single h (number_in x - 1) r q f (number_is h x r e.0) g (subst (λ d. Hold q.values (modes_of h.layout d)) (sym e.1) m)
-assigned_by Notice h c x r q f e g m = set_single h (number_in x - 1) r q f (number_is h x r e.0) g (subst (λ d. Hold q.values (modes_of h.layout d)) (sym e.1) m)
+assigned_by Temporary h c x r q f e g m = set_single h (number_in x - 1) r q f (number_is h x r e.0) g (subst (λ d. AreOfModes q.values (modes_of h.layout d)) (sym e.1) m)
+assigned_by Notice h c x r q f e g m = set_single h (number_in x - 1) r q f (number_is h x r e.0) g (subst (λ d. AreOfModes q.values (modes_of h.layout d)) (sym e.1) m)
 
 -- an attribute is assigned a value of its mode
-pub assigned_sane : (h : State) (c f : ℕ) (x : ℤ) (v : Value) (m : Mode) → HeapFits h → slice_get (modes_of h.layout c) f ≡ Some m → mode_of v ≡ m → Sane (Changed h) (assigned h c f x v)
+pub assigned_sane : (h : State) (c f : ℕ) (x : ℤ) (v : Value) (m : Mode) → IsFittingHeap h → slice_get (modes_of h.layout c) f ≡ Some m → mode_of v ≡ m → Sane (Changed h) (assigned h c f x v)
 assigned_sane h c f x v m fits q g =
     sane_then (Changed h) (entity_in h c x) (λ r. Ok (with_entity h c (number_in x) (record_with_value r f v))) (entity_known h c x) (λ r e.
     assigned_by (kind_of h.layout c) h c x r (record_with_value r f v) fits e refl (set_modes r.values (modes_of h.layout c) f m v (modes_by (kind_of h.layout c) h c x r fits e) q g))
@@ -262,7 +262,7 @@ notice_known h x =
     weaken r (Err k) g p = tt
 
 -- TIME.A of a notice is set
-pub timed_sane : (h : State) (x t : ℤ) → HeapFits h → Sane (Changed h) (timed h x t)
+pub timed_sane : (h : State) (x t : ℤ) → IsFittingHeap h → Sane (Changed h) (timed h x t)
 timed_sane h x t fits =
     sane_then (Changed h) (notice h x) (λ r. Ok (record h { records = slice_set h.records (number_in x - 1) (Some (with_time r t)) })) (notice_known h x) (λ r e.
     set_single h (number_in x - 1) r (with_time r t) fits (number_is h x r e.0) refl (record_modes h x r fits e.0))
@@ -290,9 +290,9 @@ get_last : (xs : List (Option Record)) (y : Record) → class_of_record (slice_g
 get_last [] y = refl
 get_last (x ∷ xs) y = get_last xs y
 
-first_modes : (modes : List Mode) → Hold (map first_value modes) modes
+first_modes : (modes : List Mode) → AreOfModes (map first_value modes) modes
 first_modes [] = refl
-first_modes (m ∷ ms) = let here : mode_of (first_value m) ≡ m = first_mode m in let rest : Hold (map first_value ms) ms = first_modes ms in cc
+first_modes (m ∷ ms) = let here : mode_of (first_value m) ≡ m = first_mode m in let rest : AreOfModes (map first_value ms) ms = first_modes ms in cc
   where
     first_mode : (m : Mode) → mode_of (first_value m) ≡ m
     first_mode Integer = refl
@@ -300,16 +300,16 @@ first_modes (m ∷ ms) = let here : mode_of (first_value m) ≡ m = first_mode m
 
 -- a heap with a new entity of a class
 pub record Created (h : State) (class : ℕ) (b : ℤ × State) : Type 0 where
-  pub fits : HeapFits b.1
+  pub fits : IsFittingHeap b.1
   pub layout : b.1.layout ≡ h.layout
   pub made : (k : ℕ) → made b.1 k ≡ made h k
   pub kept : (x : ℤ) (c : ℕ) → living h x ≡ Some c → living b.1 x ≡ Some c
   pub new : living b.1 b.0 ≡ Some class
   pub no_other : (x : ℤ) (c : ℕ) → living b.1 x ≡ Some c → (living h x ≡ Some c) ⊎ ((x ≡ b.0) × (class ≡ c))
 
-with_created_is : (h : State) (class : ℕ) → HeapFits h → Created h class (pos (length h.records + 1), with_created h class)
+with_created_is : (h : State) (class : ℕ) → IsFittingHeap h → Created h class (pos (length h.records + 1), with_created h class)
 with_created_is h class f = record {
-  fits = (every_both (RecordFits h.layout) h.records (Some (first_record h.layout class) ∷ []) f.0 (first_modes (modes_of h.layout class), tt), f.1);
+  fits = (every_both (IsFittingRecord h.layout) h.records (Some (first_record h.layout class) ∷ []) f.0 (first_modes (modes_of h.layout class), tt), f.1);
   layout = refl;
   made = λ k. refl;
   kept = kept;
@@ -341,7 +341,7 @@ with_created_is h class f = record {
         by (inr g) = inr (ap pos (ap suc g.0 ∙ sym one), g.1)
     other (negsuc k) c q = absurd cc
 
-pub created_sane : (h : State) (class : ℕ) → HeapFits h → Sane (Created h class) (created h class)
+pub created_sane : (h : State) (class : ℕ) → IsFittingHeap h → Sane (Created h class) (created h class)
 created_sane h class f = by (nat_lt (length h.records) LAST_NUMBER)
   where
     by : (b : Bool) → Sane (Created h class) (if b then Ok (pos (length h.records + 1), with_created h class) else Err Rattle.ss_base.specs.declared.fault.FaultKind.TheVariants.Overflow)
@@ -357,12 +357,12 @@ get_other (x ∷ xs) (suc c) a (suc k) h = get_other xs c a k (λ q. h (ap suc q
 
 -- a heap with the entities of a permanent class
 pub record Filled (h : State) (class : ℕ) (t : State) : Type 0 where
-  pub fits : HeapFits t
+  pub fits : IsFittingHeap t
   pub layout : t.layout ≡ h.layout
   pub living : (x : ℤ) → living t x ≡ living h x
   pub others : (k : ℕ) → (class ≡ k → ⊥) → made t k ≡ made h k
 
-with_made_is : (h : State) (class n : ℕ) → HeapFits h → Filled h class (with_made h class n)
+with_made_is : (h : State) (class n : ℕ) → IsFittingHeap h → Filled h class (with_made h class n)
 with_made_is h class n f = record {
   fits = (f.0, rows_set h.permanents (modes_of h.layout) class (Some (replicate n (first_record h.layout class))) f.1 here);
   layout = refl;
@@ -373,15 +373,15 @@ with_made_is h class n f = record {
     here : RowFits (modes_of h.layout class) (Some (Some (replicate n (first_record h.layout class))))
     here rs q =
         let there : replicate n (first_record h.layout class) ≡ rs = cc in
-        subst (λ xs. Every (λ (r : Record). Hold r.values (modes_of h.layout class)) xs) there
-        (every_replicate (λ (r : Record). Hold r.values (modes_of h.layout class)) n (first_record h.layout class) (first_modes (modes_of h.layout class)))
+        subst (λ xs. Every (λ (r : Record). AreOfModes r.values (modes_of h.layout class)) xs) there
+        (every_replicate (λ (r : Record). AreOfModes r.values (modes_of h.layout class)) n (first_record h.layout class) (first_modes (modes_of h.layout class)))
 
     lives : (x : ℤ) → living (with_made h class n) x ≡ living h x
     lives (pos zero) = refl
     lives (pos (suc j)) = refl
     lives (negsuc k) = refl
 
-pub created_all_sane : (h : State) (class : ℕ) (z : ℤ) → HeapFits h → Sane (Filled h class) (created_all h class z)
+pub created_all_sane : (h : State) (class : ℕ) (z : ℤ) → IsFittingHeap h → Sane (Filled h class) (created_all h class z)
 created_all_sane h class z f = by (is_made h class)
   where
     in_range : (n : ℕ) (b : Bool) → Sane (Filled h class) (if b then Ok (with_made h class n) else Err Rattle.ss_base.specs.declared.fault.FaultKind.TheVariants.BadCount)
@@ -400,7 +400,7 @@ created_all_sane h class z f = by (is_made h class)
 
 -- a heap without an entity
 pub record Gone (h : State) (x : ℤ) (t : State) : Type 0 where
-  pub fits : HeapFits t
+  pub fits : IsFittingHeap t
   pub layout : t.layout ≡ h.layout
   pub made : (k : ℕ) → made t k ≡ made h k
   pub before : (y : ℤ) (c : ℕ) → living t y ≡ Some c → living h y ≡ Some c
@@ -419,9 +419,9 @@ cut_absent [] i c q = absurd cc
 cut_absent (r ∷ rs) zero c q = absurd cc
 cut_absent (r ∷ rs) (suc i) c q = cut_absent rs i c q
 
-cut_is : (h : State) (i : ℕ) → HeapFits h → Gone h (pos (suc i)) (record h { records = slice_set h.records i None })
+cut_is : (h : State) (i : ℕ) → IsFittingHeap h → Gone h (pos (suc i)) (record h { records = slice_set h.records i None })
 cut_is h i f = record {
-  fits = (every_set (RecordFits h.layout) h.records i None f.0 tt, f.1);
+  fits = (every_set (IsFittingRecord h.layout) h.records i None f.0 tt, f.1);
   layout = refl;
   made = λ k. refl;
   before = before;
@@ -439,7 +439,7 @@ cut_is h i f = record {
     kept (pos (suc j)) c other q = ap class_of_record (get_other h.records i None j (λ e. other (ap pos (ap suc e)))) ∙ q
     kept (negsuc k) c other q = q
 
-let_go_sane : (h : State) (c : ℕ) (x : ℤ) (r : Record) → HeapFits h → HasRecord h x r → Sane (Gone h x) (let_go h c (number_in x))
+let_go_sane : (h : State) (c : ℕ) (x : ℤ) (r : Record) → IsFittingHeap h → HasRecord h x r → Sane (Gone h x) (let_go h c (number_in x))
 let_go_sane h c (pos zero) r f q = absurd q
 let_go_sane h c (pos (suc i)) r f q = first (in_a_set h.layout.sets 0 h.lists c (suc i))
   where
@@ -460,6 +460,6 @@ single_by Permanent h c x r other q = absurd (other refl)
 single_by Temporary h c x r other q = q.0
 single_by Notice h c x r other q = q.0
 
-pub destroyed_sane : (h : State) (c : ℕ) (x : ℤ) → HeapFits h → (kind_of h.layout c ≡ Permanent → ⊥) → Sane (Gone h x) (destroyed h c x)
+pub destroyed_sane : (h : State) (c : ℕ) (x : ℤ) → IsFittingHeap h → (kind_of h.layout c ≡ Permanent → ⊥) → Sane (Gone h x) (destroyed h c x)
 destroyed_sane h c x f other =
     sane_then (Gone h x) (entity_in h c x) (λ r. let_go h c (number_in x)) (entity_known h c x) (λ r q. let_go_sane h c x r f (single_by (kind_of h.layout c) h c x r other q))

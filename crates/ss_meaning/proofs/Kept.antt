@@ -23,7 +23,7 @@ use Rattle.ss_meaning.specs.Values.{sure, turned, unless_fault, number_of}
 use Rattle.ss_meaning.specs.Store.{Column}
 use Rattle.ss_base.specs.Layout.{same_owner}
 use Rattle.ss_meaning.specs.Histories.{same_subject, home, at_start, begun_in, starting, ended_in, ending, with_history, noting_in, noting, all_noting, history_in, history_of_subject, renewed}
-use Rattle.ss_meaning.specs.Fitting.{made, IsIndex, living, LivesAs, Lives, BearsBy, BearsSubject, Has, HasHistories, HistoriesFit}
+use Rattle.ss_meaning.specs.Fitting.{made, IsIndex, living, IsLivingAs, IsLiving, IsLivingOwner, IsSubjectOwner, Has, HasHistories, HasAllHistories}
 use Rattle.ss_meaning.proofs.Fine.{Fine, Any, fine_then, fine_turned, unless_fine}
 use Rattle.ss_meaning.proofs.Heaps.{Same, Gone}
 
@@ -214,47 +214,47 @@ ending_kept l class x (s ∷ ss) (e ∷ cs) (suc j) t c q r = ending_kept l clas
 
 -- ## Entities that live in two heaps
 
-by_kind : (k : ClassKind) (h t : State) (c : ℕ) (x : ℤ) → (living t x ≡ Some c → living h x ≡ Some c) → made t c ≡ made h c → LivesAs k t c x → LivesAs k h c x
+by_kind : (k : ClassKind) (h t : State) (c : ℕ) (x : ℤ) → (living t x ≡ Some c → living h x ≡ Some c) → made t c ≡ made h c → IsLivingAs k t c x → IsLivingAs k h c x
 by_kind Permanent h t c x p q g = subst (λ n. IsIndex n x) q g
 by_kind Temporary h t c x p q g = p g
 by_kind Notice h t c x p q g = p g
 
 -- what lives in t lived in h
-pub lived : (h t : State) (c : ℕ) (x : ℤ) → t.layout ≡ h.layout → (living t x ≡ Some c → living h x ≡ Some c) → made t c ≡ made h c → Lives t c x → Lives h c x
-lived h t c x l p q g = by_kind (kind_of h.layout c) h t c x p q (subst (λ m. LivesAs (kind_of m c) t c x) l g)
+pub lived : (h t : State) (c : ℕ) (x : ℤ) → t.layout ≡ h.layout → (living t x ≡ Some c → living h x ≡ Some c) → made t c ≡ made h c → IsLiving t c x → IsLiving h c x
+lived h t c x l p q g = by_kind (kind_of h.layout c) h t c x p q (subst (λ m. IsLivingAs (kind_of m c) t c x) l g)
 
-borne_by : (o : Owner) (h t : State) (x : ℤ) → ((c : ℕ) → Lives t c x → Lives h c x) → BearsBy o t x → BearsBy o h x
+borne_by : (o : Owner) (h t : State) (x : ℤ) → ((c : ℕ) → IsLiving t c x → IsLiving h c x) → IsLivingOwner o t x → IsLivingOwner o h x
 borne_by System h t x f g = g
 borne_by (Class c) h t x f g = f c g
 
-pub borne : (h t : State) (subject : Subject) (x : ℤ) → t.layout ≡ h.layout → ((c : ℕ) → Lives t c x → Lives h c x) → BearsSubject t subject x → BearsSubject h subject x
-borne h t subject x l f g = borne_by (home h.layout subject) h t x f (subst (λ m. BearsBy (home m subject) t x) l g)
+pub borne : (h t : State) (subject : Subject) (x : ℤ) → t.layout ≡ h.layout → ((c : ℕ) → IsLiving t c x → IsLiving h c x) → IsSubjectOwner t subject x → IsSubjectOwner h subject x
+borne h t subject x l f g = borne_by (home h.layout subject) h t x f (subst (λ m. IsLivingOwner (home m subject) t x) l g)
 
 -- histories that fit go on to fit
-pub fit_on : (ss : List Statistic) (h t : State) (cs ds : List Column) → t.layout ≡ h.layout → ((c : ℕ) (x : ℤ) → Lives t c x → Lives h c x) → KeepsAll cs ds → HistoriesFit ss h cs → HistoriesFit ss t ds
+pub fit_on : (ss : List Statistic) (h t : State) (cs ds : List Column) → t.layout ≡ h.layout → ((c : ℕ) (x : ℤ) → IsLiving t c x → IsLiving h c x) → KeepsAll cs ds → HasAllHistories ss h cs → HasAllHistories ss t ds
 fit_on ss h t cs ds l f keep fit j s q = (k.0, k.1, λ x g. k.2 x (borne h t s.subject x l (λ c. f c x) g))
   where
-    k : HasHistories j ds (BearsSubject h s.subject)
-    k = kept_on j cs ds (BearsSubject h s.subject) keep (fit j s q)
+    k : HasHistories j ds (IsSubjectOwner h s.subject)
+    k = kept_on j cs ds (IsSubjectOwner h s.subject) keep (fit j s q)
 
-pub fit_same : (ss : List Statistic) (h t : State) (cs ds : List Column) → Same h t → KeepsAll cs ds → HistoriesFit ss h cs → HistoriesFit ss t ds
+pub fit_same : (ss : List Statistic) (h t : State) (cs ds : List Column) → Same h t → KeepsAll cs ds → HasAllHistories ss h cs → HasAllHistories ss t ds
 fit_same ss h t cs ds same keep fit = fit_on ss h t cs ds same.layout (λ c x. lived h t c x same.layout (λ g. sym (same.living x) ∙ g) (same.made c)) keep fit
 
-single_lives : (k : ClassKind) (t : State) (class : ℕ) (y : ℤ) → (k ≡ Permanent → ⊥) → LivesAs k t class y → living t y ≡ Some class
+single_lives : (k : ClassKind) (t : State) (class : ℕ) (y : ℤ) → (k ≡ Permanent → ⊥) → IsLivingAs k t class y → living t y ≡ Some class
 single_lives Permanent t class y other g = absurd (other refl)
 single_lives Temporary t class y other g = g
 single_lives Notice t class y other g = g
 
-pub fit_gone : (ss : List Statistic) (h t : State) (class : ℕ) (x : ℤ) (cs : List Column) → Gone h x t → (kind_of t.layout class ≡ Permanent → ⊥) → HistoriesFit ss h cs → HistoriesFit ss t (ending t.layout class x ss cs)
+pub fit_gone : (ss : List Statistic) (h t : State) (class : ℕ) (x : ℤ) (cs : List Column) → Gone h x t → (kind_of t.layout class ≡ Permanent → ⊥) → HasAllHistories ss h cs → HasAllHistories ss t (ending t.layout class x ss cs)
 fit_gone ss h t class x cs gone single fit j s q =
     (e.0, e.1, λ y g. e.2 y (apart y g) (k.2 y (borne h t s.subject y gone.layout (λ c. lived h t c y gone.layout (gone.before y c) (gone.made c)) g)))
   where
-    k : HasHistories j cs (BearsSubject h s.subject)
+    k : HasHistories j cs (IsSubjectOwner h s.subject)
     k = fit j s q
 
     e : (d : Column) × (slice_get (ending t.layout class x ss cs) j ≡ Some d) × ((y : ℤ) → (home t.layout s.subject ≡ Class class → x ≡ y → ⊥) → Has k.0 y → Has d y)
     e = ending_kept t.layout class x ss cs j s k.0 q k.1
 
-    apart : (y : ℤ) → BearsSubject t s.subject y → home t.layout s.subject ≡ Class class → x ≡ y → ⊥
+    apart : (y : ℤ) → IsSubjectOwner t s.subject y → home t.layout s.subject ≡ Class class → x ≡ y → ⊥
     apart y g own same =
-        gone.absent class (ap (living t) same ∙ single_lives (kind_of t.layout class) t class y single (subst (λ o. BearsBy o t y) own g))
+        gone.absent class (ap (living t) same ∙ single_lives (kind_of t.layout class) t class y single (subst (λ o. IsLivingOwner o t y) own g))

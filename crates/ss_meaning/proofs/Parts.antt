@@ -5,27 +5,27 @@ use Rattle.ss_base.specs.declared.line.Line.{Line}
 use Rattle.ss_base.specs.declared.layout.Mode.{Mode}
 use Rattle.ss_base.specs.declared.value.Value.{Value}
 use Rattle.ss_program.specs.Program.{Program}
-use Rattle.ss_program.specs.WellTyped.{WellTyped}
+use Rattle.ss_program.specs.WellTyped.{IsWellTyped}
 use Rattle.ss_meaning.specs.Values.{Failure, Fails, TypeError}
 use Rattle.ss_meaning.specs.Store.{Store}
 use Rattle.ss_meaning.specs.Places.{Spot, written}
 use Rattle.ss_meaning.specs.Parts.{RunState, Returned, Stopped, Faulted, OutOfTicks, Wrong, Outcome, WentOn, Left, Part, outcome_then, choose, looked, look, change, get, write, send, tick_from, take_tick, Next, Again, Over, go_on, loop}
-use Rattle.ss_meaning.specs.Fitting.{Sound, Fits}
+use Rattle.ss_meaning.specs.Fitting.{IsSoundStore, IsFittingStore}
 use Rattle.ss_meaning.proofs.Fine.{Fine, Any}
 use Rattle.ss_meaning.proofs.Entities.{SpotTakes, written_fine}
 use Rattle.ss_meaning.proofs.Expressions.{HasMode_is}
 
 -- a part does not go wrong; where it goes on its value is so, and the store fits
 abbrev pub Kept : {A : Type 0} → Program → List Mode → (A → Type 0) → Outcome A → Type 0
-Kept p ms P (WentOn a w) = P a × Fits p ms w.store
-Kept p ms P (Left Returned w) = Fits p ms w.store
-Kept p ms P (Left Stopped w) = Sound p w.store
-Kept p ms P (Left (Faulted kind line) w) = Sound p w.store
-Kept p ms P (Left OutOfTicks w) = Sound p w.store
+Kept p ms P (WentOn a w) = P a × IsFittingStore p ms w.store
+Kept p ms P (Left Returned w) = IsFittingStore p ms w.store
+Kept p ms P (Left Stopped w) = IsSoundStore p w.store
+Kept p ms P (Left (Faulted kind line) w) = IsSoundStore p w.store
+Kept p ms P (Left OutOfTicks w) = IsSoundStore p w.store
 Kept p ms P (Left Wrong w) = ⊥
 
 pub record Safe {A : Type 0} (p : Program) (ms : List Mode) (P : A → Type 0) (m : Part A) : Type 0 where
-  pub by : (w : RunState) → Fits p ms w.store → Kept p ms P (m w)
+  pub by : (w : RunState) → IsFittingStore p ms w.store → Kept p ms P (m w)
 
 pub kept_then : {A B : Type 0} (p : Program) (ms : List Mode) (P : A → Type 0) (Q : B → Type 0) (o : Outcome A) (f : A → Part B) → Kept p ms P o → ((a : A) → P a → Safe p ms Q (f a)) → Kept p ms Q (outcome_then o f)
 kept_then p ms P Q (WentOn a w) f h g = (g a h.0).by w h.1
@@ -41,7 +41,7 @@ safe_then {p = p} {ms = ms} {P = P} {Q = Q} {m = m} {f = f} h g = record { by = 
 pub safe_went : {A : Type 0} {p : Program} {ms : List Mode} {P : A → Type 0} (a : A) → P a → Safe p ms P (WentOn a)
 safe_went a q = record { by = λ w fits. (q, fits) }
 
-kept_looked : {A : Type 0} (p : Program) (ms : List Mode) (P : A → Type 0) (l : Line) (r : Result A Failure) (w : RunState) → Fine P r → Fits p ms w.store → Kept p ms P (looked l r w)
+kept_looked : {A : Type 0} (p : Program) (ms : List Mode) (P : A → Type 0) (l : Line) (r : Result A Failure) (w : RunState) → Fine P r → IsFittingStore p ms w.store → Kept p ms P (looked l r w)
 kept_looked p ms P l (Ok a) w h fits = (h, fits)
 kept_looked p ms P l (Err (Fails k)) w h fits = fits.sound
 kept_looked p ms P l (Err TypeError) w h fits = absurd h
@@ -49,22 +49,22 @@ kept_looked p ms P l (Err TypeError) w h fits = absurd h
 pub safe_looked : {A : Type 0} {p : Program} {ms : List Mode} {P : A → Type 0} (l : Line) (r : Result A Failure) → Fine P r → Safe p ms P (looked l r)
 safe_looked {p = p} {ms = ms} {P = P} l r h = record { by = λ w fits. kept_looked p ms P l r w h fits }
 
-pub safe_look : {A : Type 0} {p : Program} {ms : List Mode} {P : A → Type 0} (l : Line) (f : Store → Result A Failure) → ((s : Store) → Fits p ms s → Fine P (f s)) → Safe p ms P (look l f)
+pub safe_look : {A : Type 0} {p : Program} {ms : List Mode} {P : A → Type 0} (l : Line) (f : Store → Result A Failure) → ((s : Store) → IsFittingStore p ms s → Fine P (f s)) → Safe p ms P (look l f)
 safe_look {p = p} {ms = ms} {P = P} l f h = record { by = λ w fits. kept_looked p ms P l (f w.store) w (h w.store fits) fits }
 
-pub safe_change : {p : Program} {ms : List Mode} (l : Line) (f : Store → Result Store Failure) → ((s : Store) → Fits p ms s → Fine (Fits p ms) (f s)) → Safe p ms Any (change l f)
-safe_change {p = p} {ms = ms} l f h = safe_then {P = Fits p ms} (safe_look l f h) (λ s fits. record { by = λ w _. (tt, fits) })
+pub safe_change : {p : Program} {ms : List Mode} (l : Line) (f : Store → Result Store Failure) → ((s : Store) → IsFittingStore p ms s → Fine (IsFittingStore p ms) (f s)) → Safe p ms Any (change l f)
+safe_change {p = p} {ms = ms} l f h = safe_then {P = IsFittingStore p ms} (safe_look l f h) (λ s fits. record { by = λ w _. (tt, fits) })
 
-pub safe_get : {p : Program} {ms : List Mode} (l : Line) (f : Store → Result (Value × Store) Failure) (m : Mode) → ((s : Store) → Fits p ms s → Fine (λ b. HasMode_is m b.0 × Fits p ms b.1) (f s)) → Safe p ms (HasMode_is m) (get l f)
-safe_get {p = p} {ms = ms} l f m h = safe_then {P = λ b. HasMode_is m b.0 × Fits p ms b.1} (safe_look l f h) (λ b g. record { by = λ w _. (g.0, g.1) })
+pub safe_get : {p : Program} {ms : List Mode} (l : Line) (f : Store → Result (Value × Store) Failure) (m : Mode) → ((s : Store) → IsFittingStore p ms s → Fine (λ b. HasMode_is m b.0 × IsFittingStore p ms b.1) (f s)) → Safe p ms (HasMode_is m) (get l f)
+safe_get {p = p} {ms = ms} l f m h = safe_then {P = λ b. HasMode_is m b.0 × IsFittingStore p ms b.1} (safe_look l f h) (λ b g. record { by = λ w _. (g.0, g.1) })
 
-pub safe_write : {p : Program} {ms : List Mode} (typed : WellTyped p) (main : Bool) (l : Line) (t : Spot) (m : Mode) (v : Value) → SpotTakes p typed ms main t m → HasMode_is m v → Safe p ms Any (write l t v)
+pub safe_write : {p : Program} {ms : List Mode} (typed : IsWellTyped p) (main : Bool) (l : Line) (t : Spot) (m : Mode) (v : Value) → SpotTakes p typed ms main t m → HasMode_is m v → Safe p ms Any (write l t v)
 safe_write {p = p} {ms = ms} typed main l t m v q g = safe_change l (written t v) (λ s fits. written_fine p typed ms main t m v s q g fits)
 
 pub safe_send : {p : Program} {ms : List Mode} (bytes : List ℕ) → Safe p ms Any (send bytes)
 safe_send bytes = record { by = λ w fits. (tt, fits) }
 
-kept_tick : {A : Type 0} (p : Program) (ms : List Mode) (P : A → Type 0) (go : Part A) → Safe p ms P go → (t : ℕ) (w : RunState) → Fits p ms w.store → Kept p ms P (tick_from t go w)
+kept_tick : {A : Type 0} (p : Program) (ms : List Mode) (P : A → Type 0) (go : Part A) → Safe p ms P go → (t : ℕ) (w : RunState) → IsFittingStore p ms w.store → Kept p ms P (tick_from t go w)
 kept_tick p ms P go h zero w fits = fits.sound
 kept_tick p ms P go h (suc t) w fits = h.by (record w { ticks = t }) fits
 

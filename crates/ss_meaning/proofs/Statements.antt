@@ -22,7 +22,7 @@ use Rattle.ss_base.specs.declared.words.PhraseKind.TheVariants as kinds
 use Rattle.ss_base.specs.declared.words.End.{End}
 use Rattle.ss_program.specs.declared.statement.CountedClass.{CountedClass}
 use Rattle.ss_program.specs.Program.{Expression, SetOwner, Head, Numbers, Members, Each, Start, AtEnd, From, After, Phrase, Guard, Place, ToVariable, InputTarget, Position, When, Restart, PrintItem, Statement, Let, Change, Call, Return, Stop, Read, Simulate, If, Loop, For, Find, Create, CreateEvery, Destroy, File, RemoveEnd, Remove, ScheduleNew, Schedule, Cancel, Reset, Print, Skip, Block, Done, Then, Routine, Program}
-use Rattle.ss_program.specs.WellTyped.{TypedScope, WellTyped, HasMode, OwnerFits, GoodCondition, TakesMode, GoodStart, GoodHead, GoodPhrase, GoodPosition, GoodWhen, GoodGiven, GoodRestart, GoodPrint, Good, GoodBlock, kind_of_class as kind_said}
+use Rattle.ss_program.specs.WellTyped.{TypedScope, IsWellTyped, HasMode, IsTypedOwner, IsTypedCondition, CanTakeMode, IsTypedStart, IsTypedHead, IsTypedPhrase, IsTypedPosition, IsTypedWhen, AreTypedGiven, IsTypedRestart, IsTypedPrint, IsTypedStatement, IsTypedBlock, kind_of_class as kind_said}
 use Rattle.ss_meaning.specs.Values.{if_ok, turned, due, sure, unless_fault, number_of, calculated, operator_of, take_all, lines_with, printed, empty_lines}
 use Rattle.ss_meaning.specs.Store.{Store}
 use Rattle.ss_meaning.specs.Entities.{class_at, is_permanent, made_count, made_one, made_all, without}
@@ -34,7 +34,7 @@ use Rattle.ss_meaning.specs.Expressions.{value, values, shown_items as items_mea
 use Rattle.ss_meaning.specs.Parts.{RunState, Returned, Stopped, Faulted, OutOfTicks, Wrong, Outcome, WentOn, Left, Part, outcome_then, choose, look, get, tick_from, Again, Over, go_on, loop}
 use Rattle.ss_meaning.specs.Loops.{Turn, GoesOn, EndsLoop, IsFound, phrase, phrases, visit, range_items, after_turn, over_items, step_number, range_of, range, indices, Outset, from_member, loop_outset, next_member, member_turn, over, guarded}
 use Rattle.ss_meaning.specs.Statements.{give_to, give_each, change_by, with_input, read_value, read_each, print, create_every, file, remove, remove_end, schedule_new, schedule, next_due, event_turn, simulate, restart_each, Calls, effect, effects}
-use Rattle.ss_meaning.specs.Fitting.{Hold, Fits}
+use Rattle.ss_meaning.specs.Fitting.{AreOfModes, IsFittingStore}
 use Rattle.ss_meaning.proofs.Fine.{Fine, There, Any, fine_then, fine_turned, sure_fine, fit_fine, unless_fine}
 use Rattle.ss_meaning.proofs.Kept.{number_fine}
 use Rattle.ss_meaning.proofs.Entities.{SpotTakes, permanent_here, made_one_fine, made_all_fine, without_fine, held_fine}
@@ -45,8 +45,8 @@ use Rattle.ss_meaning.proofs.Parts.{Kept, Safe, safe_then, safe_went, safe_look,
 
 -- what a call and an event do
 pub record CallsSafe (p : Program) (h : Calls) : Type 0 where
-  pub call : (ms : List Mode) (k : ℕ) (r : Routine) (vs : List Value) (count : ℕ) → slice_get p.routines k ≡ Some r → Hold vs r.given → count ≡ length r.yielding → Safe p ms (λ us. Hold us r.yielding) (h.call k vs count)
-  pub event : (ms : List Mode) (w : RunState) → Fits p ms w.store → is_awaited w.store ≡ true → Kept p ms Any (h.event w)
+  pub call : (ms : List Mode) (k : ℕ) (r : Routine) (vs : List Value) (count : ℕ) → slice_get p.routines k ≡ Some r → AreOfModes vs r.given → count ≡ length r.yielding → Safe p ms (λ us. AreOfModes us r.yielding) (h.call k vs count)
+  pub event : (ms : List Mode) (w : RunState) → IsFittingStore p ms w.store → is_awaited w.store ≡ true → Kept p ms Any (h.event w)
 
 -- ## Values
 
@@ -89,13 +89,13 @@ word_fine mode s = by (next_word s.world.input)
     by (Err k) = tt
     by (Ok word) = read mode word.value word.rest
 
-pub held_length : (vs : List Value) (ns : List Mode) → Hold vs ns → length vs ≡ length ns
+pub held_length : (vs : List Value) (ns : List Mode) → AreOfModes vs ns → length vs ≡ length ns
 held_length [] [] q = refl
 held_length [] (n ∷ ns) q = absurd cc
 held_length (v ∷ vs) [] q = absurd cc
-held_length (v ∷ vs) (n ∷ ns) q = let rest : Hold vs ns = cc in ap suc (held_length vs ns rest)
+held_length (v ∷ vs) (n ∷ ns) q = let rest : AreOfModes vs ns = cc in ap suc (held_length vs ns rest)
 
-module _ (p : Program) (typed : WellTyped p) (ms : List Mode) (b : Bool) where
+module _ (p : Program) (typed : IsWellTyped p) (ms : List Mode) (b : Bool) where
   abbrev here : TypedScope
   here = record { program = p; locals = ms; is_main = b }
 
@@ -107,11 +107,11 @@ module _ (p : Program) (typed : WellTyped p) (ms : List Mode) (b : Bool) where
   phrase_safe kinds.While c more h = safe_choose c h (safe_went EndsLoop tt)
   phrase_safe kinds.Until c more h = safe_choose c (safe_went EndsLoop tt) h
 
-  phrases_safe : (l : Line) (ps : List Phrase) (turn : Part Turn) → Every (GoodPhrase here) ps → Safe p ms Any turn → Safe p ms Any (phrases l ps turn)
+  phrases_safe : (l : Line) (ps : List Phrase) (turn : Part Turn) → Every (IsTypedPhrase here) ps → Safe p ms Any turn → Safe p ms Any (phrases l ps turn)
   phrases_safe l [] turn g h = record { by = λ w fits. h.by w fits }
   phrases_safe l (q ∷ qs) turn g h = safe_then {P = Any} (safe_look l (holds q.condition) (holds_fine p typed ms b q.condition g.0)) (λ c u. phrase_safe q.kind c (phrases l qs turn) (phrases_safe l qs turn g.1 h))
 
-  visit_safe : (l : Line) (x : Variable) (turn : Part Turn) → TakesMode here (ToVariable x) Integer → Safe p ms Any turn → (v : ℤ) → Safe p ms Any (visit l x turn v)
+  visit_safe : (l : Line) (x : Variable) (turn : Part Turn) → CanTakeMode here (ToVariable x) Integer → Safe p ms Any turn → (v : ℤ) → Safe p ms Any (visit l x turn v)
   visit_safe l x turn g h v = safe_then {P = Any} (safe_write typed b l (InVariable x) Integer (Whole v) g.0 refl) (λ u w. h)
 
   after_safe : (t : Turn) (later : Part Bool) → Safe p ms Any later → Safe p ms Any (after_turn t later)
@@ -124,29 +124,29 @@ module _ (p : Program) (typed : WellTyped p) (ms : List Mode) (b : Bool) where
   items_safe go (i ∷ is) h =
       record { by = λ w fits. (safe_tick {go = λ w. outcome_then (go i w) (λ t. after_turn t (over_items go is))} (safe_then {P = Any} (h i) (λ t u. after_safe t (over_items go is) (items_safe go is h)))).by w fits }
 
-  step_fine : (c : Option Expression) → IfSome c (λ e. HasMode here e Integer) → (s : Store) → Fits p ms s → Fine (λ v. Fine Any (step_number v)) (value_if_any c s)
+  step_fine : (c : Option Expression) → IfSome c (λ e. HasMode here e Integer) → (s : Store) → IsFittingStore p ms s → Fine (λ v. Fine Any (step_number v)) (value_if_any c s)
   step_fine None h s f = tt
   step_fine (Some e) h s f = fine_turned (λ v. Fine Any (step_number v)) Some (value e s) (value_fine p typed ms b e Integer h s f) (λ v g. number_fine v g)
 
-  range_fine : (x y : Expression) (c : Option Expression) → HasMode here x Integer → HasMode here y Integer → IfSome c (λ e. HasMode here e Integer) → (s : Store) → Fits p ms s → Fine Any (range x y c s)
+  range_fine : (x y : Expression) (c : Option Expression) → HasMode here x Integer → HasMode here y Integer → IfSome c (λ e. HasMode here e Integer) → (s : Store) → IsFittingStore p ms s → Fine Any (range x y c s)
   range_fine x y c hx hy hc s f =
       fine_then Any (value x s) (λ u. if_ok (value y s) (λ v. if_ok (value_if_any c s) (λ z. range_of u v z))) (value_fine p typed ms b x Integer hx s f) (λ u gu.
       fine_then Any (value y s) (λ v. if_ok (value_if_any c s) (λ z. range_of u v z)) (value_fine p typed ms b y Integer hy s f) (λ v gv.
       fine_then Any (value_if_any c s) (λ z. range_of u v z) (step_fine c hc s f) (λ z gz. range_of_fine u v z Any gu gv gz)))
 
-  indices_fine : (c : ℕ) → kind_said p c ≡ Some Permanent → (s : Store) → Fits p ms s → Fine Any (indices c s)
+  indices_fine : (c : ℕ) → kind_said p c ≡ Some Permanent → (s : Store) → IsFittingStore p ms s → Fine Any (indices c s)
   indices_fine c q s f = fit_fine Any (is_permanent (class_at c s)) (Ok (record { first = pos 1; limit = pos (made_count c s); step = pos 1 })) (permanent_here p typed ms s c f q) tt
 
   abbrev OutsetOk : ℕ → Outset → Type 0
   OutsetOk set o = OwnerOk p typed ms set o.owner
 
-  from_fine : (after reverse : Bool) (set : ℕ) (owner : SetOwner) (e : Expression) → OwnerFits here set owner → HasMode here e Integer → (s : Store) → Fits p ms s → Fine (OutsetOk set) (from_member after reverse set owner e s)
+  from_fine : (after reverse : Bool) (set : ℕ) (owner : SetOwner) (e : Expression) → IsTypedOwner here set owner → HasMode here e Integer → (s : Store) → IsFittingStore p ms s → Fine (OutsetOk set) (from_member after reverse set owner e s)
   from_fine after reverse set owner e q h s f =
       fine_then (OutsetOk set) (owner_looked_at set owner s) (λ o. if_ok (member_value set e s) (λ y. turned (λ x. record { first = x; owner = o }) (begun_at reverse after set y o s))) (owner_looked_at_fine p typed ms b set owner q s f) (λ o g.
       fine_then (OutsetOk set) (member_value set e s) (λ y. turned (λ x. record { first = x; owner = o }) (begun_at reverse after set y o s)) (member_value_fine p typed ms b set e (set_of_owner p typed ms b set owner q) h s f) (λ y k.
       fine_turned (OutsetOk set) (λ x. record { first = x; owner = o }) (begun_at reverse after set y o s) (begun_at_fine p typed ms reverse after set y o s k g f) (λ x u. g)))
 
-  outset_fine : (start : Start) (reverse : Bool) (set : ℕ) (owner : SetOwner) → GoodStart here start → OwnerFits here set owner → (s : Store) → Fits p ms s → Fine (OutsetOk set) (loop_outset start reverse set owner s)
+  outset_fine : (start : Start) (reverse : Bool) (set : ℕ) (owner : SetOwner) → IsTypedStart here start → IsTypedOwner here set owner → (s : Store) → IsFittingStore p ms s → Fine (OutsetOk set) (loop_outset start reverse set owner s)
   outset_fine AtEnd reverse set owner h q s f =
       fine_then (OutsetOk set) (owner_value owner s) (λ o. turned (λ x. record { first = x; owner = o }) (begun reverse set o s)) (owner_value_fine p typed ms b set owner q s f) (λ o g.
       fine_turned (OutsetOk set) (λ x. record { first = x; owner = o }) (begun reverse set o s) (begun_fine p typed ms reverse set o s g f) (λ x u. g))
@@ -162,7 +162,7 @@ module _ (p : Program) (typed : WellTyped p) (ms : List Mode) (b : Bool) where
   member_safe l set reverse o go q h x =
       safe_then {P = Any} (safe_look l (coming reverse set x) (λ s f. coming_fine p typed ms reverse set x s (set_of p typed ms set o q) f)) (λ n u. safe_then {P = Any} (h x) (λ t v. next_safe l set o n t q))
 
-  pub over_safe : (n : ℕ) (l : Line) (head : Head) (turn : Part Turn) → GoodHead here head → Safe p ms Any turn → Safe p ms Any (over n l head turn)
+  pub over_safe : (n : ℕ) (l : Line) (head : Head) (turn : Part Turn) → IsTypedHead here head → Safe p ms Any turn → Safe p ms Any (over n l head turn)
   over_safe n l (Numbers x a c d) turn g h =
       safe_then {P = Any} (safe_look l (range a c d) (range_fine a c d g.1 g.2 g.3)) (λ r u. items_safe (visit l x turn) (range_items (suc n) r) (visit_safe l x turn g.0 h))
   over_safe n l (Each x class) turn g h =
@@ -171,7 +171,7 @@ module _ (p : Program) (typed : WellTyped p) (ms : List Mode) (b : Bool) where
       safe_then {P = OutsetOk set} (safe_look l (loop_outset start reverse set owner) (outset_fine start reverse set owner g.2 g.1)) (λ o q.
       safe_choose (is_none o.first) (safe_went false tt) (safe_loop (member_safe l set reverse o.owner (visit l x turn) q (visit_safe l x turn g.0 h)) n o.first))
 
-  pub guarded_safe : (n : ℕ) (l : Line) (gs : List Guard) (body : Part (Unit {0})) → Every (λ (g : Guard). GoodCondition here g.condition) gs → Safe p ms Any body → Safe p ms Any (guarded n l gs body)
+  pub guarded_safe : (n : ℕ) (l : Line) (gs : List Guard) (body : Part (Unit {0})) → Every (λ (g : Guard). IsTypedCondition here g.condition) gs → Safe p ms Any body → Safe p ms Any (guarded n l gs body)
   guarded_safe n l gs body g h =
       safe_then {P = Any} (safe_look l (all_pass gs) (all_pass_fine p typed ms b gs g)) (λ c u. safe_choose c
       (safe_loop (λ v. safe_then {P = Any} h (λ v w. safe_then {P = Any} (safe_look l (all_pass gs) (all_pass_fine p typed ms b gs g)) (λ d w. safe_choose d (safe_went (Again tt) tt) (safe_went (Over tt) tt)))) n tt)
@@ -179,10 +179,10 @@ module _ (p : Program) (typed : WellTyped p) (ms : List Mode) (b : Bool) where
 
   -- ## Plain statements
 
-  pub give_safe : (l : Line) (t : Place) (m : Mode) (source : Part Value) → TakesMode here t m → Safe p ms (HasMode_is m) source → Safe p ms Any (give_to l t source)
+  pub give_safe : (l : Line) (t : Place) (m : Mode) (source : Part Value) → CanTakeMode here t m → Safe p ms (HasMode_is m) source → Safe p ms Any (give_to l t source)
   give_safe l t m source g h = safe_then {P = λ x. SpotTakes p typed ms b x m} (safe_look l (spot t) (spot_fine p typed ms b t m g)) (λ x q. safe_then {P = HasMode_is m} h (λ v k. safe_write typed b l x m v q k))
 
-  gives_safe : (l : Line) (ts : List Place) (ns : List Mode) (us : List Value) → AllZip (TakesMode here) ts ns → Hold us ns → Safe p ms Any (give_each l ts us)
+  gives_safe : (l : Line) (ts : List Place) (ns : List Mode) (us : List Value) → AllZip (CanTakeMode here) ts ns → AreOfModes us ns → Safe p ms Any (give_each l ts us)
   gives_safe l [] [] [] g q = record { by = λ w fits. (tt, fits) }
   gives_safe l [] [] (u ∷ us) g q = absurd cc
   gives_safe l [] (n ∷ ns) us g q = absurd g
@@ -190,16 +190,16 @@ module _ (p : Program) (typed : WellTyped p) (ms : List Mode) (b : Bool) where
   gives_safe l (t ∷ ts) (n ∷ ns) [] g q = absurd cc
   gives_safe l (t ∷ ts) (n ∷ ns) (u ∷ us) g q =
       let first : mode_of u ≡ n = cc in
-      let rest : Hold us ns = cc in
+      let rest : AreOfModes us ns = cc in
       safe_then {P = Any} (give_safe l t n (WentOn u) g.0 (safe_went u first)) (λ v w. gives_safe l ts ns us g.1 rest)
 
-  as_many : (ts : List Place) (ns : List Mode) → AllZip (TakesMode here) ts ns → length ts ≡ length ns
+  as_many : (ts : List Place) (ns : List Mode) → AllZip (CanTakeMode here) ts ns → length ts ≡ length ns
   as_many [] [] g = refl
   as_many [] (n ∷ ns) g = absurd g
   as_many (t ∷ ts) [] g = absurd g
   as_many (t ∷ ts) (n ∷ ns) g = ap suc (as_many ts ns g.1)
 
-  change_safe : (l : Line) (sign : Sign) (t : Place) (e : Expression) → TakesMode here t Integer → HasMode here e Integer → Safe p ms Any (change_by l sign t e)
+  change_safe : (l : Line) (sign : Sign) (t : Place) (e : Expression) → CanTakeMode here t Integer → HasMode here e Integer → Safe p ms Any (change_by l sign t e)
   change_safe l sign t e g h =
       safe_then {P = HasMode_is Integer} (safe_look l (value e) (value_fine p typed ms b e Integer h)) (λ y k.
       safe_then {P = λ x. SpotTakes p typed ms b x Integer} (safe_look l (spot t) (spot_fine p typed ms b t Integer g)) (λ x q.
@@ -207,7 +207,7 @@ module _ (p : Program) (typed : WellTyped p) (ms : List Mode) (b : Bool) where
       fine_then (HasMode_is Integer) (held x s) (λ v. calculated (operator_of sign) v y) (held_fine p typed ms b x Integer s q f) (λ v r. calculated_fine (operator_of sign) v y r k))) (λ v r.
       safe_write typed b l x Integer v q r)))
 
-  pub input_fits : (s : Store) (rest : List ℕ) → Fits p ms s → Fits p ms (record s { world = record s.world { input = rest } })
+  pub input_fits : (s : Store) (rest : List ℕ) → IsFittingStore p ms s → IsFittingStore p ms (record s { world = record s.world { input = rest } })
   input_fits s rest f = record {
     sound = record {
       globals = f.sound.globals;
@@ -216,14 +216,14 @@ module _ (p : Program) (typed : WellTyped p) (ms : List Mode) (b : Bool) where
     locals = f.locals;
   }
 
-  reads_safe : (l : Line) (ts : List InputTarget) → Every (λ (t : InputTarget). TakesMode here t.place t.mode) ts → Safe p ms Any (read_each l ts)
+  reads_safe : (l : Line) (ts : List InputTarget) → Every (λ (t : InputTarget). CanTakeMode here t.place t.mode) ts → Safe p ms Any (read_each l ts)
   reads_safe l [] g = record { by = λ w fits. (tt, fits) }
   reads_safe l (t ∷ ts) g =
       safe_then {P = Any} (give_safe l t.place t.mode (get l (read_value t.mode)) g.0 (safe_get l (read_value t.mode) t.mode (λ s f.
-      fine_turned (λ r. HasMode_is t.mode r.0 × Fits p ms r.1) (with_input s) (due (value_given t.mode s.world.input)) (word_fine t.mode s) (λ r q. (q, input_fits s r.rest f))))) (λ u v.
+      fine_turned (λ r. HasMode_is t.mode r.0 × IsFittingStore p ms r.1) (with_input s) (due (value_given t.mode s.world.input)) (word_fine t.mode s) (λ r q. (q, input_fits s r.rest f))))) (λ u v.
       reads_safe l ts g.1)
 
-  print_safe : (l : Line) (xs : List PrintItem) (pictures : List (List ℕ)) → GoodPrint here xs pictures → Safe p ms Any (print l xs pictures)
+  print_safe : (l : Line) (xs : List PrintItem) (pictures : List (List ℕ)) → IsTypedPrint here xs pictures → Safe p ms Any (print l xs pictures)
   print_safe l xs pictures g =
       safe_then {P = Any} (safe_look l (λ s. if_ok (items_meant xs s) (λ ys. sure (printed pictures ys))) (λ s f.
       fine_then Any (items_meant xs s) (λ ys. sure (printed pictures ys)) (items_fine p typed ms b (flat_map picture_fields pictures) xs g s f) (λ ys q. sure_fine Any (printed pictures ys) (printed_there pictures ys q)))) (λ bytes u.
@@ -233,49 +233,49 @@ module _ (p : Program) (typed : WellTyped p) (ms : List Mode) (b : Bool) where
   every_safe l [] g = record { by = λ w fits. (tt, fits) }
   every_safe l (c ∷ cs) g = safe_then {P = Any} (safe_change l (made_all c) (λ s f. made_all_fine p typed ms c s g.0 f)) (λ u v. every_safe l cs g.1)
 
-  file_safe : (l : Line) (set : ℕ) (e : Expression) (position : Position) (owner : SetOwner) → HasMode here e Integer → GoodPosition here position → OwnerFits here set owner → Safe p ms Any (file l set e position owner)
+  file_safe : (l : Line) (set : ℕ) (e : Expression) (position : Position) (owner : SetOwner) → HasMode here e Integer → IsTypedPosition here position → IsTypedOwner here set owner → Safe p ms Any (file l set e position owner)
   file_safe l set e position owner h k q =
       safe_then {P = HasMode_is Integer} (safe_look l (member_value set e) (member_value_fine p typed ms b set e (set_of_owner p typed ms b set owner q) h)) (λ x g.
       safe_then {P = FilingOk p typed ms} (safe_look l (filing set position) (filing_fine p typed ms b set position (set_of_owner p typed ms b set owner q) k)) (λ w r.
       safe_then {P = OwnerOk p typed ms set} (safe_look l (owner_value owner) (owner_value_fine p typed ms b set owner q)) (λ o y.
       safe_change l (filed_in w set x o) (λ s f. filed_in_fine p typed ms w set x o s r g y f))))
 
-  remove_safe : (l : Line) (set : ℕ) (e : Expression) (owner : SetOwner) → HasMode here e Integer → OwnerFits here set owner → Safe p ms Any (remove l set e owner)
+  remove_safe : (l : Line) (set : ℕ) (e : Expression) (owner : SetOwner) → HasMode here e Integer → IsTypedOwner here set owner → Safe p ms Any (remove l set e owner)
   remove_safe l set e owner h q =
       safe_then {P = HasMode_is Integer} (safe_look l (member_value set e) (member_value_fine p typed ms b set e (set_of_owner p typed ms b set owner q) h)) (λ x g.
       safe_then {P = OwnerOk p typed ms set} (safe_look l (owner_value owner) (owner_value_fine p typed ms b set owner q)) (λ o y.
       safe_change l (removed_from set x o) (λ s f. removed_from_fine p typed ms set x o s g y f)))
 
-  remove_end_safe : (l : Line) (end : End) (set : ℕ) (owner : SetOwner) → OwnerFits here set owner → Safe p ms (HasMode_is Integer) (remove_end l end set owner)
+  remove_end_safe : (l : Line) (end : End) (set : ℕ) (owner : SetOwner) → IsTypedOwner here set owner → Safe p ms (HasMode_is Integer) (remove_end l end set owner)
   remove_end_safe l end set owner q =
       safe_then {P = OwnerOk p typed ms set} (safe_look l (owner_value owner) (owner_value_fine p typed ms b set owner q)) (λ o y.
       safe_get l (removed_at end set o) Integer (λ s f. removed_at_fine p typed ms end set o s y f))
 
-  given_fields : (c : ℕ) (given : List Expression) (g : GoodGiven here c given) → FieldsAre p typed ms c 0 (take (length given) g.1.0)
+  given_fields : (c : ℕ) (given : List Expression) (g : AreTypedGiven here c given) → FieldsAre p typed ms c 0 (take (length given) g.1.0)
   given_fields c given g = fields_are p typed ms c (length given) g.1.0 g.1.1
 
-  schedule_new_safe : (l : Line) (c : ℕ) (t : Place) (given : List Expression) (when : When) → GoodGiven here c given → TakesMode here t Integer → GoodWhen here when → Safe p ms Any (schedule_new l c t given when)
+  schedule_new_safe : (l : Line) (c : ℕ) (t : Place) (given : List Expression) (when : When) → AreTypedGiven here c given → CanTakeMode here t Integer → IsTypedWhen here when → Safe p ms Any (schedule_new l c t given when)
   schedule_new_safe l c t given when g h k =
       safe_then {P = λ x. SpotTakes p typed ms b x Integer} (safe_look l (spot t) (spot_fine p typed ms b t Integer h)) (λ x q.
-      safe_then {P = λ vs. Hold vs (take (length given) g.1.0)} (safe_look l (values given) (values_fine p typed ms b given (take (length given) g.1.0) g.1.2)) (λ vs y.
+      safe_then {P = λ vs. AreOfModes vs (take (length given) g.1.0)} (safe_look l (values given) (values_fine p typed ms b given (take (length given) g.1.0) g.1.2)) (λ vs y.
       safe_then {P = Any} (safe_look l (time_value when) (time_value_fine p typed ms b when k)) (λ time u.
       safe_then {P = HasMode_is Integer} (safe_get l (made_notice c vs time) Integer (λ s f. made_notice_fine p typed ms c vs (take (length given) g.1.0) time s g.0 y (given_fields c given g) f)) (λ n m.
       safe_then {P = Any} (safe_write typed b l x Integer n q m) (λ u v.
       safe_change l (filed_notice c n time) (λ s f. filed_notice_fine p typed ms c n time s g.0 m f))))))
 
-  schedule_safe : (l : Line) (c : ℕ) (e : Expression) (given : List Expression) (when : When) → GoodGiven here c given → HasMode here e Integer → GoodWhen here when → Safe p ms Any (schedule l c e given when)
+  schedule_safe : (l : Line) (c : ℕ) (e : Expression) (given : List Expression) (when : When) → AreTypedGiven here c given → HasMode here e Integer → IsTypedWhen here when → Safe p ms Any (schedule l c e given when)
   schedule_safe l c e given when g h k =
       let cl = Rattle.ss_meaning.proofs.Entities.class_said p c Notice g.0 in
       safe_then {P = HasMode_is Integer} (safe_look l (entity_value c e) (entity_value_fine p typed ms b c cl.0 e cl.1 h)) (λ x m.
-      safe_then {P = λ vs. Hold vs (take (length given) g.1.0)} (safe_look l (values given) (values_fine p typed ms b given (take (length given) g.1.0) g.1.2)) (λ vs y.
+      safe_then {P = λ vs. AreOfModes vs (take (length given) g.1.0)} (safe_look l (values given) (values_fine p typed ms b given (take (length given) g.1.0) g.1.2)) (λ vs y.
       safe_then {P = Any} (safe_look l (time_value when) (time_value_fine p typed ms b when k)) (λ time u.
       safe_change l (rescheduled c x vs time) (λ s f. rescheduled_fine p typed ms c x vs (take (length given) g.1.0) time s g.0 y (given_fields c given g) m f))))
 
-  restart_of : (k : ℕ) (e : Option Expression) → GoodRestart here k e → (s : Store) → Fits p ms s → Fine (AskedStatistic p typed ms k) (value_if_any e s)
+  restart_of : (k : ℕ) (e : Option Expression) → IsTypedRestart here k e → (s : Store) → IsFittingStore p ms s → Fine (AskedStatistic p typed ms k) (value_if_any e s)
   restart_of k None g s f = asked_alone p typed ms b k g
   restart_of k (Some e) g s f = fine_turned (AskedStatistic p typed ms k) Some (value e s) (value_fine p typed ms b e Integer g.1 s f) (λ v m. asked_of p typed ms b k v g.0 m)
 
-  restarts_safe : (l : Line) (rs : List Restart) → Every (λ (r : Restart). GoodRestart here r.statistic r.of) rs → Safe p ms Any (restart_each l rs)
+  restarts_safe : (l : Line) (rs : List Restart) → Every (λ (r : Restart). IsTypedRestart here r.statistic r.of) rs → Safe p ms Any (restart_each l rs)
   restarts_safe l [] g = record { by = λ w fits. (tt, fits) }
   restarts_safe l (r ∷ rs) g =
       safe_then {P = Any} (safe_then {P = AskedStatistic p typed ms r.statistic} (safe_look l (value_if_any r.of) (restart_of r.statistic r.of g.0)) (λ x a.
@@ -285,9 +285,9 @@ module _ (p : Program) (typed : WellTyped p) (ms : List Mode) (b : Bool) where
 
   -- what is claimed of at most n more events
   abbrev EventsKept : Calls → ℕ → Type 0
-  EventsKept h n = (w : RunState) → Fits p ms w.store → is_awaited w.store ≡ true → Kept p ms Any (loop n (event_turn h.event) tt w)
+  EventsKept h n = (w : RunState) → IsFittingStore p ms w.store → is_awaited w.store ≡ true → Kept p ms Any (loop n (event_turn h.event) tt w)
 
-  over_or_on : (h : Calls) (n : ℕ) → EventsKept h n → (w : RunState) → Fits p ms w.store → (c : Bool) → is_awaited w.store ≡ c → Kept p ms Any (outcome_then (choose c (WentOn (Again tt)) (WentOn (Over tt)) w) (go_on (loop n (event_turn h.event))))
+  over_or_on : (h : Calls) (n : ℕ) → EventsKept h n → (w : RunState) → IsFittingStore p ms w.store → (c : Bool) → is_awaited w.store ≡ c → Kept p ms Any (outcome_then (choose c (WentOn (Again tt)) (WentOn (Over tt)) w) (go_on (loop n (event_turn h.event))))
   over_or_on h n more w fits true q = more w fits q
   over_or_on h n more w fits false q = (tt, fits)
 
@@ -299,7 +299,7 @@ module _ (p : Program) (typed : WellTyped p) (ms : List Mode) (b : Bool) where
   event_went h n more (Left OutOfTicks w) k = k
   event_went h n more (Left Wrong w) k = absurd k
 
-  event_ticked : (h : Calls) (n : ℕ) → CallsSafe p h → EventsKept h n → (w : RunState) → Fits p ms w.store → is_awaited w.store ≡ true → (t : ℕ) → Kept p ms Any (tick_from t (λ w. outcome_then (event_turn h.event tt w) (go_on (loop n (event_turn h.event)))) w)
+  event_ticked : (h : Calls) (n : ℕ) → CallsSafe p h → EventsKept h n → (w : RunState) → IsFittingStore p ms w.store → is_awaited w.store ≡ true → (t : ℕ) → Kept p ms Any (tick_from t (λ w. outcome_then (event_turn h.event tt w) (go_on (loop n (event_turn h.event)))) w)
   event_ticked h n ok more w fits a zero = fits.sound
   event_ticked h n ok more w fits a (suc t) = event_went h n more (h.event (record w { ticks = t })) (ok.event ms (record w { ticks = t }) fits a)
 
@@ -310,7 +310,7 @@ module _ (p : Program) (typed : WellTyped p) (ms : List Mode) (b : Bool) where
   simulate_safe : (h : Calls) → CallsSafe p h → (n : ℕ) → Safe p ms Any (simulate n h.event)
   simulate_safe h ok n = record { by = λ w fits. by w fits (is_awaited w.store) refl }
     where
-      by : (w : RunState) → Fits p ms w.store → (c : Bool) → is_awaited w.store ≡ c → Kept p ms Any (choose c (loop n (event_turn h.event) tt) (WentOn tt) w)
+      by : (w : RunState) → IsFittingStore p ms w.store → (c : Bool) → is_awaited w.store ≡ c → Kept p ms Any (choose c (loop n (event_turn h.event) tt) (WentOn tt) w)
       by w fits true q = events_kept h ok n w fits q
       by w fits false q = (tt, fits)
 
@@ -318,12 +318,12 @@ module _ (p : Program) (typed : WellTyped p) (ms : List Mode) (b : Bool) where
 
   module _ (h : Calls) (ok : CallsSafe p h) (n : ℕ) where
     mutual
-      pub statement_safe : (s : Statement) → Good here s → Safe p ms Any (effect h n s)
+      pub statement_safe : (s : Statement) → IsTypedStatement here s → Safe p ms Any (effect h n s)
       statement_safe (Let l t e) g = give_safe l t g.0 (look l (value e)) g.1 (safe_look l (value e) (value_fine p typed ms b e g.0 g.2))
       statement_safe (Change l sign t e) g = change_safe l sign t e g.0 g.1
       statement_safe (Call l k given yielding) g =
-          safe_then {P = λ vs. Hold vs g.0.given} (safe_look l (values given) (values_fine p typed ms b given g.0.given g.2)) (λ vs q.
-          safe_then {P = λ us. Hold us g.0.yielding} (ok.call ms k g.0 vs (length yielding) g.1 q (as_many yielding g.0.yielding g.3)) (λ us r. gives_safe l yielding g.0.yielding us g.3 r))
+          safe_then {P = λ vs. AreOfModes vs g.0.given} (safe_look l (values given) (values_fine p typed ms b given g.0.given g.2)) (λ vs q.
+          safe_then {P = λ us. AreOfModes us g.0.yielding} (ok.call ms k g.0 vs (length yielding) g.1 q (as_many yielding g.0.yielding g.3)) (λ us r. gives_safe l yielding g.0.yielding us g.3 r))
       statement_safe Return g = record { by = λ w fits. fits }
       statement_safe Stop g = record { by = λ w fits. fits.sound }
       statement_safe (Read l targets) g = reads_safe l targets g
@@ -351,6 +351,6 @@ module _ (p : Program) (typed : WellTyped p) (ms : List Mode) (b : Bool) where
       statement_safe (Skip l e) g =
           safe_then {P = Any} (safe_look l (λ s. if_ok (value e s) empty_lines) (λ s f. fine_then Any (value e s) empty_lines (value_fine p typed ms b e Integer g s f) (λ v m. empty_fine v m))) (λ bytes u. safe_send bytes)
 
-      pub block_safe : (x : Block) → GoodBlock here x → Safe p ms Any (effects h n x)
+      pub block_safe : (x : Block) → IsTypedBlock here x → Safe p ms Any (effects h n x)
       block_safe Done g = safe_went tt tt
       block_safe (Then s rest) g = safe_then {P = Any} (statement_safe s g.0) (λ u v. block_safe rest g.1)

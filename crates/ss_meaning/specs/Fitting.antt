@@ -19,20 +19,20 @@ use Rattle.ss_meaning.specs.Histories.{home}
 use Rattle.ss_meaning.specs.Meaning.{setting_of}
 
 -- the values hold these modes, and are as many
-abbrev pub Hold : List Value → List Mode → Type 0
-Hold vs modes = map mode_of vs ≡ modes
+abbrev pub AreOfModes : List Value → List Mode → Type 0
+AreOfModes vs modes = map mode_of vs ≡ modes
 
 -- ## Entities
 
 -- the record of an entity that lives has values of the modes of its class
-abbrev pub RecordFits : Layout → Option Record → Type 0
-RecordFits l None = Unit {0}
-RecordFits l (Some r) = Hold r.values (modes_of l r.class)
+abbrev pub IsFittingRecord : Layout → Option Record → Type 0
+IsFittingRecord l None = Unit {0}
+IsFittingRecord l (Some r) = AreOfModes r.values (modes_of l r.class)
 
-abbrev pub HeapFits : State → Type 0
-HeapFits h =
-    Every (RecordFits h.layout) h.records
-    × ((k : ℕ) (rs : List Record) → slice_get h.permanents k ≡ Some (Some rs) → Every (λ (r : Record). Hold r.values (modes_of h.layout k)) rs)
+abbrev pub IsFittingHeap : State → Type 0
+IsFittingHeap h =
+    Every (IsFittingRecord h.layout) h.records
+    × ((k : ℕ) (rs : List Record) → slice_get h.permanents k ≡ Some (Some rs) → Every (λ (r : Record). AreOfModes r.values (modes_of h.layout k)) rs)
 
 -- the class of the living entity of a creation number
 abbrev pub class_of_record : Option (Option Record) → Option ℕ
@@ -55,13 +55,13 @@ IsIndex n (pos (suc i)) = i < n
 IsIndex n (negsuc k) = ⊥
 
 -- an entity of a class lives
-abbrev pub LivesAs : ClassKind → State → (class : ℕ) → ℤ → Type 0
-LivesAs Permanent h class x = IsIndex (made h class) x
-LivesAs Temporary h class x = living h x ≡ Some class
-LivesAs Notice h class x = living h x ≡ Some class
+abbrev pub IsLivingAs : ClassKind → State → (class : ℕ) → ℤ → Type 0
+IsLivingAs Permanent h class x = IsIndex (made h class) x
+IsLivingAs Temporary h class x = living h x ≡ Some class
+IsLivingAs Notice h class x = living h x ≡ Some class
 
-abbrev pub Lives : State → (class : ℕ) → ℤ → Type 0
-Lives h class x = LivesAs (kind_of h.layout class) h class x
+abbrev pub IsLiving : State → (class : ℕ) → ℤ → Type 0
+IsLiving h class x = IsLivingAs (kind_of h.layout class) h class x
 
 -- it is a living notice
 abbrev pub IsNotice : State → ℤ → Type 0
@@ -70,12 +70,12 @@ IsNotice h x = (class : ℕ) × (living h x ≡ Some class) × (kind_of h.layout
 -- ## Histories
 
 -- an entity has a subject: the system as 0, or one that lives
-abbrev pub BearsBy : Owner → State → ℤ → Type 0
-BearsBy System h x = x ≡ pos 0
-BearsBy (Class class) h x = Lives h class x
+abbrev pub IsLivingOwner : Owner → State → ℤ → Type 0
+IsLivingOwner System h x = x ≡ pos 0
+IsLivingOwner (Class class) h x = IsLiving h class x
 
-abbrev pub BearsSubject : State → Subject → ℤ → Type 0
-BearsSubject h subject x = BearsBy (home h.layout subject) h x
+abbrev pub IsSubjectOwner : State → Subject → ℤ → Type 0
+IsSubjectOwner h subject x = IsLivingOwner (home h.layout subject) h x
 
 -- a statistic has a history of an entity
 abbrev pub Has : Column → ℤ → Type 0
@@ -85,25 +85,25 @@ Has c x = (history : History) × (c x ≡ Some history)
 abbrev pub HasHistories : (statistic : ℕ) → List Column → (ℤ → Type 0) → Type 0
 HasHistories j cs these = (c : Column) × (slice_get cs j ≡ Some c) × ((x : ℤ) → these x → Has c x)
 
-abbrev pub HistoriesFit : List Statistic → State → List Column → Type 0
-HistoriesFit ss h cs = (j : ℕ) (t : Statistic) → slice_get ss j ≡ Some t → HasHistories j cs (BearsSubject h t.subject)
+abbrev pub HasAllHistories : List Statistic → State → List Column → Type 0
+HasAllHistories ss h cs = (j : ℕ) (t : Statistic) → slice_get ss j ≡ Some t → HasHistories j cs (IsSubjectOwner h t.subject)
 
 -- ## Stores
 
-pub record WorldFits (p : Program) (c : World) : Type 0 where
+pub record IsFittingWorld (p : Program) (c : World) : Type 0 where
   pub setting : c.setting ≡ setting_of p
   pub layout : c.heap.layout ≡ p.layout
-  pub heap : HeapFits c.heap
+  pub heap : IsFittingHeap c.heap
   -- each notice that is pending lives
   pub pending : Every (λ e. IsNotice c.heap e.notice) c.pending.entries
-  pub histories : HistoriesFit p.statistics c.heap c.histories
+  pub histories : HasAllHistories p.statistics c.heap c.histories
 
 -- a store apart from its local variables
-pub record Sound (p : Program) (s : Store) : Type 0 where
-  pub globals : Hold s.globals p.globals
-  pub world : WorldFits p s.world
+pub record IsSoundStore (p : Program) (s : Store) : Type 0 where
+  pub globals : AreOfModes s.globals p.globals
+  pub world : IsFittingWorld p s.world
 
 -- with local variables of these modes
-pub record Fits (p : Program) (modes : List Mode) (s : Store) : Type 0 where
-  pub sound : Sound p s
-  pub locals : Hold s.locals modes
+pub record IsFittingStore (p : Program) (modes : List Mode) (s : Store) : Type 0 where
+  pub sound : IsSoundStore p s
+  pub locals : AreOfModes s.locals modes

@@ -113,35 +113,35 @@ module _ (p : ProgramTree) (cs : List PlainClass) (ss : List SetLayout) (orders 
             (subst (λ (k : RankKey). typed.field_mode r found.0.class k.field ≡ Some found.0.mode) own.1 (field_at name found.0 found.1)),
       )
 
-  ties_good : (class : ℕ) (name : NameBytes) (keys : List RankKey) → tie_keys (table p) class name ≡ Some keys → typed.GoodKeys r class keys
+  ties_good : (class : ℕ) (name : NameBytes) (keys : List RankKey) → tie_keys (table p) class name ≡ Some keys → typed.AreTypedKeys r class keys
   ties_good class name keys e =
       each_every (tied_by (table p) class) (IsField class) (filter (λ (k : TiedBy). same_name k.class name) (table p).tie_keys) keys e (λ k key g. key_good class k.high k.attribute key g)
 
   -- ---- disciplines
 
-  ruled_good : (y : SetLayout) (statement : ℕ) (rule : SetRule) (x : Discipline) → ruled (table p) (Some y.member) statement rule ≡ Some x → typed.GoodDiscipline r y x
-  ruled_good y statement rules.Fifo x e = subst (typed.GoodDiscipline r y) (same_Some orders_of.Fifo x e) tt
-  ruled_good y statement rules.Lifo x e = subst (typed.GoodDiscipline r y) (same_Some orders_of.Lifo x e) tt
+  ruled_good : (y : SetLayout) (statement : ℕ) (rule : SetRule) (x : Discipline) → ruled (table p) (Some y.member) statement rule ≡ Some x → typed.IsTypedDiscipline r y x
+  ruled_good y statement rules.Fifo x e = subst (typed.IsTypedDiscipline r y) (same_Some orders_of.Fifo x e) tt
+  ruled_good y statement rules.Lifo x e = subst (typed.IsTypedDiscipline r y) (same_Some orders_of.Lifo x e) tt
   ruled_good y statement rules.Ranked x e =
       let keys = got (rank_keys (table p) y.member statement) (λ ks. Some (orders_of.Ranked ks)) x e in
-      let good : typed.GoodKeys r y.member keys.0 =
+      let good : typed.AreTypedKeys r y.member keys.0 =
       each_every (ranked_by (table p) y.member) (IsField y.member) (filter (λ (k : RankedBy). k.statement == statement) (table p).rank_keys) keys.0 keys.1 (λ k key g. key_good y.member k.high k.attribute key g) in
-      subst (typed.GoodDiscipline r y) (same_Some (orders_of.Ranked keys.0) x keys.2) good
+      subst (typed.IsTypedDiscipline r y) (same_Some (orders_of.Ranked keys.0) x keys.2) good
 
-  ordered_good : (y : SetLayout) (o : Option DefinedOrder) (x : Discipline) → ordered (table p) (Some y.member) o ≡ Some x → typed.GoodDiscipline r y x
-  ordered_good y None x e = subst (typed.GoodDiscipline r y) (same_Some orders_of.Fifo x e) tt
+  ordered_good : (y : SetLayout) (o : Option DefinedOrder) (x : Discipline) → ordered (table p) (Some y.member) o ≡ Some x → typed.IsTypedDiscipline r y x
+  ordered_good y None x e = subst (typed.IsTypedDiscipline r y) (same_Some orders_of.Fifo x e) tt
   ordered_good y (Some o) x e = ruled_good y o.statement o.rule x e
 
-  disciplines_good : each set_layout (table p).sets ≡ Some ss → disciplines (table p) ≡ Some orders → AllZip (typed.GoodDiscipline r) r.layout.sets r.disciplines
+  disciplines_good : each set_layout (table p).sets ≡ Some ss → disciplines (table p) ≡ Some orders → AllZip (typed.IsTypedDiscipline r) r.layout.sets r.disciplines
   disciplines_good e f =
-      let good = each_zip set_layout (discipline (table p)) (typed.GoodDiscipline r) (table p).sets ss orders e f
+      let good = each_zip set_layout (discipline (table p)) (typed.IsTypedDiscipline r) (table p).sets ss orders e f
       (λ (s : Set) y x is ordered_so. ordered_good y s.order x (subst (λ (o : Option ℕ). ordered (table p) o s.order ≡ Some x) (member_laid s y is) ordered_so)) in
-      subst (λ (l : List SetLayout). AllZip (typed.GoodDiscipline r) l r.disciplines) (sym (ap (λ (l : PlainLayout). l.sets) h.layout))
-      (subst (AllZip (typed.GoodDiscipline r) ss) (sym h.disciplines) good)
+      subst (λ (l : List SetLayout). AllZip (typed.IsTypedDiscipline r) l r.disciplines) (sym (ap (λ (l : PlainLayout). l.sets) h.layout))
+      (subst (AllZip (typed.IsTypedDiscipline r) ss) (sym h.disciplines) good)
 
   -- ---- counts and statistics
 
-  count_good : IsValidTable (table p) (laid_of (table p) cs ss orders stats) → (name : NameBytes) (meaning : Meaning) → value_for (table p).meanings name ≡ Some meaning → Every (typed.GoodCount r) (count_by meaning)
+  count_good : IsValidTable (table p) (laid_of (table p) cs ss orders stats) → (name : NameBytes) (meaning : Meaning) → value_for (table p).meanings name ≡ Some meaning → Every (typed.IsTypedCount r) (count_by meaning)
   count_good valid name (m.Count count) is =
       let known = name_known (declarations p) name (m.Count count) is in
       let class = value_by_place (classes (declarations p)) known.0 count.class known.2 in
@@ -151,38 +151,38 @@ module _ (p : ProgramTree) (cs : List PlainClass) (ss : List SetLayout) (orders 
       ((ap (option_map (λ (x : PlainClass). x.kind)) c.1 ∙ kind, ap (λ (modes : List Mode). slice_get modes count.variable) h.globals ∙ whole), tt)
   count_good valid name _ is = tt
 
-  counts_good : IsValidTable (table p) (laid_of (table p) cs ss orders stats) → Every (typed.GoodCount r) r.counts
+  counts_good : IsValidTable (table p) (laid_of (table p) cs ss orders stats) → Every (typed.IsTypedCount r) r.counts
   counts_good valid =
       let ms = (table p).meanings in
       let ds = declarations p in
-      subst (Every (typed.GoodCount r)) (sym h.counts) (every_piece (typed.GoodCount r) count_by (values_of ms) (λ meaning a.
+      subst (Every (typed.IsTypedCount r)) (sym h.counts) (every_piece (typed.IsTypedCount r) count_by (values_of ms) (λ meaning a.
       let e = from_image (λ (x : NameBytes × Meaning). x.1) ms meaning a in
       count_good valid e.0.0 meaning (value_of_entry (given_by (declares (numbered ds)) ds) e.0.0 e.0.1 e.1 ∙ ap Some e.2)))
 
-  subject_good : (meaning : Meaning) (subject : Subject) → IsMeant (table p) (laid_of (table p) cs ss orders stats) meaning → is_text (Some meaning) ≡ false → subject_of (Some meaning) ≡ Some subject → typed.GoodSubject r subject
+  subject_good : (meaning : Meaning) (subject : Subject) → IsMeant (table p) (laid_of (table p) cs ss orders stats) meaning → is_text (Some meaning) ≡ false → subject_of (Some meaning) ≡ Some subject → typed.IsTypedSubject r subject
   subject_good (m.Variable (Global k) Integer) subject known whole e =
       let plain = subst (Every (λ (c : CountedClass). c.variable ≢ k)) (sym h.counts) known.1 in
-      subst (typed.GoodSubject r) (same_Some (OfVariable k) subject e) (ap (λ (modes : List Mode). slice_get modes k) h.globals ∙ known.0, plain)
+      subst (typed.IsTypedSubject r) (same_Some (OfVariable k) subject e) (ap (λ (modes : List Mode). slice_get modes k) h.globals ∙ known.0, plain)
   subject_good (m.Variable (Global k) Alpha) subject known whole e = absurd cc
   subject_good (m.Attribute class field Integer) subject known whole e =
       let at : slice_get r.layout.classes class ≡ Some known.0 = ap (λ (l : PlainLayout). slice_get l.classes class) h.layout ∙ known.1 in
-      subst (typed.GoodSubject r) (same_Some (OfAttribute class field) subject e)
+      subst (typed.IsTypedSubject r) (same_Some (OfAttribute class field) subject e)
       (ap (λ (o : Option PlainClass). option_and_then (λ modes. slice_get modes field) (option_map (λ (x : PlainClass). x.fields) o)) at ∙ known.2)
   subject_good (m.Attribute class field Alpha) subject known whole e = absurd cc
   subject_good (m.OfSet MemberCount set) subject known whole e =
-      subst (typed.GoodSubject r) (same_Some (OfCount set) subject e) (known.laid, ap (λ (l : PlainLayout). slice_get l.sets set) h.layout ∙ known.laid_there)
+      subst (typed.IsTypedSubject r) (same_Some (OfCount set) subject e) (known.laid, ap (λ (l : PlainLayout). slice_get l.sets set) h.layout ∙ known.laid_there)
   subject_good _ subject known whole e = absurd cc
 
-  statistics_good : refusal_of_uses p ≡ None → IsValidTable (table p) (laid_of (table p) cs ss orders stats) → statistics (table p) ≡ Some stats → Every (λ (s : Statistic). typed.GoodSubject r s.subject) r.statistics
+  statistics_good : refusal_of_uses p ≡ None → IsValidTable (table p) (laid_of (table p) cs ss orders stats) → statistics (table p) ≡ Some stats → Every (λ (s : Statistic). typed.IsTypedSubject r s.subject) r.statistics
   statistics_good used valid e =
       let t = table p in
       let of_name : NameBytes → Option Subject = λ n. subject_of (value_for t.meanings n) in
-      let good = each_every (resolved_statistic t) (λ (s : Statistic). typed.GoodSubject r s.subject) (upto (length t.histories)) stats e (λ n s kept.
+      let good = each_every (resolved_statistic t) (λ (s : Statistic). typed.IsTypedSubject r s.subject) (upto (length t.histories)) stats e (λ n s kept.
       let named = mapped of_name (slice_get (keys_of t.histories) n) (Some s.subject) (sym (slice_get-map of_name (keys_of t.histories) n) ∙ subject_kept t n s kept) in
       let entry = entry_of_key t.histories n named.0 named.1 in
       let whole = at_place (IsWatched p used) t.histories n (named.0, entry.0) (all_watched p used) entry.1 in
       subject_good whole.0 s.subject (valid.meanings named.0 whole.0 whole.1) whole.3 (sym (ap subject_of whole.1) ∙ named.2)) in
-      subst (Every (λ (s : Statistic). typed.GoodSubject r s.subject)) (sym h.statistics) good
+      subst (Every (λ (s : Statistic). typed.IsTypedSubject r s.subject)) (sym h.statistics) good
 
 pub layouts_are_well_typed : LayoutsAreWellTyped
 layouts_are_well_typed p x r kept used laid =

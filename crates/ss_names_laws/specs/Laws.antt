@@ -7,7 +7,7 @@ use Rattle.ss_base.specs.Plain.{PlainLayout}
 use Rattle.ss_tree.specs.Names.{NameBytes}
 use Rattle.ss_tree.specs.Tree.{SectionTree, ProgramTree}
 use Rattle.ss_program.specs.Program.{Program}
-use Rattle.ss_program.specs.WellTyped.{GoodCount, GoodDiscipline, GoodKeys, GoodSubject}
+use Rattle.ss_program.specs.WellTyped.{IsTypedCount, IsTypedDiscipline, AreTypedKeys, IsTypedSubject}
 use Rattle.ss_names.specs.Table.{table}
 use Rattle.ss_names_scopes.specs.Locals.{locals_of}
 use Rattle.ss_tables_rules.specs.Broken.{refusal_of_declarations}
@@ -39,10 +39,10 @@ pub record HasLayout (x : ResolvedLayout) (r : Program) : Type 0 where
 
 -- the layout of a program that breaks no rule is well typed, and each class has keys for its ties
 pub record IsWellLaid (p : ProgramTree) (r : Program) : Type 0 where
-  pub disciplines : AllZip (GoodDiscipline r) r.layout.sets r.disciplines
-  pub counts : Every (GoodCount r) r.counts
-  pub statistics : Every (λ s. GoodSubject r s.subject) r.statistics
-  pub ties : (class : ℕ) (name : NameBytes) → slice_get (keys_of (table p).classes) class ≡ Some name → (keys : List RankKey) × (tie_keys (table p) class name ≡ Some keys) × GoodKeys r class keys
+  pub disciplines : AllZip (IsTypedDiscipline r) r.layout.sets r.disciplines
+  pub counts : Every (IsTypedCount r) r.counts
+  pub statistics : Every (λ s. IsTypedSubject r s.subject) r.statistics
+  pub ties : (class : ℕ) (name : NameBytes) → slice_get (keys_of (table p).classes) class ≡ Some name → (keys : List RankKey) × (tie_keys (table p) class name ≡ Some keys) × AreTypedKeys r class keys
 
 abbrev pub LayoutsAreWellTyped : Type 0
 LayoutsAreWellTyped =

@@ -3,7 +3,7 @@ use Rattle.std.proofs.Common.{◌≡◌, ℕ, zero, suc, ◌+◌, ◌<◌, List,
 use Rattle.std.proofs.lemmas.List.{take_more, map-append}
 use Rattle.ss_names_meaning.specs.declared.error.ResolveError.{ResolveError}
 use Rattle.ss_names_meaning.specs.declared.error.ResolveError.TheVariants.{Memory, Unresolved}
-use Rattle.ss_names_meaning.specs.Answers.{◌>>=◌, each, Fails}
+use Rattle.ss_names_meaning.specs.Answers.{◌>>=◌, each, HasFailed}
 
 -- one more item in front
 abbrev cons_of : {B : Type 0} → Option B → Option (List B) → Option (List B)
@@ -39,7 +39,7 @@ each_none step v (x ∷ xs) (suc i) d lt h = rw (each_none step v xs i d (omega 
 
 -- a call failed for an item
 pub each_fails : {X A B : Type 0} (step : A → Option B) (v : X → A) (xs : List X) (i : ℕ) (x : X) (e : ResolveError) →
-    i < length xs → x ≡ get_or xs i x → Fails e (step (v x)) → Fails e (each step (map v xs))
+    i < length xs → x ≡ get_or xs i x → HasFailed e (step (v x)) → HasFailed e (each step (map v xs))
 each_fails step v xs i x Memory lt is h = tt
 each_fails step v xs i x Unresolved lt is h = each_none step v xs i x lt (subst (λ y. step (v y) ≡ None) is h)
 
@@ -72,7 +72,7 @@ each_plain_none step (x ∷ xs) (suc i) d lt h = rw (each_plain_none step xs i d
 
 -- of the item at a place
 pub each_at_fails : {A B : Type 0} (step : A → Option B) (xs : List A) (i : ℕ) (d : A) (e : ResolveError) →
-    i < length xs → Fails e (step (get_or xs i d)) → Fails e (each step xs)
+    i < length xs → HasFailed e (step (get_or xs i d)) → HasFailed e (each step xs)
 each_at_fails step xs i d Memory lt h = tt
 each_at_fails step xs i d Unresolved lt h = each_plain_none step xs i d lt h
 
@@ -82,8 +82,8 @@ pub each_at_next : {A B : Type 0} (step : A → Option B) (xs : List A) (i : ℕ
 each_at_next step xs i d old new y lt e h g = rw (take_more xs i d lt, e) (each_more step (take i xs) (get_or xs i d) old y h g)
 
 pub each_plain_fails : {A B : Type 0} (step : A → Option B) (xs : List A) (i : ℕ) (x : A) (e : ResolveError) →
-    i < length xs → x ≡ get_or xs i x → Fails e (step x) → Fails e (each step xs)
-each_plain_fails step xs i x e lt is h = each_at_fails step xs i x e lt (subst (λ y. Fails e (step y)) is h)
+    i < length xs → x ≡ get_or xs i x → HasFailed e (step x) → HasFailed e (each step xs)
+each_plain_fails step xs i x e lt is h = each_at_fails step xs i x e lt (subst (λ y. HasFailed e (step y)) is h)
 
 pub each_plain_next : {A B : Type 0} (step : A → Option B) (xs : List A) (i : ℕ) (x : A) (old new : List B) (y : B) →
     i < length xs → x ≡ get_or xs i x → new ≡ old ++ y ∷ [] →

@@ -5,7 +5,7 @@ use Rattle.std.proofs.lemmas.List.{append-nil}
 use Rattle.std.proofs.lemmas.List.Elements.{filter_more}
 use Rattle.ss_names_meaning.specs.declared.error.ResolveError.{ResolveError}
 use Rattle.ss_names_meaning.specs.declared.error.ResolveError.TheVariants.{Memory, Unresolved}
-use Rattle.ss_names_meaning.specs.Answers.{◌>>=◌, each, Fails}
+use Rattle.ss_names_meaning.specs.Answers.{◌>>=◌, each, HasFailed}
 use Rattle.ss_names_meaning.proofs.Each.{each_more}
 
 -- one more item in front
@@ -47,7 +47,7 @@ passed_none step p (x ∷ xs) zero d lt t h = rw (t, h) refl
 passed_none step p (x ∷ xs) (suc i) d lt t h = skip_none step (p x) x (filter p xs) (passed_none step p xs i d (omega (arith, lt)) t h)
 
 pub passed_fail : {A B : Type 0} (step : A → Option B) (p : A → Bool) (xs : List A) (i : ℕ) (x : A) (e : ResolveError) →
-    i < length xs → x ≡ get_or xs i x → p x ≡ true → Fails e (step x) → Fails e (each step (filter p xs))
+    i < length xs → x ≡ get_or xs i x → p x ≡ true → HasFailed e (step x) → HasFailed e (each step (filter p xs))
 passed_fail step p xs i x Memory lt is t h = tt
 passed_fail step p xs i x Unresolved lt is t h =
     passed_none step p xs i x lt (subst (λ y. p y ≡ true) is t) (subst (λ y. step y ≡ None) is h)

@@ -5,7 +5,7 @@ use Rattle.std.proofs.lemmas.List.{take_more, flat_map_more}
 use Rattle.std.proofs.lemmas.Bool.{cases_lt}
 use Rattle.ss_names_meaning.specs.declared.error.ResolveError.{ResolveError}
 use Rattle.ss_names_meaning.specs.declared.error.ResolveError.TheVariants.{Memory, Unresolved}
-use Rattle.ss_names_meaning.specs.Answers.{each, upto, Fails}
+use Rattle.ss_names_meaning.specs.Answers.{each, upto, HasFailed}
 use Rattle.ss_names_meaning.proofs.Each.{each_more}
 use Rattle.ss_names_meaning.proofs.EachThat.{front_none, last_none}
 
@@ -18,7 +18,7 @@ upto_none step (suc n) i lt h =
       | inr above ↦ let same : i ≡ n = omega (arith, lt, above) in last_none step (upto n) n (subst (λ k. step k ≡ None) same h)
     ]
 
-pub numbers_fail : {B : Type 0} (step : ℕ → Option B) (n i : ℕ) (e : ResolveError) → i < n → Fails e (step i) → Fails e (each step (upto n))
+pub numbers_fail : {B : Type 0} (step : ℕ → Option B) (n i : ℕ) (e : ResolveError) → i < n → HasFailed e (step i) → HasFailed e (each step (upto n))
 numbers_fail step n i Memory lt h = tt
 numbers_fail step n i Unresolved lt h = upto_none step n i lt h
 

@@ -39,11 +39,11 @@ upto zero = []
 upto (suc n) = upto n ++ n ∷ []
 
 -- a call that is to find a result failed: there is none, or memory was refused
-abbrev pub Fails : {Y : Type 0} → ResolveError → Option Y → Type 0
-Fails Memory found = Unit {0}
-Fails Unresolved found = found ≡ None
+abbrev pub HasFailed : {Y : Type 0} → ResolveError → Option Y → Type 0
+HasFailed Memory found = Unit {0}
+HasFailed Unresolved found = found ≡ None
 
 -- a call gives the result, as seen by this view, unless memory is refused
-abbrev pub Gives : {X Y : Type 0} → (X → Y) → Result X ResolveError → Option Y → Type 0
-Gives view (Ok x) found = found ≡ Some (view x)
-Gives view (Err e) found = Fails e found
+abbrev pub HasGiven : {X Y : Type 0} → (X → Y) → Result X ResolveError → Option Y → Type 0
+HasGiven view (Ok x) found = found ≡ Some (view x)
+HasGiven view (Err e) found = HasFailed e found

@@ -3,7 +3,7 @@
 ghost use Rattle.std.specs.Prelude.{◌≡◌, ◌++◌, slice_get, IfOk, OnOk};
 ghost use Rattle.std.specs.List.{flat_map};
 ghost use Rattle.std.specs.Map.{values_of};
-ghost use Rattle.ss_names_meaning.specs.Answers.{Gives, each, upto};
+ghost use Rattle.ss_names_meaning.specs.Answers.{HasGiven, each, upto};
 ghost use Rattle.ss_names_meaning.specs.Layouts.{count_by, counts, resolved_statistic, statistics};
 
 use crate::error::ResolveError;
@@ -60,7 +60,7 @@ fn subject_at(names: &Names, number: usize) -> Option<Option<Subject>>
 
 // The statistic of the history of this number.
 fn resolved_statistic(names: &Names, number: usize) -> Result<Statistic, ResolveError>
-    ensures { Gives (λ x. x) result (resolved_statistic names.now number) }
+    ensures { HasGiven (λ x. x) result (resolved_statistic names.now number) }
 {
     let Some(weighting) = weighting_at(names, number) else {
         return Err(ResolveError::Unresolved);
@@ -80,7 +80,7 @@ fn statistics_upto(
     names: &Names,
     count: usize,
 ) -> Result<Vec<Statistic>, ResolveError>
-    ensures { Gives (λ v. v.items) result (each (resolved_statistic names.now) (upto count)) }
+    ensures { HasGiven (λ v. v.items) result (each (resolved_statistic names.now) (upto count)) }
 {
     let mut resolved = Vec::new(alloc);
     for number in 0..count {
@@ -95,7 +95,7 @@ pub(crate) fn resolve_statistics(
     alloc: Global,
     names: &Names,
 ) -> Result<Vec<Statistic>, ResolveError>
-    ensures { Gives (λ v. v.items) result (statistics names.now) }
+    ensures { HasGiven (λ v. v.items) result (statistics names.now) }
 {
     statistics_upto(alloc, names, names.histories.len())
 }

@@ -1,6 +1,6 @@
 //! What the table lays out, in one struct.
 
-ghost use Rattle.ss_names_meaning.specs.Answers.{Gives};
+ghost use Rattle.ss_names_meaning.specs.Answers.{HasGiven};
 ghost use Rattle.ss_names_meaning.specs.Layouts.{resolved_layout};
 ghost use Rattle.ss_names_meaning.specs.View.{view_laid};
 
@@ -26,7 +26,7 @@ pub struct Laid {
 
 /// What the table of names lays out.
 pub fn lay_out(alloc: Global, names: &Names) -> Result<Laid, ResolveError>
-    ensures { Gives view_laid result (resolved_layout names.now) }
+    ensures { HasGiven view_laid result (resolved_layout names.now) }
 {
     let layout = resolve_layout(alloc, names)?;
     let disciplines = resolve_disciplines(alloc, names)?;

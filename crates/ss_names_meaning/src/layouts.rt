@@ -2,7 +2,7 @@
 
 ghost use Rattle.std.specs.Prelude.{◌≡◌, IfOk};
 ghost use Rattle.ss_names_declarations.specs.NameTable.{value_for};
-ghost use Rattle.ss_names_meaning.specs.Answers.{Gives, each, upto};
+ghost use Rattle.ss_names_meaning.specs.Answers.{HasGiven, each, upto};
 ghost use Rattle.ss_names.specs.Table.{mode_of_attribute};
 ghost use Rattle.ss_names_meaning.specs.Layouts.{class_layout, layout, set_layout};
 
@@ -21,7 +21,7 @@ pub(crate) fn attribute_named(names: &Names, name: &Name) -> Option<Attribute>
 
 // The mode of an attribute.
 fn field_mode(names: &Names, name: &Name) -> Result<Mode, ResolveError>
-    ensures { Gives (λ x. x) result (mode_of_attribute names.now name.now) }
+    ensures { HasGiven (λ x. x) result (mode_of_attribute names.now name.now) }
 {
     match attribute_named(names, name) {
         Some(attribute) => Ok(attribute.mode),
@@ -31,7 +31,7 @@ fn field_mode(names: &Names, name: &Name) -> Result<Mode, ResolveError>
 
 // The modes of attributes.
 fn field_modes(alloc: Global, names: &Names, trees: &[Name]) -> Result<Vec<Mode>, ResolveError>
-    ensures { Gives (λ v. v.items) result (each (mode_of_attribute names.now) trees.now) }
+    ensures { HasGiven (λ v. v.items) result (each (mode_of_attribute names.now) trees.now) }
 {
     let mut resolved = Vec::new(alloc);
     for tree in trees {
@@ -43,7 +43,7 @@ fn field_modes(alloc: Global, names: &Names, trees: &[Name]) -> Result<Vec<Mode>
 
 // The class of this number.
 fn class_layout(alloc: Global, names: &Names, number: usize) -> Result<ClassLayout, ResolveError>
-    ensures { Gives (λ x. x) result (class_layout names.now number) }
+    ensures { HasGiven (λ x. x) result (class_layout names.now number) }
 {
     let Some(kind) = value_at(&names.classes, number) else {
         return Err(ResolveError::Unresolved);
@@ -58,7 +58,7 @@ fn classes_laid(
     names: &Names,
     count: usize,
 ) -> Result<Vec<ClassLayout>, ResolveError>
-    ensures { Gives (λ v. v.items) result (each (class_layout names.now) (upto count)) }
+    ensures { HasGiven (λ v. v.items) result (each (class_layout names.now) (upto count)) }
 {
     let mut resolved = Vec::new(alloc);
     for number in 0..count {
@@ -70,7 +70,7 @@ fn classes_laid(
 
 // A set.
 fn set_layout(set: &Set) -> Result<SetLayout, ResolveError>
-    ensures { Gives (λ x. x) result (set_layout set.now) }
+    ensures { HasGiven (λ x. x) result (set_layout set.now) }
 {
     let Some(owner) = set.owner else {
         return Err(ResolveError::Unresolved);
@@ -83,7 +83,7 @@ fn set_layout(set: &Set) -> Result<SetLayout, ResolveError>
 
 // Sets.
 fn sets_laid(alloc: Global, trees: &[Set]) -> Result<Vec<SetLayout>, ResolveError>
-    ensures { Gives (λ v. v.items) result (each set_layout trees.now) }
+    ensures { HasGiven (λ v. v.items) result (each set_layout trees.now) }
 {
     let mut resolved = Vec::new(alloc);
     for tree in trees {
@@ -95,7 +95,7 @@ fn sets_laid(alloc: Global, trees: &[Set]) -> Result<Vec<SetLayout>, ResolveErro
 
 /// The classes and the sets.
 pub(crate) fn resolve_layout(alloc: Global, names: &Names) -> Result<Layout, ResolveError>
-    ensures { Gives (λ x. x) result (layout names.now) }
+    ensures { HasGiven (λ x. x) result (layout names.now) }
 {
     let classes = classes_laid(alloc, names, names.classes.len())?;
     let sets = sets_laid(alloc, &names.sets)?;

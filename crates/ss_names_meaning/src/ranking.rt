@@ -4,7 +4,7 @@ ghost use Rattle.std.specs.Prelude.{◌≡◌, ◌==◌, IfOk};
 ghost use Rattle.std.specs.List.{filter};
 ghost use Rattle.std.specs.Option.{option_map};
 ghost use Rattle.ss_names_declarations.specs.NameTable.{same_name};
-ghost use Rattle.ss_names_meaning.specs.Answers.{Gives, each};
+ghost use Rattle.ss_names_meaning.specs.Answers.{HasGiven, each};
 ghost use Rattle.ss_names_meaning.specs.Layouts.{discipline, disciplines, rank_key, ordered, rank_keys, ranked_by, tie_keys, tied_by};
 
 use crate::error::ResolveError;
@@ -16,7 +16,7 @@ use std::alloc::{AllocError, Global};
 
 // An attribute of a class as a key.
 fn key_of(names: &Names, class: usize, high: bool, name: &Name) -> Result<RankKey, ResolveError>
-    ensures { Gives (λ x. x) result (rank_key names.now class high name.now) }
+    ensures { HasGiven (λ x. x) result (rank_key names.now class high name.now) }
 {
     let Some(known) = attribute_named(names, name) else {
         return Err(ResolveError::Unresolved);
@@ -33,14 +33,14 @@ fn key_of(names: &Names, class: usize, high: bool, name: &Name) -> Result<RankKe
 
 // A key of a ranked set, by the class of its members.
 fn ranked_by(names: &Names, class: usize, key: &RankedBy) -> Result<RankKey, ResolveError>
-    ensures { Gives (λ x. x) result (ranked_by names.now class key.now) }
+    ensures { HasGiven (λ x. x) result (ranked_by names.now class key.now) }
 {
     key_of(names, class, key.high, &key.attribute)
 }
 
 // A key that breaks the ties of a class.
 fn tied_by(names: &Names, class: usize, tie: &TiedBy) -> Result<RankKey, ResolveError>
-    ensures { Gives (λ x. x) result (tied_by names.now class tie.now) }
+    ensures { HasGiven (λ x. x) result (tied_by names.now class tie.now) }
 {
     key_of(names, class, tie.high, &tie.attribute)
 }
@@ -53,7 +53,7 @@ fn rank_keys_among(
     statement: usize,
     keys: &[RankedBy],
 ) -> Result<Vec<RankKey>, ResolveError>
-    ensures { Gives (λ v. v.items) result (each (ranked_by names.now class) (filter (λ k. k.statement == statement) keys.now)) }
+    ensures { HasGiven (λ v. v.items) result (each (ranked_by names.now class) (filter (λ k. k.statement == statement) keys.now)) }
 {
     let mut resolved = Vec::new(alloc);
     for key in keys {
@@ -72,7 +72,7 @@ fn rank_keys(
     class: usize,
     statement: usize,
 ) -> Result<Vec<RankKey>, ResolveError>
-    ensures { Gives (λ v. v.items) result (rank_keys names.now class statement) }
+    ensures { HasGiven (λ v. v.items) result (rank_keys names.now class statement) }
 {
     rank_keys_among(alloc, names, class, statement, &names.rank_keys)
 }
@@ -85,7 +85,7 @@ fn ties_among(
     name: Name,
     keys: &[TiedBy],
 ) -> Result<Vec<RankKey>, ResolveError>
-    ensures { Gives (λ v. v.items) result (each (tied_by names.now class) (filter (λ k. same_name k.class name) keys.now)) }
+    ensures { HasGiven (λ v. v.items) result (each (tied_by names.now class) (filter (λ k. same_name k.class name) keys.now)) }
 {
     let mut resolved = Vec::new(alloc);
     for tie in keys {
@@ -104,7 +104,7 @@ pub fn resolve_ties(
     class: usize,
     name: Name,
 ) -> Result<Vec<RankKey>, ResolveError>
-    ensures { Gives (λ v. v.items) result (tie_keys names.now class name) }
+    ensures { HasGiven (λ v. v.items) result (tie_keys names.now class name) }
 {
     ties_among(alloc, names, class, name, &names.tie_keys)
 }
@@ -116,7 +116,7 @@ fn ordered(
     member: Option<usize>,
     order: Option<DefinedOrder>,
 ) -> Result<Discipline, ResolveError>
-    ensures { Gives (λ x. x) result (ordered names.now member order) }
+    ensures { HasGiven (λ x. x) result (ordered names.now member order) }
 {
     let Some(order) = order else {
         return Ok(Discipline::Fifo);
@@ -136,7 +136,7 @@ fn ordered(
 
 // The discipline of a set.
 fn discipline(alloc: Global, names: &Names, set: &Set) -> Result<Discipline, ResolveError>
-    ensures { Gives (λ x. x) result (discipline names.now set.now) }
+    ensures { HasGiven (λ x. x) result (discipline names.now set.now) }
 {
     ordered(alloc, names, set.member, set.order)
 }
@@ -147,7 +147,7 @@ fn disciplines_of(
     names: &Names,
     trees: &[Set],
 ) -> Result<Vec<Discipline>, ResolveError>
-    ensures { Gives (λ v. v.items) result (each (discipline names.now) trees.now) }
+    ensures { HasGiven (λ v. v.items) result (each (discipline names.now) trees.now) }
 {
     let mut resolved = Vec::new(alloc);
     for tree in trees {
@@ -162,7 +162,7 @@ pub(crate) fn resolve_disciplines(
     alloc: Global,
     names: &Names,
 ) -> Result<Vec<Discipline>, ResolveError>
-    ensures { Gives (λ v. v.items) result (disciplines names.now) }
+    ensures { HasGiven (λ v. v.items) result (disciplines names.now) }
 {
     disciplines_of(alloc, names, &names.sets)
 }

@@ -10,7 +10,7 @@ use Rattle.ss_parse_expressions.specs.declared.failure.ParseFailure.{ParseFailur
 use Rattle.ss_parse_expressions.specs.declared.failure.ParseFailure.TheVariants as failures
 use Rattle.ss_parse_expressions.specs.declared.classes.WordClass.TheVariants as alike
 use Rattle.ss_parse_expressions.specs.Shapes.{Shape, ◌▷◌, nothing, either_shape, provided, Word_is, Name_is, Word_for}
-use Rattle.ss_parse_expressions.specs.Reading.{FailsReading, word, begins, begins_by, in_table, taken, name_in_token, comma, begins_more}
+use Rattle.ss_parse_expressions.specs.Reading.{HasFailedReading, word, begins, begins_by, in_table, taken, name_in_token, comma, begins_more}
 use Rattle.ss_parse_expressions.specs.ReadWords.{begins_class, begins_noisy, begins_among}
 use Rattle.ss_parse_expressions.proofs.Tools.{or_false}
 use Rattle.ss_parse_expressions.proofs.Marks.{token_less, no_skip}
@@ -147,12 +147,12 @@ pub then_key_read : (ts a b : List Token) (high : Bool) (n : List ℕ) → then_
 unfolding then_key
 then_key_read ts a b high n e f g = rw (e, f, g) refl
 
-pub then_key_no_rank : (ts : List Token) (e : ParseFailure) → FailsReading e (then_rank ts) → FailsReading e (then_key ts)
+pub then_key_no_rank : (ts : List Token) (e : ParseFailure) → HasFailedReading e (then_rank ts) → HasFailedReading e (then_key ts)
 unfolding then_key
 then_key_no_rank ts failures.Memory f = tt
 then_key_no_rank ts (failures.Refused d left) f = rw f refl
 
-pub then_key_no_name : (ts a : List Token) (high : Bool) (e : ParseFailure) → then_rank ts ≡ Ok (high, a) → FailsReading e (taken name_in_token a) → FailsReading e (then_key ts)
+pub then_key_no_name : (ts a : List Token) (high : Bool) (e : ParseFailure) → then_rank ts ≡ Ok (high, a) → HasFailedReading e (taken name_in_token a) → HasFailedReading e (then_key ts)
 unfolding then_key
 then_key_no_name ts a high failures.Memory r f = tt
 then_key_no_name ts a high (failures.Refused d left) r f = rw (r, f) refl

@@ -12,7 +12,7 @@ use Rattle.ss_tree.specs.Tree.{PreambleTree, statistics}
 use Rattle.ss_parse_expressions.specs.declared.failure.ParseFailure.{ParseFailure}
 use Rattle.ss_parse_expressions.specs.declared.failure.ParseFailure.TheVariants as failures
 use Rattle.ss_parse_expressions.specs.Shapes.{separated_list}
-use Rattle.ss_parse_expressions.specs.Reading.{FailsReading, word, is, begins, taken, name_in_token, skip_separator, begins_more}
+use Rattle.ss_parse_expressions.specs.Reading.{HasFailedReading, word, is, begins, taken, name_in_token, skip_separator, begins_more}
 use Rattle.ss_parse_expressions.specs.ReadWords.{begins_name}
 use Rattle.ss_parse_expressions.proofs.ReaderLaws.{Reads, continues_never, apply_reads, seq_reads, marked_reads, optional_reads}
 use Rattle.ss_parse_expressions.proofs.Rows.{list_reads, separated_item, Loop, loop_of}
@@ -77,7 +77,7 @@ pub statistic_read : (ts a b rest : List Token) (n : List ℕ) (kind : Statistic
 unfolding statistic
 statistic_read ts a b rest n kind same e f g = rw (sym same, e, sym f, g) refl
 
-pub statistic_no_kind : (ts a b : List Token) (n : List ℕ) (e : ParseFailure) → a ≡ ts → taken name_in_token a ≡ Ok (n, drop 1 a) → b ≡ drop 1 a → FailsReading e (statistic_kind b) → FailsReading e (statistic ts)
+pub statistic_no_kind : (ts a b : List Token) (n : List ℕ) (e : ParseFailure) → a ≡ ts → taken name_in_token a ≡ Ok (n, drop 1 a) → b ≡ drop 1 a → HasFailedReading e (statistic_kind b) → HasFailedReading e (statistic ts)
 unfolding statistic
 statistic_no_kind ts a b n failures.Memory same e f g = tt
 statistic_no_kind ts a b n (failures.Refused d left) same e f g = rw (sym same, e, sym f, g) refl

@@ -5,8 +5,8 @@ use Rattle.ss_parse_expressions.specs.declared.failure.ParseFault.{ParseFault}
 use Rattle.ss_parse_expressions.specs.declared.failure.ParseFault.TheVariants.{Syntax, TooDeep}
 use Rattle.ss_tree.specs.Tree.{ProgramTree}
 use Rattle.ss_parse_expressions.specs.Openers.{openers}
-use Rattle.ss_parse.specs.SpelledPrograms.{Program_is, Spell}
-use Rattle.ss_parse.specs.Promise.{Without_tree, One_tree}
+use Rattle.ss_parse.specs.SpelledPrograms.{Program_is, Is_spelling}
+use Rattle.ss_parse.specs.Promise.{Has_no_tree, One_tree}
 use Rattle.ss_parse_expressions.specs.Reading.{◌>>=◌}
 use Rattle.ss_parse.specs.ReadPrograms.{none_left, program_in, program_of}
 use Rattle.ss_parse_expressions.proofs.Tools.{bind_ok, result_is}
@@ -17,14 +17,14 @@ none_is : (p q : ProgramTree) (rest : List Token) → none_left (p, rest) ≡ Ok
 none_is p q [] e = (result_is p q e, refl)
 none_is p q (r ∷ rest) e = absurd cc
 
-pub program_sound : (levels : ℕ) (ts : List Token) (p : ProgramTree) → program_of levels ts ≡ Ok p → Spell ts levels p
+pub program_sound : (levels : ℕ) (ts : List Token) (p : ProgramTree) → program_of levels ts ≡ Ok p → Is_spelling ts levels p
 unfolding program_of
 program_sound levels ts p e =
     let x = bind_ok (program_in (suc levels) ts) none_left p e in
     let end = none_is x.0.0 p x.0.1 x.2 in
-    subst (λ (q : ProgramTree). Spell ts levels q) end.0 (subst (λ (r : List Token). Program_is levels x.0.0 ts r) end.1 ((program_reads levels levels (omega arith)).sound ts x.0.0 x.0.1 x.1))
+    subst (λ (q : ProgramTree). Is_spelling ts levels q) end.0 (subst (λ (r : List Token). Program_is levels x.0.0 ts r) end.1 ((program_reads levels levels (omega arith)).sound ts x.0.0 x.0.1 x.1))
 
-pub program_complete : (levels : ℕ) (ts : List Token) (p : ProgramTree) → Spell ts levels p → program_of levels ts ≡ Ok p
+pub program_complete : (levels : ℕ) (ts : List Token) (p : ProgramTree) → Is_spelling ts levels p → program_of levels ts ≡ Ok p
 unfolding program_of
 program_complete levels ts p s =
     let read : program_in (suc levels) ts ≡ Ok (p, []) = (program_reads levels levels (omega arith)).complete ts p [] s refl in
@@ -42,7 +42,7 @@ pub one_tree : One_tree
 one_tree ts n m p q s r =
     result_is p q (sym (raised n (max n m) ts p (omega arith) (program_complete n ts p s)) ∙ raised m (max n m) ts q (omega arith) (program_complete m ts q r))
 
-pub none_at_all : (limit : ℕ) (ts : List Token) → program_of limit ts ≡ Err Syntax → (levels : ℕ) → Without_tree ts levels
+pub none_at_all : (limit : ℕ) (ts : List Token) → program_of limit ts ≡ Err Syntax → (levels : ℕ) → Has_no_tree ts levels
 none_at_all limit ts h levels p s =
     let read = raised levels (max limit levels) ts p (omega arith) (program_complete levels ts p s) in
     elim (program_upto limit (max limit levels) ts (omega arith)) [ inl e ↦ absurd cc | inr e ↦ absurd cc ]
@@ -53,7 +53,7 @@ deep (Ok (p, x ∷ rest)) k n h e = absurd cc
 deep (Err Syntax) k n h e = absurd cc
 deep (Err TooDeep) k n h e = h
 
-pub none_within : (limit : ℕ) (ts : List Token) → program_of limit ts ≡ Err TooDeep → Without_tree ts limit × (limit < openers ts)
+pub none_within : (limit : ℕ) (ts : List Token) → program_of limit ts ≡ Err TooDeep → Has_no_tree ts limit × (limit < openers ts)
 unfolding program_of
 none_within limit ts h = (λ p s. let read = program_complete limit ts p s in absurd cc, deep (program_in (suc limit) ts) (suc limit) (openers ts) ((program_reads limit limit (omega arith)).opening ts) h)
 

@@ -15,7 +15,7 @@ use Rattle.ss_parse_expressions.specs.declared.failure.ParseFailure.{ParseFailur
 use Rattle.ss_parse_expressions.specs.declared.failure.ParseFailure.TheVariants as failures
 use Rattle.ss_parse_expressions.specs.Openers.{openers}
 use Rattle.ss_parse_expressions.specs.Shapes.{Shape, ◌▷◌, Word_is, first_token_line}
-use Rattle.ss_parse_expressions.specs.Reading.{◌>>=◌, FailsReading, word, begins}
+use Rattle.ss_parse_expressions.specs.Reading.{◌>>=◌, HasFailedReading, word, begins}
 use Rattle.ss_parse_expressions.proofs.Tools.{bind_ok, which, chosen, carry, or_false, ok_or_err}
 use Rattle.ss_parse_expressions.proofs.Marks.{token}
 use Rattle.ss_parse_expressions.proofs.Depth.{upto_same, Bounded, bounded_bind, bounded_if}
@@ -184,6 +184,6 @@ preamble_grows view old new x group group' ts rest total pushed started e goes s
 pub preamble_ends : (view : PreambleStatement → PreambleTree) (read : List PreambleStatement) (group : Option ClassKind) (ts : List Token) (total : Result (List PreambleTree × List Token) ParseFault) → begins_preamble ts ≡ false → with_front (map view read) (preambles group ts) ≡ total → total ≡ Ok (map view read, ts)
 preamble_ends view read group ts total over so_far = sym so_far ∙ ap (with_front (map view read)) (preambles_done group ts over) ∙ ap (λ (ys : List PreambleTree). Ok (ys, ts)) (append-nil (map view read))
 
-pub preamble_breaks : (view : PreambleStatement → PreambleTree) (read : List PreambleStatement) (group : Option ClassKind) (ts : List Token) (e : ParseFailure) (total : Result (List PreambleTree × List Token) ParseFault) → begins_preamble ts ≡ true → FailsReading e (preamble_in group ts) → with_front (map view read) (preambles group ts) ≡ total → FailsReading e total
+pub preamble_breaks : (view : PreambleStatement → PreambleTree) (read : List PreambleStatement) (group : Option ClassKind) (ts : List Token) (e : ParseFailure) (total : Result (List PreambleTree × List Token) ParseFault) → begins_preamble ts ≡ true → HasFailedReading e (preamble_in group ts) → with_front (map view read) (preambles group ts) ≡ total → HasFailedReading e total
 preamble_breaks view read group ts failures.Memory total started f so_far = tt
 preamble_breaks view read group ts (failures.Refused f left) total started e so_far = sym so_far ∙ ap (with_front (map view read)) (preambles_fail group ts f started e)

@@ -38,5 +38,5 @@ abbrev pub Program_is : ℕ → ProgramTree → Shape
 Program_is levels p = Whole_preamble p.preamble ▷ each_in_turn (Section_is levels) p.sections
 
 -- The tokens spell the program, whose nesting is so many levels at most.
-abbrev pub Spell : List Token → ℕ → ProgramTree → Type 0
-Spell ts levels p = Program_is levels p ts []
+abbrev pub Is_spelling : List Token → ℕ → ProgramTree → Type 0
+Is_spelling ts levels p = Program_is levels p ts []

@@ -3,8 +3,8 @@
 ghost use Rattle.std.specs.Prelude.{◌<◌, IfOk, IfErr, length};
 ghost use Rattle.ss_tree.specs.View.{view_program_tree};
 ghost use Rattle.ss_parse_expressions.specs.Openers.{nesting_limit};
-ghost use Rattle.ss_parse.specs.SpelledPrograms.{Spell};
-ghost use Rattle.ss_parse.specs.Promise.{Is_refused, Has_line, Line_of_one, One_tree};
+ghost use Rattle.ss_parse.specs.SpelledPrograms.{Is_spelling};
+ghost use Rattle.ss_parse.specs.Promise.{Is_refused, Has_line, Is_line_of_one, One_tree};
 
 use crate::error::ParseError;
 use crate::reading::programs::program;
@@ -17,7 +17,7 @@ use std::alloc::Global;
 /// The line of the token with this index, or of the last one.
 fn line_of(tokens: &[Token], index: usize) -> Line
     requires { 0 < length tokens.now }
-    ensures { Line_of_one tokens.now result }
+    ensures { Is_line_of_one tokens.now result }
 {
     let last = tokens.len() - 1;
     tokens[index.min(last)].line
@@ -30,7 +30,7 @@ fn line_of(tokens: &[Token], index: usize) -> Line
 /// deeper. The line of both is that of the token at which reading stopped. `ParseError::Memory` where memory is
 /// refused.
 pub fn parse(alloc: Global, tokens: &Tokens) -> Result<Program, ParseError>
-    ensures found { IfOk result (λ p. Spell tokens.now.list nesting_limit (view_program_tree p)) }
+    ensures found { IfOk result (λ p. Is_spelling tokens.now.list nesting_limit (view_program_tree p)) }
     ensures refused { IfErr result (λ e. Is_refused tokens.now.list e) }
     ensures line { IfErr result (λ e. Has_line tokens.now.list e) }
 {

@@ -6,7 +6,7 @@ use Rattle.ss_parse_expressions.specs.declared.failure.ParseFault.{ParseFault}
 use Rattle.ss_parse_expressions.specs.declared.failure.ParseFailure.{ParseFailure}
 use Rattle.ss_parse_expressions.specs.declared.failure.ParseFailure.TheVariants as failures
 use Rattle.ss_parse_expressions.specs.Openers.{openers}
-use Rattle.ss_parse_expressions.specs.Reading.{Reader, ◌>>=◌, FailsReading, row, rows, first_and, comma, word, begins, skip, skip_separator, begins_more, list_of, kind_of_mark}
+use Rattle.ss_parse_expressions.specs.Reading.{Reader, ◌>>=◌, HasFailedReading, row, rows, first_and, comma, word, begins, skip, skip_separator, begins_more, list_of, kind_of_mark}
 use Rattle.ss_lex.specs.declared.word.Word.TheVariants as words
 use Rattle.ss_parse_expressions.specs.Shapes as shapes
 use Rattle.ss_parse_expressions.specs.Shapes.{Shape, ◌▷◌, nothing, never, either_shape, each_in_turn, separated_list, separator}
@@ -245,7 +245,7 @@ module _ {A V : Type 0} (view : V → A) {starts : List Token → Bool} {item : 
   is_done read ts total over so_far = sym so_far ∙ ap (with_front (map view read)) (rows_done starts item loop.at_end loop.shrinks ts over) ∙ ap (λ ys. Ok (ys, ts)) (append-nil (map view read))
 
   -- an item fails
-  pub breaks : (read : List V) (ts : List Token) (e : ParseFailure) (total : Result (List A × List Token) ParseFault) → starts ts ≡ true → FailsReading e (item ts) → with_front (map view read) (rows starts item ts) ≡ total → FailsReading e total
+  pub breaks : (read : List V) (ts : List Token) (e : ParseFailure) (total : Result (List A × List Token) ParseFault) → starts ts ≡ true → HasFailedReading e (item ts) → with_front (map view read) (rows starts item ts) ≡ total → HasFailedReading e total
   breaks read ts failures.Memory total started f so_far = tt
   breaks read ts (failures.Refused f left) total started e so_far = sym so_far ∙ ap (with_front (map view read)) (rows_fail starts item loop.at_end loop.shrinks ts f started e)
 
@@ -258,7 +258,7 @@ module _ {A : Type 0} {starts : List Token → Bool} {item : Reader A} (loop : L
   pub is_done_plain : (read : List A) (ts : List Token) (total : Result (List A × List Token) ParseFault) → starts ts ≡ false → with_front read (rows starts item ts) ≡ total → total ≡ Ok (read, ts)
   is_done_plain read ts total over so_far = sym so_far ∙ ap (with_front read) (rows_done starts item loop.at_end loop.shrinks ts over) ∙ ap (λ ys. Ok (ys, ts)) (append-nil read)
 
-  pub breaks_plain : (read : List A) (ts : List Token) (e : ParseFailure) (total : Result (List A × List Token) ParseFault) → starts ts ≡ true → FailsReading e (item ts) → with_front read (rows starts item ts) ≡ total → FailsReading e total
+  pub breaks_plain : (read : List A) (ts : List Token) (e : ParseFailure) (total : Result (List A × List Token) ParseFault) → starts ts ≡ true → HasFailedReading e (item ts) → with_front read (rows starts item ts) ≡ total → HasFailedReading e total
   breaks_plain read ts failures.Memory total started f so_far = tt
   breaks_plain read ts (failures.Refused f left) total started e so_far = sym so_far ∙ ap (with_front read) (rows_fail starts item loop.at_end loop.shrinks ts f started e)
 

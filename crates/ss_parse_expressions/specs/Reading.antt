@@ -26,13 +26,13 @@ abbrev pub ◌>>=◌ : {A B : Type 0} → Result A ParseFault → (A → Result 
 (Err e) >>= f = Err e
 
 -- What a function returned, seen through `view`, is what reading gives, unless memory ran out.
-abbrev pub FailsReading : {Y : Type 0} → ParseFailure → Result Y ParseFault → Type 0
-FailsReading failures.Memory read = Unit {0}
-FailsReading (failures.Refused f left) read = read ≡ Err f
+abbrev pub HasFailedReading : {Y : Type 0} → ParseFailure → Result Y ParseFault → Type 0
+HasFailedReading failures.Memory read = Unit {0}
+HasFailedReading (failures.Refused f left) read = read ≡ Err f
 
-abbrev pub GivesReading : {X Y : Type 0} → (X → Y) → Result X ParseFailure → Result Y ParseFault → Type 0
-GivesReading view (Ok x) read = read ≡ Ok (view x)
-GivesReading view (Err e) read = FailsReading e read
+abbrev pub HasGivenReading : {X Y : Type 0} → (X → Y) → Result X ParseFailure → Result Y ParseFault → Type 0
+HasGivenReading view (Ok x) read = read ≡ Ok (view x)
+HasGivenReading view (Err e) read = HasFailedReading e read
 
 -- ---- single tokens
 

@@ -85,6 +85,6 @@ Loop_head_rest levels (guarded []) = never
 Loop_head_rest levels (guarded (g ∷ gs)) = Condition_is levels g.condition ▷ each_in_turn (λ h. noise ▷ Guard_is levels h) gs
 
 -- begins with FOR
-abbrev pub Begins_with_for : LoopHeadTree → Type 0
-Begins_with_for (guarded gs) = ⊥
-Begins_with_for _ = Unit {0}
+abbrev pub Is_for_head : LoopHeadTree → Type 0
+Is_for_head (guarded gs) = ⊥
+Is_for_head _ = Unit {0}

@@ -23,20 +23,20 @@ pub data ExpressionPlace : Type 0 where
   factor_place : ExpressionPlace
 
 -- where a product needs no parentheses
-abbrev pub Takes_product : ExpressionPlace → Type 0
-Takes_product factor_place = ⊥
-Takes_product _ = Unit {0}
+abbrev pub Can_take_product : ExpressionPlace → Type 0
+Can_take_product factor_place = ⊥
+Can_take_product _ = Unit {0}
 
 -- where a term with a sign needs no parentheses
-abbrev pub Takes_sign : ExpressionPlace → Type 0
-Takes_sign sum_place = Unit {0}
-Takes_sign first_place = Unit {0}
-Takes_sign _ = ⊥
+abbrev pub Can_take_sign : ExpressionPlace → Type 0
+Can_take_sign sum_place = Unit {0}
+Can_take_sign first_place = Unit {0}
+Can_take_sign _ = ⊥
 
 -- where a sum needs no parentheses
-abbrev pub Takes_sum : ExpressionPlace → Type 0
-Takes_sum sum_place = Unit {0}
-Takes_sum _ = ⊥
+abbrev pub Can_take_sum : ExpressionPlace → Type 0
+Can_take_sum sum_place = Unit {0}
+Can_take_sum _ = ⊥
 
 abbrev pub Sign_is : Sign → Shape
 Sign_is signs.Plus = Symbol_is Plus
@@ -63,11 +63,11 @@ abbrev mutual
       Symbol_is OpenParenthesis ▷ nested_shape (λ l. Spelled e sum_place l) levels ▷ Symbol_is CloseParenthesis
   Spelled (product e no_expression) place levels = never
   Spelled (product e (and_expression f fs)) place levels =
-      provided (Takes_product place) (Spelled e factor_place levels ▷ Symbol_is Star ▷ Spelled f factor_place levels ▷ Further_factors fs levels)
-  Spelled (signed sign e) place levels = provided (Takes_sign place) (Sign_is sign ▷ Spelled e term_place levels)
+      provided (Can_take_product place) (Spelled e factor_place levels ▷ Symbol_is Star ▷ Spelled f factor_place levels ▷ Further_factors fs levels)
+  Spelled (signed sign e) place levels = provided (Can_take_sign place) (Sign_is sign ▷ Spelled e term_place levels)
   Spelled (sum e no_term) place levels = never
   Spelled (sum e (and_term sign f fs)) place levels =
-      provided (Takes_sum place) (Spelled e first_place levels ▷ Sign_is sign ▷ Spelled f term_place levels ▷ Further_terms fs levels)
+      provided (Can_take_sum place) (Spelled e first_place levels ▷ Sign_is sign ▷ Spelled f term_place levels ▷ Further_terms fs levels)
 
   pub Further_arguments : ExpressionRow → ℕ → Shape
   Further_arguments no_expression levels = nothing

@@ -3,7 +3,7 @@
 ghost use Rattle.std.specs.Prelude.{◌≡◌};
 ghost use Rattle.ss_parse_expressions.specs.Words.{has_word};
 ghost use Rattle.ss_parse_expressions.specs.ReadWords.{begins_class, skip_class, expect_class};
-ghost use Rattle.ss_parse_expressions.specs.Reading.{GivesReading};
+ghost use Rattle.ss_parse_expressions.specs.Reading.{HasGivenReading};
 
 use crate::failure::ParseFailure;
 use crate::tokens::syntax;
@@ -63,7 +63,7 @@ pub fn skip_class(tokens: &[Token], class: WordClass) -> &[Token]
 
 /// What follows a word of the class, one of which has to be first.
 pub fn expect_class(tokens: &[Token], class: WordClass) -> Result<&[Token], ParseFailure>
-    ensures { GivesReading (λ rest. (tt, rest.now)) result (expect_class class tokens.now) }
+    ensures { HasGivenReading (λ rest. (tt, rest.now)) result (expect_class class tokens.now) }
 {
     if begins_class(tokens, class) {
         Ok(&tokens[1..])

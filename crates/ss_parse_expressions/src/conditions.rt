@@ -4,7 +4,7 @@ ghost use Rattle.std.specs.Prelude.{◌≡◌, map};
 ghost use Rattle.ss_tree.specs.Tree.{expression_row};
 ghost use Rattle.ss_tree.specs.View.{view_expression_tree, view_named, view_test_tree, view_conjunction_tree, view_condition_tree};
 ghost use Rattle.std.specs.Option.{option_map};
-ghost use Rattle.ss_parse_expressions.specs.Reading.{GivesReading, word, expect, apply};
+ghost use Rattle.ss_parse_expressions.specs.Reading.{HasGivenReading, word, expect, apply};
 ghost use Rattle.ss_parse_expressions.specs.declared.conditions.Verb.TheVariants.{Compares};
 ghost use Rattle.ss_parse_expressions.specs.ReadConditions.{relation_symbol, test_word_of, verb_end, worded_verb, verb, is_short, is_reference, reference_of, data_test, test_end, sum_test, test_in, conjunction_in, condition_in};
 
@@ -73,7 +73,7 @@ impl WordTable for TestWords {
 
 /// A verb that compares, and ends with the word.
 fn compares(relation: Relation, tokens: &[Token], last: Word) -> Result<(Verb, &[Token]), ParseFailure>
-    ensures { GivesReading (λ x. (x.0, x.1.now)) result (apply (λ u. Compares relation) (expect (word last)) tokens.now) }
+    ensures { HasGivenReading (λ x. (x.0, x.1.now)) result (apply (λ u. Compares relation) (expect (word last)) tokens.now) }
 {
     let rest = expect_word(tokens, last)?;
     Ok((Verb::Compares(relation), rest))
@@ -86,7 +86,7 @@ fn verb_end(
     tested: TestWord,
     tokens: &[Token],
 ) -> Result<(Verb, &[Token]), ParseFailure>
-    ensures { GivesReading (λ x. (x.0, x.1.now)) result (verb_end tested is negated tokens.now) }
+    ensures { HasGivenReading (λ x. (x.0, x.1.now)) result (verb_end tested is negated tokens.now) }
 {
     match tested {
         TestWord::Empty if is => Ok((Verb::IsEmpty(negated), tokens)),
@@ -104,7 +104,7 @@ fn verb_end(
 /// A test's verb in words.
 #[tactic(auto, unfolding(crate::specs::ReadConditions::worded_verb))]
 fn worded_verb(tokens: &[Token]) -> Result<(Verb, &[Token]), ParseFailure>
-    ensures { GivesReading (λ x. (x.0, x.1.now)) result (worded_verb tokens.now) }
+    ensures { HasGivenReading (λ x. (x.0, x.1.now)) result (worded_verb tokens.now) }
 {
     let is = begins_word(tokens, Word::Is);
     let rest = skip_word(tokens, Word::Is);
@@ -116,7 +116,7 @@ fn worded_verb(tokens: &[Token]) -> Result<(Verb, &[Token]), ParseFailure>
 /// A test's verb.
 #[tactic(auto, unfolding(crate::specs::ReadConditions::verb))]
 fn any_verb(tokens: &[Token]) -> Result<(Verb, &[Token]), ParseFailure>
-    ensures { GivesReading (λ x. (x.0, x.1.now)) result (verb tokens.now) }
+    ensures { HasGivenReading (λ x. (x.0, x.1.now)) result (verb tokens.now) }
 {
     match tokens {
         [] => worded_verb(tokens),
@@ -182,7 +182,7 @@ fn test_end(
     tokens: &[Token],
     room: u8,
 ) -> Result<(Test, &[Token]), ParseFailure>
-    ensures { GivesReading (λ x. (view_test_tree x.0, x.1.now)) result (test_end room (view_expression_tree left) verb tokens.now) }
+    ensures { HasGivenReading (λ x. (view_test_tree x.0, x.1.now)) result (test_end room (view_expression_tree left) verb tokens.now) }
 {
     match verb {
         Verb::Compares(relation) => {
@@ -214,7 +214,7 @@ fn test_end(
 /// DATA IS ENDED.
 #[tactic(auto, unfolding(crate::specs::ReadConditions::data_test))]
 fn data_test(tokens: &[Token]) -> Result<(Test, &[Token]), ParseFailure>
-    ensures { GivesReading (λ x. (view_test_tree x.0, x.1.now)) result (data_test tokens.now) }
+    ensures { HasGivenReading (λ x. (view_test_tree x.0, x.1.now)) result (data_test tokens.now) }
 {
     let rest = expect_word(tokens, Word::Data)?;
     let rest = expect_word(rest, Word::Is)?;
@@ -226,7 +226,7 @@ fn data_test(tokens: &[Token]) -> Result<(Test, &[Token]), ParseFailure>
 /// A test that begins with an expression.
 #[tactic(auto, unfolding(crate::specs::ReadConditions::sum_test))]
 fn sum_test(alloc: Global, tokens: &[Token], room: u8) -> Result<(Test, &[Token]), ParseFailure>
-    ensures { GivesReading (λ x. (view_test_tree x.0, x.1.now)) result (sum_test room tokens.now) }
+    ensures { HasGivenReading (λ x. (view_test_tree x.0, x.1.now)) result (sum_test room tokens.now) }
 {
     let (left, rest) = sum(alloc, tokens, room)?;
     let (verb, rest) = any_verb(rest)?;
@@ -236,7 +236,7 @@ fn sum_test(alloc: Global, tokens: &[Token], room: u8) -> Result<(Test, &[Token]
 /// A test, where this many levels of nesting, one around it among them, may be opened.
 #[tactic(auto, unfolding(crate::specs::ReadConditions::test_in))]
 fn test(alloc: Global, tokens: &[Token], room: u8) -> Result<(Test, &[Token]), ParseFailure>
-    ensures { GivesReading (λ x. (view_test_tree x.0, x.1.now)) result (test_in room tokens.now) }
+    ensures { HasGivenReading (λ x. (view_test_tree x.0, x.1.now)) result (test_in room tokens.now) }
 {
     if room == 0 {
         return Err(too_deep(tokens));
@@ -254,7 +254,7 @@ fn conjunction(
     tokens: &[Token],
     room: u8,
 ) -> Result<(Conjunction, &[Token]), ParseFailure>
-    ensures { GivesReading (λ x. (view_conjunction_tree x.0, x.1.now)) result (conjunction_in room tokens.now) }
+    ensures { HasGivenReading (λ x. (view_conjunction_tree x.0, x.1.now)) result (conjunction_in room tokens.now) }
 {
     let (first, mut rest) = test(alloc, tokens, room)?;
     let mut all = alone(alloc, first)?;
@@ -272,7 +272,7 @@ pub fn condition(
     tokens: &[Token],
     room: u8,
 ) -> Result<(Condition, &[Token]), ParseFailure>
-    ensures { GivesReading (λ x. (view_condition_tree x.0, x.1.now)) result (condition_in room tokens.now) }
+    ensures { HasGivenReading (λ x. (view_condition_tree x.0, x.1.now)) result (condition_in room tokens.now) }
 {
     let (first, mut rest) = conjunction(alloc, tokens, room)?;
     let mut all = alone(alloc, first)?;

@@ -4,7 +4,7 @@ ghost use Rattle.std.specs.Prelude.{◌≡◌, IfOk, map};
 ghost use Rattle.ss_tree.specs.Tree.{signed};
 ghost use Rattle.ss_tree.specs.View.{view_expression_tree, view_term};
 ghost use Rattle.ss_parse_expressions.specs.WordTables.{function_of};
-ghost use Rattle.ss_parse_expressions.specs.Reading.{GivesReading, word, begins_by, taken, begins_more};
+ghost use Rattle.ss_parse_expressions.specs.Reading.{HasGivenReading, word, begins_by, taken, begins_more};
 ghost use Rattle.ss_parse_expressions.specs.ReadExpressions.{sum_of_terms, product_of, sign_of_token, begins_sign, designator_of_word, begins_sum, arguments_with, enclosed_with, subscripts_with, named_with, call_with, parenthesised_with, factor_in_words, factor_with, further_factors_with, term_with, signed_term_with, first_term_with, further_terms_with, sum_with, sum_in};
 
 use crate::failure::ParseFailure;
@@ -25,7 +25,7 @@ fn begins_sign(tokens: &[Token]) -> bool
 
 /// A sign.
 fn sign(tokens: &[Token]) -> Result<(Sign, &[Token]), ParseFailure>
-    ensures { GivesReading (λ x. (x.0, x.1.now)) result (taken sign_of_token tokens.now) }
+    ensures { HasGivenReading (λ x. (x.0, x.1.now)) result (taken sign_of_token tokens.now) }
 {
     match tokens {
         [] => Err(syntax(tokens)),
@@ -119,7 +119,7 @@ fn signed(alloc: Global, term: Term) -> Result<Expression, AllocError>
 #[cycle(expressions)]
 #[tactic(auto, unfolding(crate::specs::ReadExpressions::sum_in, crate::specs::ReadExpressions::sum_with))]
 pub fn sum(alloc: Global, tokens: &[Token], room: u8) -> Result<(Expression, &[Token]), ParseFailure>
-    ensures { GivesReading (λ x. (view_expression_tree x.0, x.1.now)) result (sum_in room tokens.now) }
+    ensures { HasGivenReading (λ x. (view_expression_tree x.0, x.1.now)) result (sum_in room tokens.now) }
 {
     if room == 0 {
         return Err(too_deep(tokens));
@@ -133,7 +133,7 @@ pub fn sum(alloc: Global, tokens: &[Token], room: u8) -> Result<(Expression, &[T
 #[cycle(expressions)]
 #[tactic(auto, unfolding(crate::specs::ReadExpressions::first_term_with))]
 fn first_term(alloc: Global, tokens: &[Token], room: u8) -> Result<(Expression, &[Token]), ParseFailure>
-    ensures { GivesReading (λ x. (view_expression_tree x.0, x.1.now)) result (first_term_with (sum_in room) tokens.now) }
+    ensures { HasGivenReading (λ x. (view_expression_tree x.0, x.1.now)) result (first_term_with (sum_in room) tokens.now) }
 {
     if begins_sign(tokens) {
         let (term, rest) = signed_term(alloc, tokens, room)?;
@@ -147,7 +147,7 @@ fn first_term(alloc: Global, tokens: &[Token], room: u8) -> Result<(Expression, 
 #[cycle(expressions)]
 #[tactic(auto, unfolding(crate::specs::ReadExpressions::signed_term_with))]
 fn signed_term(alloc: Global, tokens: &[Token], room: u8) -> Result<(Term, &[Token]), ParseFailure>
-    ensures { GivesReading (λ x. (view_term x.0, x.1.now)) result (signed_term_with (sum_in room) tokens.now) }
+    ensures { HasGivenReading (λ x. (view_term x.0, x.1.now)) result (signed_term_with (sum_in room) tokens.now) }
 {
     let (sign, rest) = sign(tokens)?;
     let (value, rest) = term(alloc, rest, room)?;
@@ -161,7 +161,7 @@ fn further_terms(
     tokens: &[Token],
     room: u8,
 ) -> Result<(Vec<Term>, &[Token]), ParseFailure>
-    ensures { GivesReading (λ x. (map view_term x.0.items, x.1.now)) result (further_terms_with (sum_in room) tokens.now) }
+    ensures { HasGivenReading (λ x. (map view_term x.0.items, x.1.now)) result (further_terms_with (sum_in room) tokens.now) }
 {
     let mut all = Vec::new(alloc);
     let mut rest = tokens;
@@ -177,7 +177,7 @@ fn further_terms(
 #[cycle(expressions)]
 #[tactic(auto, unfolding(crate::specs::ReadExpressions::term_with))]
 fn term(alloc: Global, tokens: &[Token], room: u8) -> Result<(Expression, &[Token]), ParseFailure>
-    ensures { GivesReading (λ x. (view_expression_tree x.0, x.1.now)) result (term_with (sum_in room) tokens.now) }
+    ensures { HasGivenReading (λ x. (view_expression_tree x.0, x.1.now)) result (term_with (sum_in room) tokens.now) }
 {
     let (first, rest) = factor(alloc, tokens, room)?;
     let (first, (further, rest)) = beside(first, further_factors(alloc, rest, room))?;
@@ -191,7 +191,7 @@ fn further_factors(
     tokens: &[Token],
     room: u8,
 ) -> Result<(Vec<Expression>, &[Token]), ParseFailure>
-    ensures { GivesReading (λ x. (map view_expression_tree x.0.items, x.1.now)) result (further_factors_with (sum_in room) tokens.now) }
+    ensures { HasGivenReading (λ x. (map view_expression_tree x.0.items, x.1.now)) result (further_factors_with (sum_in room) tokens.now) }
 {
     let mut all = Vec::new(alloc);
     let mut rest = tokens;
@@ -207,7 +207,7 @@ fn further_factors(
 #[cycle(expressions)]
 #[tactic(auto, unfolding(crate::specs::ReadExpressions::factor_at, ss_tree::specs::View::view_expression_tree))]
 fn factor(alloc: Global, tokens: &[Token], room: u8) -> Result<(Expression, &[Token]), ParseFailure>
-    ensures { GivesReading (λ x. (view_expression_tree x.0, x.1.now)) result (factor_with (sum_in room) tokens.now) }
+    ensures { HasGivenReading (λ x. (view_expression_tree x.0, x.1.now)) result (factor_with (sum_in room) tokens.now) }
 {
     match tokens {
         [] => Err(syntax(tokens)),
@@ -231,7 +231,7 @@ fn factor_in_words(
     tokens: &[Token],
     room: u8,
 ) -> Result<(Expression, &[Token]), ParseFailure>
-    ensures { GivesReading (λ x. (view_expression_tree x.0, x.1.now)) result (factor_in_words (sum_in room) (designator_of_word word) (function_of word) tokens.now) }
+    ensures { HasGivenReading (λ x. (view_expression_tree x.0, x.1.now)) result (factor_in_words (sum_in room) (designator_of_word word) (function_of word) tokens.now) }
 {
     if let Some(designator) = designator_of_word(word) {
         return named(alloc, designator, tokens, room);
@@ -251,7 +251,7 @@ fn named(
     tokens: &[Token],
     room: u8,
 ) -> Result<(Expression, &[Token]), ParseFailure>
-    ensures { GivesReading (λ x. (view_expression_tree x.0, x.1.now)) result (named_with (sum_in room) designator tokens.now) }
+    ensures { HasGivenReading (λ x. (view_expression_tree x.0, x.1.now)) result (named_with (sum_in room) designator tokens.now) }
 {
     let (subscripts, rest) = subscripts(alloc, tokens, room)?;
     let place = Named {
@@ -270,7 +270,7 @@ fn call(
     tokens: &[Token],
     room: u8,
 ) -> Result<(Expression, &[Token]), ParseFailure>
-    ensures { GivesReading (λ x. (view_expression_tree x.0, x.1.now)) result (call_with (sum_in room) function tokens.now) }
+    ensures { HasGivenReading (λ x. (view_expression_tree x.0, x.1.now)) result (call_with (sum_in room) function tokens.now) }
 {
     let (arguments, rest) = enclosed(alloc, tokens, room)?;
     let call = Expression::Call {
@@ -288,7 +288,7 @@ fn parenthesised(
     tokens: &[Token],
     room: u8,
 ) -> Result<(Expression, &[Token]), ParseFailure>
-    ensures { GivesReading (λ x. (view_expression_tree x.0, x.1.now)) result (parenthesised_with (sum_in room) tokens.now) }
+    ensures { HasGivenReading (λ x. (view_expression_tree x.0, x.1.now)) result (parenthesised_with (sum_in room) tokens.now) }
 {
     let (inner, rest) = sum(alloc, tokens, room)?;
     let (inner, rest) = beside(inner, expect_symbol(rest, Symbol::CloseParenthesis))?;
@@ -303,7 +303,7 @@ fn subscripts(
     tokens: &[Token],
     room: u8,
 ) -> Result<(Vec<Expression>, &[Token]), ParseFailure>
-    ensures { GivesReading (λ x. (map view_expression_tree x.0.items, x.1.now)) result (subscripts_with (sum_in room) tokens.now) }
+    ensures { HasGivenReading (λ x. (map view_expression_tree x.0.items, x.1.now)) result (subscripts_with (sum_in room) tokens.now) }
 {
     if begins_symbol(tokens, Symbol::OpenParenthesis) {
         enclosed(alloc, tokens, room)
@@ -320,7 +320,7 @@ fn enclosed(
     tokens: &[Token],
     room: u8,
 ) -> Result<(Vec<Expression>, &[Token]), ParseFailure>
-    ensures { GivesReading (λ x. (map view_expression_tree x.0.items, x.1.now)) result (enclosed_with (sum_in room) tokens.now) }
+    ensures { HasGivenReading (λ x. (map view_expression_tree x.0.items, x.1.now)) result (enclosed_with (sum_in room) tokens.now) }
 {
     let rest = expect_symbol(tokens, Symbol::OpenParenthesis)?;
     let (arguments, rest) = sums(alloc, rest, room)?;
@@ -335,7 +335,7 @@ pub fn sums(
     tokens: &[Token],
     room: u8,
 ) -> Result<(Vec<Expression>, &[Token]), ParseFailure>
-    ensures { GivesReading (λ x. (map view_expression_tree x.0.items, x.1.now)) result (arguments_with (sum_in room) tokens.now) }
+    ensures { HasGivenReading (λ x. (map view_expression_tree x.0.items, x.1.now)) result (arguments_with (sum_in room) tokens.now) }
 {
     let (first, mut rest) = sum(alloc, tokens, room)?;
     let mut all = alone(alloc, first)?;

@@ -3,7 +3,7 @@
 ghost use Rattle.std.specs.Prelude.{◌≡◌, map};
 ghost use Rattle.ss_tree.specs.View.{view_expression_tree, view_phrase_tree, view_guard_tree, view_start_tree, view_head_tree, view_loop_head};
 ghost use Rattle.std.specs.Option.{option_map};
-ghost use Rattle.ss_parse_expressions.specs.Reading.{GivesReading, apply, skip_comma};
+ghost use Rattle.ss_parse_expressions.specs.Reading.{HasGivenReading, apply, skip_comma};
 ghost use Rattle.ss_parse_expressions.specs.ReadHeads.{begins_phrase, begins_guard, phrase_in, guard_in, phrases_in, further_guards, step_in, range_in, start_in, reverse, members_in, class_in, class_tree, each_named, each_in, for_in, guarded_in};
 
 use crate::classes::{WordClass, begins_class, expect_class};
@@ -32,7 +32,7 @@ fn begins_phrase(tokens: &[Token]) -> bool
 /// A phrase.
 #[tactic(auto, unfolding(crate::specs::ReadHeads::phrase_in))]
 fn phrase(alloc: Global, tokens: &[Token], room: u8) -> Result<(Phrase, &[Token]), ParseFailure>
-    ensures { GivesReading (λ x. (view_phrase_tree x.0, x.1.now)) result (phrase_in room tokens.now) }
+    ensures { HasGivenReading (λ x. (view_phrase_tree x.0, x.1.now)) result (phrase_in room tokens.now) }
 {
     let (kind, rest) = take_word_of::<PhraseWords>(tokens)?;
     let (condition, rest) = condition(alloc, rest, room)?;
@@ -41,7 +41,7 @@ fn phrase(alloc: Global, tokens: &[Token], room: u8) -> Result<(Phrase, &[Token]
 
 /// Phrases, each with a comma before it or not.
 fn phrases(alloc: Global, tokens: &[Token], room: u8) -> Result<(Vec<Phrase>, &[Token]), ParseFailure>
-    ensures { GivesReading (λ x. (map view_phrase_tree x.0.items, x.1.now)) result (phrases_in room tokens.now) }
+    ensures { HasGivenReading (λ x. (map view_phrase_tree x.0.items, x.1.now)) result (phrases_in room tokens.now) }
 {
     let mut all = Vec::new(alloc);
     let mut rest = tokens;
@@ -70,7 +70,7 @@ fn begins_next_guard(tokens: &[Token]) -> bool
 /// WHILE or UNTIL and its condition.
 #[tactic(auto, unfolding(crate::specs::ReadHeads::guard_in))]
 fn guard(alloc: Global, tokens: &[Token], room: u8) -> Result<(Guard, &[Token]), ParseFailure>
-    ensures { GivesReading (λ x. (view_guard_tree x.0, x.1.now)) result (guard_in room tokens.now) }
+    ensures { HasGivenReading (λ x. (view_guard_tree x.0, x.1.now)) result (guard_in room tokens.now) }
 {
     let (kind, rest) = take_word_of::<GuardWords>(tokens)?;
     let (condition, rest) = condition(alloc, rest, room)?;
@@ -84,7 +84,7 @@ fn guards(
     tokens: &[Token],
     room: u8,
 ) -> Result<(Vec<Guard>, &[Token]), ParseFailure>
-    ensures { GivesReading (λ x. (map view_guard_tree x.0.items, x.1.now)) result (further_guards room (view_guard_tree first) tokens.now) }
+    ensures { HasGivenReading (λ x. (map view_guard_tree x.0.items, x.1.now)) result (further_guards room (view_guard_tree first) tokens.now) }
 {
     let mut all = alone(alloc, first)?;
     let mut rest = tokens;
@@ -102,7 +102,7 @@ fn step(
     tokens: &[Token],
     room: u8,
 ) -> Result<(Option<Expression>, &[Token]), ParseFailure>
-    ensures { GivesReading (λ x. (option_map view_expression_tree x.0, x.1.now)) result (step_in room tokens.now) }
+    ensures { HasGivenReading (λ x. (option_map view_expression_tree x.0, x.1.now)) result (step_in room tokens.now) }
 {
     if !begins_word(tokens, Word::By) {
         return Ok((None, tokens));
@@ -114,7 +114,7 @@ fn step(
 /// The head of a FOR over numbers, after FOR.
 #[tactic(auto, unfolding(crate::specs::ReadHeads::range_in))]
 fn range(alloc: Global, tokens: &[Token], room: u8) -> Result<(Head, &[Token]), ParseFailure>
-    ensures { GivesReading (λ x. (view_head_tree x.0, x.1.now)) result (range_in room tokens.now) }
+    ensures { HasGivenReading (λ x. (view_head_tree x.0, x.1.now)) result (range_in room tokens.now) }
 {
     let variable = name(tokens)?;
     let rest = expect_symbol(after_first(tokens), Symbol::Equals)?;
@@ -137,7 +137,7 @@ fn range(alloc: Global, tokens: &[Token], room: u8) -> Result<(Head, &[Token]), 
 /// The member with which a loop over a set begins.
 #[tactic(auto, unfolding(crate::specs::ReadHeads::start_in))]
 fn start(alloc: Global, tokens: &[Token], room: u8) -> Result<(MemberStart, &[Token]), ParseFailure>
-    ensures { GivesReading (λ x. (view_start_tree x.0, x.1.now)) result (start_in room tokens.now) }
+    ensures { HasGivenReading (λ x. (view_start_tree x.0, x.1.now)) result (start_in room tokens.now) }
 {
     if begins_word(tokens, Word::From) {
         let (member, rest) = sum(alloc, skip_word(tokens, Word::From), room)?;
@@ -153,7 +153,7 @@ fn start(alloc: Global, tokens: &[Token], room: u8) -> Result<(MemberStart, &[To
 /// Whether a loop over a set goes in reverse order.
 #[tactic(auto, unfolding(crate::specs::ReadHeads::reverse))]
 fn reverse(tokens: &[Token]) -> Result<(bool, &[Token]), ParseFailure>
-    ensures { GivesReading (λ x. (x.0, x.1.now)) result (reverse tokens.now) }
+    ensures { HasGivenReading (λ x. (x.0, x.1.now)) result (reverse tokens.now) }
 {
     if !begins_word(tokens, Word::In) {
         return Ok((false, tokens));
@@ -171,7 +171,7 @@ fn members(
     tokens: &[Token],
     room: u8,
 ) -> Result<(Head, &[Token]), ParseFailure>
-    ensures { GivesReading (λ x. (view_head_tree x.0, x.1.now)) result (members_in room variable tokens.now) }
+    ensures { HasGivenReading (λ x. (view_head_tree x.0, x.1.now)) result (members_in room variable tokens.now) }
 {
     let rest = expect_word(tokens, Word::In)?;
     let (set, rest) = reference(alloc, skip_word(rest, Word::The), room)?;
@@ -196,7 +196,7 @@ fn class_phrases(
     tokens: &[Token],
     room: u8,
 ) -> Result<(Head, &[Token]), ParseFailure>
-    ensures { GivesReading (λ x. (view_head_tree x.0, x.1.now)) result (apply (λ ps. class_tree class (called, ps)) (phrases_in room) tokens.now) }
+    ensures { HasGivenReading (λ x. (view_head_tree x.0, x.1.now)) result (apply (λ ps. class_tree class (called, ps)) (phrases_in room) tokens.now) }
 {
     let (phrases, rest) = phrases(alloc, tokens, room)?;
     let head = Head::Class {
@@ -215,7 +215,7 @@ fn class(
     tokens: &[Token],
     room: u8,
 ) -> Result<(Head, &[Token]), ParseFailure>
-    ensures { GivesReading (λ x. (view_head_tree x.0, x.1.now)) result (class_in room class tokens.now) }
+    ensures { HasGivenReading (λ x. (view_head_tree x.0, x.1.now)) result (class_in room class tokens.now) }
 {
     if !begins_word(tokens, Word::Called) {
         return class_phrases(alloc, class, None, tokens, room);
@@ -232,7 +232,7 @@ fn each_named(
     tokens: &[Token],
     room: u8,
 ) -> Result<(Head, &[Token]), ParseFailure>
-    ensures { GivesReading (λ x. (view_head_tree x.0, x.1.now)) result (each_named room name tokens.now) }
+    ensures { HasGivenReading (λ x. (view_head_tree x.0, x.1.now)) result (each_named room name tokens.now) }
 {
     if begins_word(tokens, Word::In) {
         members(alloc, name, tokens, room)
@@ -244,7 +244,7 @@ fn each_named(
 /// The head of a FOR over a set or a class, after FOR.
 #[tactic(auto, unfolding(crate::specs::ReadHeads::each_in))]
 fn each(alloc: Global, tokens: &[Token], room: u8) -> Result<(Head, &[Token]), ParseFailure>
-    ensures { GivesReading (λ x. (view_head_tree x.0, x.1.now)) result (each_in room tokens.now) }
+    ensures { HasGivenReading (λ x. (view_head_tree x.0, x.1.now)) result (each_in room tokens.now) }
 {
     let rest = expect_class(tokens, WordClass::Each)?;
     let variable = name(rest)?;
@@ -254,7 +254,7 @@ fn each(alloc: Global, tokens: &[Token], room: u8) -> Result<(Head, &[Token]), P
 /// The head of a FOR, after its first word.
 #[tactic(auto, unfolding(crate::specs::ReadHeads::for_in))]
 pub fn for_head(alloc: Global, tokens: &[Token], room: u8) -> Result<(Head, &[Token]), ParseFailure>
-    ensures { GivesReading (λ x. (view_head_tree x.0, x.1.now)) result (for_in room tokens.now) }
+    ensures { HasGivenReading (λ x. (view_head_tree x.0, x.1.now)) result (for_in room tokens.now) }
 {
     if begins_class(tokens, WordClass::Each) {
         each(alloc, tokens, room)
@@ -271,7 +271,7 @@ pub fn guarded_head(
     tokens: &[Token],
     room: u8,
 ) -> Result<(LoopHead, &[Token]), ParseFailure>
-    ensures { GivesReading (λ x. (view_loop_head x.0, x.1.now)) result (guarded_in room kind tokens.now) }
+    ensures { HasGivenReading (λ x. (view_loop_head x.0, x.1.now)) result (guarded_in room kind tokens.now) }
 {
     let (condition, rest) = condition(alloc, tokens, room)?;
     let (guards, rest) = guards(alloc, Guard { kind, condition }, rest, room)?;

@@ -1,7 +1,7 @@
 //! Names and lists of names.
 
 ghost use Rattle.std.specs.Prelude.{◌≡◌, drop};
-ghost use Rattle.ss_parse_expressions.specs.Reading.{GivesReading, taken, name_in_token, begins_more};
+ghost use Rattle.ss_parse_expressions.specs.Reading.{HasGivenReading, taken, name_in_token, begins_more};
 ghost use Rattle.ss_parse_expressions.specs.ReadWords.{begins_name, names, begins_item, items};
 
 use crate::classes::{WordClass, skip_class};
@@ -27,7 +27,7 @@ pub fn begins_name(tokens: &[Token]) -> bool
 
 /// The first token, which must be a name.
 pub fn name(tokens: &[Token]) -> Result<Name, ParseFailure>
-    ensures { GivesReading (λ x. (x, drop 1 tokens.now)) result (taken name_in_token tokens.now) }
+    ensures { HasGivenReading (λ x. (x, drop 1 tokens.now)) result (taken name_in_token tokens.now) }
 {
     match tokens {
         [] => Err(syntax(tokens)),
@@ -48,7 +48,7 @@ fn begins_more_names(tokens: &[Token]) -> bool
 
 /// Names with separators between.
 pub fn names(alloc: Global, tokens: &[Token]) -> Result<(Vec<Name>, &[Token]), ParseFailure>
-    ensures { GivesReading (λ x. (x.0.items, x.1.now)) result (names tokens.now) }
+    ensures { HasGivenReading (λ x. (x.0.items, x.1.now)) result (names tokens.now) }
 {
     let first = name(tokens)?;
     let mut all = alone(alloc, first)?;
@@ -78,7 +78,7 @@ fn begins_more_items(tokens: &[Token]) -> bool
 
 /// Names with separators between, each with an article before it or not.
 pub fn items(alloc: Global, tokens: &[Token]) -> Result<(Vec<Name>, &[Token]), ParseFailure>
-    ensures { GivesReading (λ x. (x.0.items, x.1.now)) result (items tokens.now) }
+    ensures { HasGivenReading (λ x. (x.0.items, x.1.now)) result (items tokens.now) }
 {
     let from = skip_class(tokens, WordClass::Article);
     let first = name(from)?;

@@ -4,7 +4,7 @@ ghost use Rattle.std.specs.Prelude.{◌≡◌, IfOk, map, drop};
 ghost use Rattle.ss_tree.specs.Tree.{expression_row};
 ghost use Rattle.ss_tree.specs.View.{view_expression_tree, view_named};
 ghost use Rattle.std.specs.Option.{option_map};
-ghost use Rattle.ss_parse_expressions.specs.Reading.{GivesReading, begins, maybe, taken, begins_more};
+ghost use Rattle.ss_parse_expressions.specs.Reading.{HasGivenReading, begins, maybe, taken, begins_more};
 ghost use Rattle.ss_parse_expressions.specs.ReadExpressions.{opening, designator_of, sum_in};
 ghost use Rattle.ss_parse_expressions.specs.ReadPlaces.{subscript_row, subscript_with, plain_of, target_in, reference_in, begins_target, targets_in};
 
@@ -21,7 +21,7 @@ use std::alloc::{AllocError, Global};
 
 /// The name at the front, or TIME.V or TIME.A.
 fn designator(tokens: &[Token]) -> Result<Designator, ParseFailure>
-    ensures { GivesReading (λ x. (x, drop 1 tokens.now)) result (taken designator_of tokens.now) }
+    ensures { HasGivenReading (λ x. (x, drop 1 tokens.now)) result (taken designator_of tokens.now) }
 {
     match tokens {
         [] => Err(syntax(tokens)),
@@ -38,7 +38,7 @@ fn designator(tokens: &[Token]) -> Result<Designator, ParseFailure>
 
 /// The first token, which must be a name.
 fn plain_designator(tokens: &[Token]) -> Result<Designator, ParseFailure>
-    ensures { GivesReading (λ x. (x, drop 1 tokens.now)) result (taken plain_of tokens.now) }
+    ensures { HasGivenReading (λ x. (x, drop 1 tokens.now)) result (taken plain_of tokens.now) }
 {
     match tokens {
         [] => Err(syntax(tokens)),
@@ -56,7 +56,7 @@ fn subscript(
     tokens: &[Token],
     room: u8,
 ) -> Result<(Option<Expression>, &[Token]), ParseFailure>
-    ensures { GivesReading (λ x. (option_map view_expression_tree x.0, x.1.now)) result (maybe (begins opening) (subscript_with (sum_in room)) tokens.now) }
+    ensures { HasGivenReading (λ x. (option_map view_expression_tree x.0, x.1.now)) result (maybe (begins opening) (subscript_with (sum_in room)) tokens.now) }
 {
     if !begins_symbol(tokens, Symbol::OpenParenthesis) {
         return Ok((None, tokens));
@@ -82,7 +82,7 @@ fn subscripts_of(
 /// What a value is put into, where this many levels of nesting, itself among them, may be opened.
 #[tactic(auto, unfolding(crate::specs::ReadPlaces::named_place_in))]
 pub fn target(alloc: Global, tokens: &[Token], room: u8) -> Result<(Named, &[Token]), ParseFailure>
-    ensures { GivesReading (λ x. (view_named x.0, x.1.now)) result (target_in room tokens.now) }
+    ensures { HasGivenReading (λ x. (view_named x.0, x.1.now)) result (target_in room tokens.now) }
 {
     if room == 0 {
         return Err(too_deep(tokens));
@@ -100,7 +100,7 @@ pub fn target(alloc: Global, tokens: &[Token], room: u8) -> Result<(Named, &[Tok
 /// A reference to a set, where this many levels of nesting, itself among them, may be opened.
 #[tactic(auto, unfolding(crate::specs::ReadPlaces::named_place_in))]
 pub fn reference(alloc: Global, tokens: &[Token], room: u8) -> Result<(Named, &[Token]), ParseFailure>
-    ensures { GivesReading (λ x. (view_named x.0, x.1.now)) result (reference_in room tokens.now) }
+    ensures { HasGivenReading (λ x. (view_named x.0, x.1.now)) result (reference_in room tokens.now) }
 {
     if room == 0 {
         return Err(too_deep(tokens));
@@ -138,7 +138,7 @@ fn begins_more_targets(tokens: &[Token]) -> bool
 
 /// Targets with separators between.
 pub fn targets(alloc: Global, tokens: &[Token], room: u8) -> Result<(Vec<Named>, &[Token]), ParseFailure>
-    ensures { GivesReading (λ x. (map view_named x.0.items, x.1.now)) result (targets_in room tokens.now) }
+    ensures { HasGivenReading (λ x. (map view_named x.0.items, x.1.now)) result (targets_in room tokens.now) }
 {
     let (first, mut rest) = target(alloc, tokens, room)?;
     let mut all = alone(alloc, first)?;

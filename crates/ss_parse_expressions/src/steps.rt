@@ -1,14 +1,14 @@
 //! Steps of a reading, one after the other.
 
 ghost use Rattle.std.specs.Prelude.{◌≡◌, IfOk, [], ◌∷◌};
-ghost use Rattle.ss_parse_expressions.specs.Steps.{Beside};
+ghost use Rattle.ss_parse_expressions.specs.Steps.{ArePaired};
 
 use crate::failure::ParseFailure;
 use std::alloc::{AllocError, Global};
 
 /// What was read first together with what was read next, unless that failed.
 pub fn beside<A: Drop, B>(first: A, next: Result<B, ParseFailure>) -> Result<(A, B), ParseFailure>
-    ensures { Beside first next result }
+    ensures { ArePaired first next result }
 {
     match next {
         Ok(next) => Ok((first, next)),

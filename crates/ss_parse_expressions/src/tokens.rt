@@ -3,7 +3,7 @@
 ghost use Rattle.std.specs.Prelude.{◌≡◌, length, drop};
 ghost use Rattle.ss_parse_expressions.specs.declared.failure.ParseFault.TheVariants.{Syntax, TooDeep};
 ghost use Rattle.ss_parse_expressions.specs.declared.failure.ParseFailure.TheVariants.{Refused};
-ghost use Rattle.ss_parse_expressions.specs.Reading.{GivesReading, word, symbol, same_symbol, expect, begins, skip, skip_separator};
+ghost use Rattle.ss_parse_expressions.specs.Reading.{HasGivenReading, word, symbol, same_symbol, expect, begins, skip, skip_separator};
 
 use crate::failure::{ParseFailure, ParseFault};
 use ss_lex::{Symbol, Token, TokenKind, Word};
@@ -88,7 +88,7 @@ pub fn skip_symbol(tokens: &[Token], wanted: Symbol) -> &[Token]
 
 /// What follows this word, which has to be first.
 pub fn expect_word(tokens: &[Token], wanted: Word) -> Result<&[Token], ParseFailure>
-    ensures { GivesReading (λ rest. (tt, rest.now)) result (expect (word wanted) tokens.now) }
+    ensures { HasGivenReading (λ rest. (tt, rest.now)) result (expect (word wanted) tokens.now) }
 {
     if begins_word(tokens, wanted) {
         Ok(&tokens[1..])
@@ -99,7 +99,7 @@ pub fn expect_word(tokens: &[Token], wanted: Word) -> Result<&[Token], ParseFail
 
 /// What follows this symbol, which has to be first.
 pub fn expect_symbol(tokens: &[Token], wanted: Symbol) -> Result<&[Token], ParseFailure>
-    ensures { GivesReading (λ rest. (tt, rest.now)) result (expect (symbol wanted) tokens.now) }
+    ensures { HasGivenReading (λ rest. (tt, rest.now)) result (expect (symbol wanted) tokens.now) }
 {
     if begins_symbol(tokens, wanted) {
         Ok(&tokens[1..])

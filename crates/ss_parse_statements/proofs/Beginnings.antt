@@ -11,7 +11,7 @@ use Rattle.ss_base.specs.declared.words.GuardKind.{GuardKind}
 use Rattle.ss_base.specs.declared.words.GuardKind.TheVariants as guards
 use Rattle.ss_tree.specs.Tree.{LoopHeadTree, for_head, guarded, StatementTree, if_statement, loop_statement}
 use Rattle.ss_parse_expressions.specs.Shapes.{◌▷◌, noise}
-use Rattle.ss_parse_expressions.specs.SpelledConditions.{guard_word, loop_head_word, Loop_head_rest, Begins_with_for}
+use Rattle.ss_parse_expressions.specs.SpelledConditions.{guard_word, loop_head_word, Loop_head_rest, Is_for_head}
 use Rattle.ss_parse_expressions.specs.WordTables.{phrase_of, guard_of, function_of, outcome_of}
 use Rattle.ss_parse_expressions.specs.Reading.{word, kind_of_mark, is, is_some, begins, in_table, comma, skip_comma}
 use Rattle.ss_parse_expressions.specs.ReadExpressions.{designator_of_word, begins_value, begins_sum}
@@ -165,12 +165,12 @@ guard_first : (k : GuardKind) → is_some (guard_of (guard_word k)) ≡ true
 guard_first guards.While = refl
 guard_first guards.Until = refl
 
-pub head_guards : (h : LoopHeadTree) → is_some (guard_of (loop_head_word h)) ≡ false → (n : ℕ) (ts rest : List Token) → Loop_head_rest n h ts rest → Begins_with_for h
+pub head_guards : (h : LoopHeadTree) → is_some (guard_of (loop_head_word h)) ≡ false → (n : ℕ) (ts rest : List Token) → Loop_head_rest n h ts rest → Is_for_head h
 head_guards (for_head head) e n ts rest s = tt
 head_guards (guarded []) e n ts rest s = absurd s
 head_guards (guarded (g ∷ gs)) e n ts rest s = absurd (let a = guard_first g.kind in cc)
 
-head_for : (h : LoopHeadTree) → Begins_with_for h → loop_head_word h ≡ words.For
+head_for : (h : LoopHeadTree) → Is_for_head h → loop_head_word h ≡ words.For
 head_for (for_head head) b = refl
 head_for (guarded gs) b = absurd b
 

@@ -5,7 +5,7 @@ use Rattle.ss_lex.specs.declared.token.Token.{Token}
 use Rattle.ss_parse_expressions.specs.declared.failure.ParseFault.{ParseFault}
 use Rattle.ss_parse_expressions.specs.declared.failure.ParseFailure.{ParseFailure}
 use Rattle.ss_parse_expressions.specs.declared.failure.ParseFailure.TheVariants as failures
-use Rattle.ss_parse_expressions.specs.Reading.{FailsReading, taken}
+use Rattle.ss_parse_expressions.specs.Reading.{HasFailedReading, taken}
 use Rattle.ss_parse_expressions.proofs.Rows.{with_front, with_front_more}
 use Rattle.ss_parse_statements.specs.ReadSimple.{picture_token, pictures_at}
 
@@ -16,7 +16,7 @@ picture_grows front count i ts p left total lt h so_far =
     let one : with_front front (pictures_at (count - i) ts) ≡ with_front (front ++ p ∷ []) (pictures_at (count - (i + 1)) left) = rw (k, h) (sym (with_front_more front p (pictures_at (count - (i + 1)) left))) in
     sym one ∙ so_far
 
-pub picture_breaks : (front : List (List ℕ)) (count i : ℕ) (ts : List Token) (e : ParseFailure) (total : Result (List (List ℕ) × List Token) ParseFault) → i < count → FailsReading e (taken picture_token ts) → with_front front (pictures_at (count - i) ts) ≡ total → FailsReading e total
+pub picture_breaks : (front : List (List ℕ)) (count i : ℕ) (ts : List Token) (e : ParseFailure) (total : Result (List (List ℕ) × List Token) ParseFault) → i < count → HasFailedReading e (taken picture_token ts) → with_front front (pictures_at (count - i) ts) ≡ total → HasFailedReading e total
 unfolding pictures_at
 picture_breaks front count i ts failures.Memory total lt h so_far = tt
 picture_breaks front count i ts (failures.Refused f left) total lt h so_far =

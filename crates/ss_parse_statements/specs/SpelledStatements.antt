@@ -10,7 +10,7 @@ use Rattle.ss_parse_expressions.specs.declared.classes.WordClass.TheVariants as 
 use Rattle.ss_parse_expressions.specs.Shapes.{Shape, ◌▷◌, nothing, never, either_shape, optional, provided, Token_is, Word_is, Symbol_is, Name_is, Word_for, noise, each_in_turn, separated_list, at, nested_shape}
 use Rattle.ss_parse_expressions.specs.Words.{One_of, the, perhaps_listed}
 use Rattle.ss_parse_expressions.specs.SpelledExpressions.{Sum_is, Target_is, Reference_is}
-use Rattle.ss_parse_expressions.specs.SpelledConditions.{Condition_is, loop_head_word, Head_rest, Loop_head_rest, Begins_with_for}
+use Rattle.ss_parse_expressions.specs.SpelledConditions.{Condition_is, loop_head_word, Head_rest, Loop_head_rest, Is_for_head}
 use Rattle.ss_parse_statements.specs.SpelledParts.{Trigger, Picture_is, CalledName, end_of, Position_is, Given_and_when}
 use Rattle.ss_parse_expressions.specs.WordTables.{outcome_of}
 
@@ -81,7 +81,7 @@ opening_word (skip_statement line count) = words.Skip
 
 -- begins with neither WHILE nor UNTIL
 abbrev pub May_be_governed : StatementTree → Type 0
-May_be_governed (loop_statement line head body) = Begins_with_for head
+May_be_governed (loop_statement line head body) = Is_for_head head
 May_be_governed _ = Unit {0}
 
 -- a statement from its first word on, with this shape after that word

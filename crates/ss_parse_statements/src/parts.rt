@@ -3,7 +3,7 @@
 ghost use Rattle.std.specs.Prelude.{◌≡◌, map};
 ghost use Rattle.ss_tree.specs.View.{view_expression_tree, view_named, view_position_tree, view_when_tree};
 ghost use Rattle.std.specs.Option.{option_map};
-ghost use Rattle.ss_parse_expressions.specs.Reading.{GivesReading, word, expect, after_dropped, taken};
+ghost use Rattle.ss_parse_expressions.specs.Reading.{HasGivenReading, word, expect, after_dropped, taken};
 ghost use Rattle.ss_parse_expressions.specs.ReadExpressions.{sum_in};
 ghost use Rattle.ss_parse_expressions.specs.ReadPlaces.{target_in};
 ghost use Rattle.ss_parse_statements.specs.SpelledParts.{end_of};
@@ -41,7 +41,7 @@ impl WordTable for EndWords {
 
 /// A number of pictures, 1 at least.
 pub fn positive(tokens: &[Token]) -> Result<(u64, &[Token]), ParseFailure>
-    ensures { GivesReading (λ x. (x.0, x.1.now)) result (taken positive_of tokens.now) }
+    ensures { HasGivenReading (λ x. (x.0, x.1.now)) result (taken positive_of tokens.now) }
 {
     match tokens {
         [] => Err(syntax(tokens)),
@@ -64,7 +64,7 @@ pub fn items(
     tokens: &[Token],
     room: u8,
 ) -> Result<(Vec<Expression>, &[Token]), ParseFailure>
-    ensures { GivesReading (λ x. (map view_expression_tree x.0.items, x.1.now)) result (items_in room tokens.now) }
+    ensures { HasGivenReading (λ x. (map view_expression_tree x.0.items, x.1.now)) result (items_in room tokens.now) }
 {
     if !begins_word(tokens, Word::With) {
         return Ok((Vec::new(alloc), tokens));
@@ -75,7 +75,7 @@ pub fn items(
 /// The words of a PRINT before its pictures.
 #[tactic(auto, unfolding(crate::specs::ReadSimple::trigger))]
 pub fn trigger(tokens: &[Token]) -> Result<&[Token], ParseFailure>
-    ensures { GivesReading (λ rest. (tt, rest.now)) result (trigger tokens.now) }
+    ensures { HasGivenReading (λ rest. (tt, rest.now)) result (trigger tokens.now) }
 {
     if begins_word(tokens, Word::Thus) {
         Ok(skip_word(tokens, Word::Thus))
@@ -89,7 +89,7 @@ pub fn trigger(tokens: &[Token]) -> Result<&[Token], ParseFailure>
 
 /// The bytes of a picture.
 fn picture(alloc: Global, tokens: &[Token]) -> Result<(PictureLine, &[Token]), ParseFailure>
-    ensures { GivesReading (λ x. (x.0, x.1.now)) result (taken picture_token tokens.now) }
+    ensures { HasGivenReading (λ x. (x.0, x.1.now)) result (taken picture_token tokens.now) }
 {
     match tokens {
         [] => Err(syntax(tokens)),
@@ -106,7 +106,7 @@ pub fn pictures(
     tokens: &[Token],
     count: u64,
 ) -> Result<(Vec<PictureLine>, &[Token]), ParseFailure>
-    ensures { GivesReading (λ x. (x.0.items, x.1.now)) result (pictures_at count tokens.now) }
+    ensures { HasGivenReading (λ x. (x.0.items, x.1.now)) result (pictures_at count tokens.now) }
 {
     let mut all = Vec::new(alloc);
     let mut rest = tokens;
@@ -124,7 +124,7 @@ pub fn given(
     tokens: &[Token],
     room: u8,
 ) -> Result<(Vec<Expression>, &[Token]), ParseFailure>
-    ensures { GivesReading (λ x. (map view_expression_tree x.0.items, x.1.now)) result (given_in room tokens.now) }
+    ensures { HasGivenReading (λ x. (map view_expression_tree x.0.items, x.1.now)) result (given_in room tokens.now) }
 {
     if !begins_class(tokens, WordClass::Given) {
         return Ok((Vec::new(alloc), tokens));
@@ -138,7 +138,7 @@ pub fn yielding(
     tokens: &[Token],
     room: u8,
 ) -> Result<(Vec<Named>, &[Token]), ParseFailure>
-    ensures { GivesReading (λ x. (map view_named x.0.items, x.1.now)) result (yielding_in room tokens.now) }
+    ensures { HasGivenReading (λ x. (map view_named x.0.items, x.1.now)) result (yielding_in room tokens.now) }
 {
     if !begins_word(tokens, Word::Yielding) {
         return Ok((Vec::new(alloc), tokens));
@@ -152,7 +152,7 @@ pub fn called_value(
     tokens: &[Token],
     room: u8,
 ) -> Result<(Option<Expression>, &[Token]), ParseFailure>
-    ensures { GivesReading (λ x. (option_map view_expression_tree x.0, x.1.now)) result (called (sum_in room) tokens.now) }
+    ensures { HasGivenReading (λ x. (option_map view_expression_tree x.0, x.1.now)) result (called (sum_in room) tokens.now) }
 {
     if !begins_word(tokens, Word::Called) {
         return Ok((None, tokens));
@@ -167,7 +167,7 @@ pub fn called_target(
     tokens: &[Token],
     room: u8,
 ) -> Result<(Option<Named>, &[Token]), ParseFailure>
-    ensures { GivesReading (λ x. (option_map view_named x.0, x.1.now)) result (called (target_in room) tokens.now) }
+    ensures { HasGivenReading (λ x. (option_map view_named x.0, x.1.now)) result (called (target_in room) tokens.now) }
 {
     if !begins_word(tokens, Word::Called) {
         return Ok((None, tokens));
@@ -179,7 +179,7 @@ pub fn called_target(
 /// Where a member is filed.
 #[tactic(auto, unfolding(crate::specs::ReadSimple::position_in))]
 pub fn place(alloc: Global, tokens: &[Token], room: u8) -> Result<(Position, &[Token]), ParseFailure>
-    ensures { GivesReading (λ x. (view_position_tree x.0, x.1.now)) result (position_in room tokens.now) }
+    ensures { HasGivenReading (λ x. (view_position_tree x.0, x.1.now)) result (position_in room tokens.now) }
 {
     if begins_word(tokens, Word::First) {
         Ok((Position::First, skip_word(tokens, Word::First)))
@@ -199,7 +199,7 @@ pub fn place(alloc: Global, tokens: &[Token], room: u8) -> Result<(Position, &[T
 /// When a notice is due.
 #[tactic(auto, unfolding(crate::specs::ReadSimple::when_in))]
 pub fn due(alloc: Global, tokens: &[Token], room: u8) -> Result<(When, &[Token]), ParseFailure>
-    ensures { GivesReading (λ x. (view_when_tree x.0, x.1.now)) result (when_in room tokens.now) }
+    ensures { HasGivenReading (λ x. (view_when_tree x.0, x.1.now)) result (when_in room tokens.now) }
 {
     if begins_word(tokens, Word::At) {
         let (time, rest) = sum(alloc, skip_word(tokens, Word::At), room)?;
@@ -220,7 +220,7 @@ pub fn given_and_due(
     tokens: &[Token],
     room: u8,
 ) -> Result<(Vec<Expression>, When, &[Token]), ParseFailure>
-    ensures { GivesReading (λ x. ((map view_expression_tree x.0.items, view_when_tree x.1), x.2.now)) result (due_in room tokens.now) }
+    ensures { HasGivenReading (λ x. ((map view_expression_tree x.0.items, view_when_tree x.1), x.2.now)) result (due_in room tokens.now) }
 {
     let (given, rest) = given(alloc, tokens, room)?;
     let (given, (when, rest)) = beside(given, due(alloc, rest, room))?;
@@ -233,7 +233,7 @@ pub fn value_set(
     tokens: &[Token],
     room: u8,
 ) -> Result<(Expression, &[Token]), ParseFailure>
-    ensures { GivesReading (λ x. (view_expression_tree x.0, x.1.now)) result (after_dropped (expect equals) (sum_in room) tokens.now) }
+    ensures { HasGivenReading (λ x. (view_expression_tree x.0, x.1.now)) result (after_dropped (expect equals) (sum_in room) tokens.now) }
 {
     let rest = expect_symbol(tokens, Symbol::Equals)?;
     sum(alloc, rest, room)
@@ -246,7 +246,7 @@ pub fn target_after(
     tokens: &[Token],
     room: u8,
 ) -> Result<(Named, &[Token]), ParseFailure>
-    ensures { GivesReading (λ x. (view_named x.0, x.1.now)) result (after_dropped (expect (word wanted)) (target_in room) tokens.now) }
+    ensures { HasGivenReading (λ x. (view_named x.0, x.1.now)) result (after_dropped (expect (word wanted)) (target_in room) tokens.now) }
 {
     let rest = expect_word(tokens, wanted)?;
     target(alloc, rest, room)
@@ -259,7 +259,7 @@ pub fn set_after(
     tokens: &[Token],
     room: u8,
 ) -> Result<(Named, &[Token]), ParseFailure>
-    ensures { GivesReading (λ x. (view_named x.0, x.1.now)) result (after_dropped (expect (word wanted)) (set_reader room) tokens.now) }
+    ensures { HasGivenReading (λ x. (view_named x.0, x.1.now)) result (after_dropped (expect (word wanted)) (set_reader room) tokens.now) }
 {
     let rest = expect_word(tokens, wanted)?;
     reference(alloc, skip_word(rest, Word::The), room)

@@ -2,7 +2,7 @@
 
 ghost use Rattle.std.specs.Prelude.{◌≡◌, map};
 ghost use Rattle.ss_tree.specs.View.{view_expression_tree, view_statement_tree};
-ghost use Rattle.ss_parse_expressions.specs.Reading.{GivesReading};
+ghost use Rattle.ss_parse_expressions.specs.Reading.{HasGivenReading};
 ghost use Rattle.ss_parse_statements.specs.ReadSimple.{let_at, add_at, subtract_at, call_at, read_at, start_at, new_at, create_at, destroy_at, cancel_at, file_at, remove_end_at, remove_this_at, remove_at, schedule_the_at, schedule_a_at, schedule_at, reset_at, print_head, print_at, skip_at, simple_at};
 
 use crate::parts::{
@@ -31,7 +31,7 @@ fn let_form(
     tokens: &[Token],
     room: u8,
 ) -> Result<(Statement, &[Token]), ParseFailure>
-    ensures { GivesReading (λ x. (view_statement_tree x.0, x.1.now)) result (let_at line room tokens.now) }
+    ensures { HasGivenReading (λ x. (view_statement_tree x.0, x.1.now)) result (let_at line room tokens.now) }
 {
     let (target, rest) = target(alloc, tokens, room)?;
     let (target, (value, rest)) = beside(target, value_set(alloc, rest, room))?;
@@ -51,7 +51,7 @@ fn add_form(
     tokens: &[Token],
     room: u8,
 ) -> Result<(Statement, &[Token]), ParseFailure>
-    ensures { GivesReading (λ x. (view_statement_tree x.0, x.1.now)) result (add_at line room tokens.now) }
+    ensures { HasGivenReading (λ x. (view_statement_tree x.0, x.1.now)) result (add_at line room tokens.now) }
 {
     let (amount, rest) = sum(alloc, tokens, room)?;
     let (amount, (target, rest)) = beside(amount, target_after(alloc, Word::To, rest, room))?;
@@ -71,7 +71,7 @@ fn subtract_form(
     tokens: &[Token],
     room: u8,
 ) -> Result<(Statement, &[Token]), ParseFailure>
-    ensures { GivesReading (λ x. (view_statement_tree x.0, x.1.now)) result (subtract_at line room tokens.now) }
+    ensures { HasGivenReading (λ x. (view_statement_tree x.0, x.1.now)) result (subtract_at line room tokens.now) }
 {
     let (amount, rest) = sum(alloc, tokens, room)?;
     let (amount, (target, rest)) = beside(amount, target_after(alloc, Word::From, rest, room))?;
@@ -91,7 +91,7 @@ fn call_form(
     tokens: &[Token],
     room: u8,
 ) -> Result<(Statement, &[Token]), ParseFailure>
-    ensures { GivesReading (λ x. (view_statement_tree x.0, x.1.now)) result (call_at line room tokens.now) }
+    ensures { HasGivenReading (λ x. (view_statement_tree x.0, x.1.now)) result (call_at line room tokens.now) }
 {
     let routine = name(tokens)?;
     let (given, rest) = given(alloc, after_first(tokens), room)?;
@@ -113,7 +113,7 @@ fn read_form(
     tokens: &[Token],
     room: u8,
 ) -> Result<(Statement, &[Token]), ParseFailure>
-    ensures { GivesReading (λ x. (view_statement_tree x.0, x.1.now)) result (read_at line room tokens.now) }
+    ensures { HasGivenReading (λ x. (view_statement_tree x.0, x.1.now)) result (read_at line room tokens.now) }
 {
     let (targets, rest) = targets(alloc, tokens, room)?;
     Ok((Statement::Read { line, targets }, rest))
@@ -122,7 +122,7 @@ fn read_form(
 /// The rest of a START SIMULATION, after its first word.
 #[tactic(auto, unfolding(crate::specs::ReadSimple::start_at, ss_tree::specs::View::view_statement_tree))]
 fn start_form(line: Line, tokens: &[Token]) -> Result<(Statement, &[Token]), ParseFailure>
-    ensures { GivesReading (λ x. (view_statement_tree x.0, x.1.now)) result (start_at line tokens.now) }
+    ensures { HasGivenReading (λ x. (view_statement_tree x.0, x.1.now)) result (start_at line tokens.now) }
 {
     let rest = expect_word(tokens, Word::Simulation)?;
     Ok((Statement::StartSimulation { line }, rest))
@@ -136,7 +136,7 @@ fn new_form(
     tokens: &[Token],
     room: u8,
 ) -> Result<(Statement, &[Token]), ParseFailure>
-    ensures { GivesReading (λ x. (view_statement_tree x.0, x.1.now)) result (new_at line room tokens.now) }
+    ensures { HasGivenReading (λ x. (view_statement_tree x.0, x.1.now)) result (new_at line room tokens.now) }
 {
     let rest = skip_class(tokens, WordClass::Indefinite);
     let class = name(rest)?;
@@ -157,7 +157,7 @@ fn create_form(
     tokens: &[Token],
     room: u8,
 ) -> Result<(Statement, &[Token]), ParseFailure>
-    ensures { GivesReading (λ x. (view_statement_tree x.0, x.1.now)) result (create_at line room tokens.now) }
+    ensures { HasGivenReading (λ x. (view_statement_tree x.0, x.1.now)) result (create_at line room tokens.now) }
 {
     if !begins_word(tokens, Word::Every) {
         return new_form(alloc, line, tokens, room);
@@ -174,7 +174,7 @@ fn destroy_form(
     tokens: &[Token],
     room: u8,
 ) -> Result<(Statement, &[Token]), ParseFailure>
-    ensures { GivesReading (λ x. (view_statement_tree x.0, x.1.now)) result (destroy_at line room tokens.now) }
+    ensures { HasGivenReading (λ x. (view_statement_tree x.0, x.1.now)) result (destroy_at line room tokens.now) }
 {
     let rest = skip_word(tokens, Word::The);
     let class = name(rest)?;
@@ -195,7 +195,7 @@ fn cancel_form(
     tokens: &[Token],
     room: u8,
 ) -> Result<(Statement, &[Token]), ParseFailure>
-    ensures { GivesReading (λ x. (view_statement_tree x.0, x.1.now)) result (cancel_at line room tokens.now) }
+    ensures { HasGivenReading (λ x. (view_statement_tree x.0, x.1.now)) result (cancel_at line room tokens.now) }
 {
     let rest = skip_word(tokens, Word::The);
     let class = name(rest)?;
@@ -216,7 +216,7 @@ fn file_form(
     tokens: &[Token],
     room: u8,
 ) -> Result<(Statement, &[Token]), ParseFailure>
-    ensures { GivesReading (λ x. (view_statement_tree x.0, x.1.now)) result (file_at line room tokens.now) }
+    ensures { HasGivenReading (λ x. (view_statement_tree x.0, x.1.now)) result (file_at line room tokens.now) }
 {
     let (member, rest) = sum(alloc, skip_word(tokens, Word::The), room)?;
     let (member, (position, rest)) = beside(member, place(alloc, rest, room))?;
@@ -239,7 +239,7 @@ fn remove_end_form(
     tokens: &[Token],
     room: u8,
 ) -> Result<(Statement, &[Token]), ParseFailure>
-    ensures { GivesReading (λ x. (view_statement_tree x.0, x.1.now)) result (remove_end_at line room tokens.now) }
+    ensures { HasGivenReading (λ x. (view_statement_tree x.0, x.1.now)) result (remove_end_at line room tokens.now) }
 {
     let (end, rest) = take_word_of::<EndWords>(tokens)?;
     let (target, rest) = target(alloc, rest, room)?;
@@ -261,7 +261,7 @@ fn remove_this_form(
     tokens: &[Token],
     room: u8,
 ) -> Result<(Statement, &[Token]), ParseFailure>
-    ensures { GivesReading (λ x. (view_statement_tree x.0, x.1.now)) result (remove_this_at line room tokens.now) }
+    ensures { HasGivenReading (λ x. (view_statement_tree x.0, x.1.now)) result (remove_this_at line room tokens.now) }
 {
     let (member, rest) = sum(alloc, tokens, room)?;
     let (member, (set, rest)) = beside(member, set_after(alloc, Word::From, rest, room))?;
@@ -276,7 +276,7 @@ fn remove_form(
     tokens: &[Token],
     room: u8,
 ) -> Result<(Statement, &[Token]), ParseFailure>
-    ensures { GivesReading (λ x. (view_statement_tree x.0, x.1.now)) result (remove_at line room tokens.now) }
+    ensures { HasGivenReading (λ x. (view_statement_tree x.0, x.1.now)) result (remove_at line room tokens.now) }
 {
     let rest = skip_word(tokens, Word::The);
     if begins_word_of::<EndWords>(rest) {
@@ -294,7 +294,7 @@ fn schedule_the_form(
     tokens: &[Token],
     room: u8,
 ) -> Result<(Statement, &[Token]), ParseFailure>
-    ensures { GivesReading (λ x. (view_statement_tree x.0, x.1.now)) result (schedule_the_at line room tokens.now) }
+    ensures { HasGivenReading (λ x. (view_statement_tree x.0, x.1.now)) result (schedule_the_at line room tokens.now) }
 {
     let rest = expect_word(tokens, Word::The)?;
     let class = name(rest)?;
@@ -318,7 +318,7 @@ fn schedule_a_form(
     tokens: &[Token],
     room: u8,
 ) -> Result<(Statement, &[Token]), ParseFailure>
-    ensures { GivesReading (λ x. (view_statement_tree x.0, x.1.now)) result (schedule_a_at line room tokens.now) }
+    ensures { HasGivenReading (λ x. (view_statement_tree x.0, x.1.now)) result (schedule_a_at line room tokens.now) }
 {
     let rest = expect_class(tokens, WordClass::Indefinite)?;
     let class = name(rest)?;
@@ -342,7 +342,7 @@ fn schedule_form(
     tokens: &[Token],
     room: u8,
 ) -> Result<(Statement, &[Token]), ParseFailure>
-    ensures { GivesReading (λ x. (view_statement_tree x.0, x.1.now)) result (schedule_at line room tokens.now) }
+    ensures { HasGivenReading (λ x. (view_statement_tree x.0, x.1.now)) result (schedule_at line room tokens.now) }
 {
     if begins_word(tokens, Word::The) {
         schedule_the_form(alloc, line, tokens, room)
@@ -359,7 +359,7 @@ fn reset_form(
     tokens: &[Token],
     room: u8,
 ) -> Result<(Statement, &[Token]), ParseFailure>
-    ensures { GivesReading (λ x. (view_statement_tree x.0, x.1.now)) result (reset_at line room tokens.now) }
+    ensures { HasGivenReading (λ x. (view_statement_tree x.0, x.1.now)) result (reset_at line room tokens.now) }
 {
     let rest = expect_word(skip_word(tokens, Word::The), Word::Totals)?;
     let rest = expect_word(rest, Word::Of)?;
@@ -374,7 +374,7 @@ fn print_head(
     tokens: &[Token],
     room: u8,
 ) -> Result<(u64, Vec<Expression>, &[Token]), ParseFailure>
-    ensures { GivesReading (λ x. ((x.0, map view_expression_tree x.1.items), x.2.now)) result (print_head room tokens.now) }
+    ensures { HasGivenReading (λ x. ((x.0, map view_expression_tree x.1.items), x.2.now)) result (print_head room tokens.now) }
 {
     let (count, rest) = positive(tokens)?;
     let rest = expect_word(rest, Word::Line)?;
@@ -391,7 +391,7 @@ fn print_form(
     tokens: &[Token],
     room: u8,
 ) -> Result<(Statement, &[Token]), ParseFailure>
-    ensures { GivesReading (λ x. (view_statement_tree x.0, x.1.now)) result (print_at line room tokens.now) }
+    ensures { HasGivenReading (λ x. (view_statement_tree x.0, x.1.now)) result (print_at line room tokens.now) }
 {
     let (count, items, rest) = print_head(alloc, tokens, room)?;
     let (items, (pictures, rest)) = beside(items, pictures(alloc, rest, count))?;
@@ -411,7 +411,7 @@ fn skip_form(
     tokens: &[Token],
     room: u8,
 ) -> Result<(Statement, &[Token]), ParseFailure>
-    ensures { GivesReading (λ x. (view_statement_tree x.0, x.1.now)) result (skip_at line room tokens.now) }
+    ensures { HasGivenReading (λ x. (view_statement_tree x.0, x.1.now)) result (skip_at line room tokens.now) }
 {
     let (count, rest) = sum(alloc, tokens, room)?;
     let rest = expect_word(skip_word(rest, Word::Output), Word::Line);
@@ -428,7 +428,7 @@ pub fn simple_form(
     tokens: &[Token],
     room: u8,
 ) -> Result<(Statement, &[Token]), ParseFailure>
-    ensures { GivesReading (λ x. (view_statement_tree x.0, x.1.now)) result (simple_at line room word tokens.now) }
+    ensures { HasGivenReading (λ x. (view_statement_tree x.0, x.1.now)) result (simple_at line room word tokens.now) }
 {
     match word {
         Word::Let => let_form(alloc, line, tokens, room),

@@ -5,7 +5,7 @@ ghost use Rattle.ss_tree.specs.Tree.{statement_row};
 ghost use Rattle.ss_tree.specs.View.{view_statement_tree, view_head_tree, view_loop_head};
 ghost use Rattle.ss_parse_expressions.specs.WordTables.{outcome_of};
 ghost use Rattle.ss_lex.specs.declared.word.Word.TheVariants.{If};
-ghost use Rattle.ss_parse_expressions.specs.Reading.{GivesReading, word, skip, skip_comma, after_dropped, seq, taken, in_table};
+ghost use Rattle.ss_parse_expressions.specs.Reading.{HasGivenReading, word, skip, skip_comma, after_dropped, seq, taken, in_table};
 ghost use Rattle.ss_parse_expressions.specs.ReadWords.{begins_noisy, expect_noisy};
 ghost use Rattle.ss_parse_statements.specs.ReadStatements.{nested_word, begins_form, begins_statement, begins_find_if, statements_with, else_with, branches_with, do_with, governed_with, body_with, find_words, if_with, loop_with, find_if_with, found_with, find_with, for_with, guarded_with, nested_in, statement_in, statements_in};
 
@@ -34,7 +34,7 @@ pub fn begins_noisy(tokens: &[Token], wanted: Word) -> bool
 
 /// What follows this word, which has to be first but for a comma.
 pub fn expect_noisy(tokens: &[Token], wanted: Word) -> Result<&[Token], ParseFailure>
-    ensures { GivesReading (λ rest. (tt, rest.now)) result (expect_noisy (word wanted) tokens.now) }
+    ensures { HasGivenReading (λ rest. (tt, rest.now)) result (expect_noisy (word wanted) tokens.now) }
 {
     expect_word(skip_symbol(tokens, Symbol::Comma), wanted)
 }
@@ -107,7 +107,7 @@ fn begins_find_if(tokens: &[Token]) -> bool
 /// FIND THE FIRST CASE.
 #[tactic(auto, unfolding(crate::specs::ReadStatements::find_words))]
 fn find_words(tokens: &[Token]) -> Result<&[Token], ParseFailure>
-    ensures { GivesReading (λ rest. (tt, rest.now)) result (find_words tokens.now) }
+    ensures { HasGivenReading (λ rest. (tt, rest.now)) result (find_words tokens.now) }
 {
     let rest = expect_noisy(tokens, Word::Find)?;
     let rest = expect_word(skip_word(rest, Word::The), Word::First)?;
@@ -121,7 +121,7 @@ pub fn statements(
     tokens: &[Token],
     room: u8,
 ) -> Result<(Vec<Statement>, &[Token]), ParseFailure>
-    ensures { GivesReading (λ x. (map view_statement_tree x.0.items, x.1.now)) result (statements_in room tokens.now) }
+    ensures { HasGivenReading (λ x. (map view_statement_tree x.0.items, x.1.now)) result (statements_in room tokens.now) }
 {
     let mut all = Vec::new(alloc);
     let mut rest = tokens;
@@ -141,7 +141,7 @@ fn otherwise(
     tokens: &[Token],
     room: u8,
 ) -> Result<(Vec<Statement>, &[Token]), ParseFailure>
-    ensures { GivesReading (λ x. (map view_statement_tree x.0.items, x.1.now)) result (else_with (statement_in room) tokens.now) }
+    ensures { HasGivenReading (λ x. (map view_statement_tree x.0.items, x.1.now)) result (else_with (statement_in room) tokens.now) }
 {
     if !begins_noisy(tokens, Word::Else) {
         return Ok((Vec::new(alloc), tokens));
@@ -157,7 +157,7 @@ fn branches(
     tokens: &[Token],
     room: u8,
 ) -> Result<(Vec<Statement>, Vec<Statement>, &[Token]), ParseFailure>
-    ensures { GivesReading (λ x. ((statement_row (map view_statement_tree x.0.items), statement_row (map view_statement_tree x.1.items)), x.2.now)) result (branches_with (statement_in room) tokens.now) }
+    ensures { HasGivenReading (λ x. ((statement_row (map view_statement_tree x.0.items), statement_row (map view_statement_tree x.1.items)), x.2.now)) result (branches_with (statement_in room) tokens.now) }
 {
     let (then, rest) = statements(alloc, tokens, room)?;
     let (then, (otherwise, rest)) = beside(then, otherwise(alloc, rest, room))?;
@@ -169,7 +169,7 @@ fn branches(
 #[cycle(statements)]
 #[tactic(auto, unfolding(crate::specs::ReadStatements::do_with))]
 fn do_body(alloc: Global, tokens: &[Token], room: u8) -> Result<(Vec<Statement>, &[Token]), ParseFailure>
-    ensures { GivesReading (λ x. (map view_statement_tree x.0.items, x.1.now)) result (do_with (statement_in room) tokens.now) }
+    ensures { HasGivenReading (λ x. (map view_statement_tree x.0.items, x.1.now)) result (do_with (statement_in room) tokens.now) }
 {
     let rest = expect_noisy(tokens, Word::Do)?;
     let (body, rest) = statements(alloc, rest, room)?;
@@ -185,7 +185,7 @@ fn governed(
     tokens: &[Token],
     room: u8,
 ) -> Result<(Vec<Statement>, &[Token]), ParseFailure>
-    ensures { GivesReading (λ x. (map view_statement_tree x.0.items, x.1.now)) result (governed_with (statement_in room) tokens.now) }
+    ensures { HasGivenReading (λ x. (map view_statement_tree x.0.items, x.1.now)) result (governed_with (statement_in room) tokens.now) }
 {
     let tokens = skip_symbol(tokens, Symbol::Comma);
     if begins_guard(tokens) {
@@ -199,7 +199,7 @@ fn governed(
 #[cycle(statements)]
 #[tactic(auto, unfolding(crate::specs::ReadStatements::body_with))]
 fn body(alloc: Global, tokens: &[Token], room: u8) -> Result<(Vec<Statement>, &[Token]), ParseFailure>
-    ensures { GivesReading (λ x. (statement_row (map view_statement_tree x.0.items), x.1.now)) result (body_with (statement_in room) tokens.now) }
+    ensures { HasGivenReading (λ x. (statement_row (map view_statement_tree x.0.items), x.1.now)) result (body_with (statement_in room) tokens.now) }
 {
     if begins_noisy(tokens, Word::Do) {
         do_body(alloc, tokens, room)
@@ -217,7 +217,7 @@ fn if_form(
     tokens: &[Token],
     room: u8,
 ) -> Result<(Statement, &[Token]), ParseFailure>
-    ensures { GivesReading (λ x. (view_statement_tree x.0, x.1.now)) result (if_with line room (statement_in room) tokens.now) }
+    ensures { HasGivenReading (λ x. (view_statement_tree x.0, x.1.now)) result (if_with line room (statement_in room) tokens.now) }
 {
     let (condition, rest) = condition(alloc, tokens, room)?;
     let branches = branches(alloc, rest, room);
@@ -241,7 +241,7 @@ fn loop_form(
     tokens: &[Token],
     room: u8,
 ) -> Result<(Statement, &[Token]), ParseFailure>
-    ensures { GivesReading (λ x. (view_statement_tree x.0, x.1.now)) result (loop_with line room (statement_in room) (view_loop_head head) tokens.now) }
+    ensures { HasGivenReading (λ x. (view_statement_tree x.0, x.1.now)) result (loop_with line room (statement_in room) (view_loop_head head) tokens.now) }
 {
     let (head, (body, rest)) = beside(head, body(alloc, tokens, room))?;
     Ok((Statement::Loop { line, head, body }, rest))
@@ -255,7 +255,7 @@ fn outcome_and_branches(
     tokens: &[Token],
     room: u8,
 ) -> Result<(FindOutcome, (Vec<Statement>, Vec<Statement>), &[Token]), ParseFailure>
-    ensures { GivesReading (λ x. ((x.0, (statement_row (map view_statement_tree x.1.0.items), statement_row (map view_statement_tree x.1.1.items))), x.2.now)) result (after_dropped (expect_noisy (word If)) (seq (taken (in_table outcome_of)) (branches_with (statement_in room))) tokens.now) }
+    ensures { HasGivenReading (λ x. ((x.0, (statement_row (map view_statement_tree x.1.0.items), statement_row (map view_statement_tree x.1.1.items))), x.2.now)) result (after_dropped (expect_noisy (word If)) (seq (taken (in_table outcome_of)) (branches_with (statement_in room))) tokens.now) }
 {
     let rest = expect_noisy(tokens, Word::If)?;
     let (outcome, rest) = take_word_of::<OutcomeWords>(rest)?;
@@ -273,7 +273,7 @@ fn find_if_form(
     tokens: &[Token],
     room: u8,
 ) -> Result<(Statement, &[Token]), ParseFailure>
-    ensures { GivesReading (λ x. (view_statement_tree x.0, x.1.now)) result (find_if_with line room (statement_in room) (view_head_tree head) tokens.now) }
+    ensures { HasGivenReading (λ x. (view_statement_tree x.0, x.1.now)) result (find_if_with line room (statement_in room) (view_head_tree head) tokens.now) }
 {
     let (head, (outcome, (then, otherwise), rest)) = beside(
         head,
@@ -299,7 +299,7 @@ fn find_form(
     tokens: &[Token],
     room: u8,
 ) -> Result<(Statement, &[Token]), ParseFailure>
-    ensures { GivesReading (λ x. (view_statement_tree x.0, x.1.now)) result (find_with line room (statement_in room) (view_head_tree head) tokens.now) }
+    ensures { HasGivenReading (λ x. (view_statement_tree x.0, x.1.now)) result (find_with line room (statement_in room) (view_head_tree head) tokens.now) }
 {
     let (head, rest) = beside(head, find_words(tokens))?;
     if begins_find_if(rest) {
@@ -318,7 +318,7 @@ fn for_form(
     tokens: &[Token],
     room: u8,
 ) -> Result<(Statement, &[Token]), ParseFailure>
-    ensures { GivesReading (λ x. (view_statement_tree x.0, x.1.now)) result (for_with line room (statement_in room) tokens.now) }
+    ensures { HasGivenReading (λ x. (view_statement_tree x.0, x.1.now)) result (for_with line room (statement_in room) tokens.now) }
 {
     let (head, rest) = for_head(alloc, tokens, room)?;
     if begins_noisy(rest, Word::Find) {
@@ -338,7 +338,7 @@ fn guarded_form(
     tokens: &[Token],
     room: u8,
 ) -> Result<(Statement, &[Token]), ParseFailure>
-    ensures { GivesReading (λ x. (view_statement_tree x.0, x.1.now)) result (guarded_with line room (statement_in room) kind tokens.now) }
+    ensures { HasGivenReading (λ x. (view_statement_tree x.0, x.1.now)) result (guarded_with line room (statement_in room) kind tokens.now) }
 {
     let (head, rest) = guarded_head(alloc, kind, tokens, room)?;
     loop_form(alloc, line, head, rest, room)
@@ -355,7 +355,7 @@ fn nested_form(
     tokens: &[Token],
     room: u8,
 ) -> Result<(Statement, &[Token]), ParseFailure>
-    ensures { GivesReading (λ x. (view_statement_tree x.0, x.1.now)) result (nested_in room (statement_in room) line word tokens.now) }
+    ensures { HasGivenReading (λ x. (view_statement_tree x.0, x.1.now)) result (nested_in room (statement_in room) line word tokens.now) }
 {
     if room == 0 {
         return Err(too_deep(tokens));
@@ -373,7 +373,7 @@ fn nested_form(
 #[cycle(statements)]
 #[tactic(auto, unfolding(crate::specs::ReadStatements::statement_in))]
 fn statement(alloc: Global, tokens: &[Token], room: u8) -> Result<(Statement, &[Token]), ParseFailure>
-    ensures { GivesReading (λ x. (view_statement_tree x.0, x.1.now)) result (statement_in room tokens.now) }
+    ensures { HasGivenReading (λ x. (view_statement_tree x.0, x.1.now)) result (statement_in room tokens.now) }
 {
     if room == 0 {
         return Err(too_deep(tokens));

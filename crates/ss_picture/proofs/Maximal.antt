@@ -5,7 +5,7 @@ use Rattle.std.proofs.lemmas.Bool.{cond_both, eqb-false, ne_eqb}
 use Rattle.std.proofs.lemmas.List.{append_assoc, drop_at, length-replicate}
 use Rattle.ss_picture.specs.declared.field.Field.{Field}
 use Rattle.ss_picture.specs.Pictures.{Piece, Literal, Slot, stars, decimals_at, field_of, leading_field, characters_of, characters, byte_before, pieces_after, pieces_of, joined}
-use Rattle.ss_picture.specs.MaximalRuns.{HasNoAsterisk, IsWideEnough, EndsBefore, AreMaximalRuns, PiecesCut, OnlyPiecesCut}
+use Rattle.ss_picture.specs.MaximalRuns.{HasNoAsterisk, IsWideEnough, IsMaximalBefore, AreMaximalRuns, PiecesCut, OnlyPiecesCut}
 use Rattle.ss_picture.proofs.Stars.{stars_more, stars_none, stars-replicate, field_some, after_field, after_plain_field}
 use Rattle.ss_picture.proofs.Pieces.{pieces_after-drop, drop_less, pieces_of_other, pieces_of_field, joined-pieces_of}
 
@@ -70,7 +70,7 @@ one_byte byte is = cc
 
 ends_before_byte : (field : Field) (byte : ℕ) (pieces : List Piece) → IsFull pieces
     → (field.decimals ≡ 0 → (next : Field) (rest : List Piece) → pieces ≡ Slot next ∷ rest → byte ≡ 46 → ⊥)
-    → EndsBefore (Slot field) (byte_before byte pieces)
+    → IsMaximalBefore (Slot field) (byte_before byte pieces)
 ends_before_byte field byte [] is_full unless = λ plain point. point
 ends_before_byte field byte (Literal [] ∷ rest) is_full unless = absurd is_full
 ends_before_byte field byte (Literal (first ∷ bytes) ∷ []) is_full unless = λ plain point. point
@@ -87,10 +87,10 @@ no_decimals_possible bytes next rest byte none pieces is =
 no_asterisk : (byte : ℕ) (bytes : List ℕ) → stars (byte ∷ bytes) ≡ 0 → byte ≢ 42
 no_asterisk byte bytes none is = let more = stars_more byte bytes is in omega arith
 
-ends_before : (field : Field) (after : List ℕ) → stars after ≡ 0 → (field.decimals ≡ 0 → decimals_at after ≡ 0) → EndsBefore (Slot field) (pieces_of after)
+ends_before : (field : Field) (after : List ℕ) → stars after ≡ 0 → (field.decimals ≡ 0 → decimals_at after ≡ 0) → IsMaximalBefore (Slot field) (pieces_of after)
 ends_before field [] none plain_none = tt
 ends_before field (byte ∷ bytes) none plain_none =
-    subst (λ (pieces : List Piece). EndsBefore (Slot field) pieces) (sym (pieces_of_other byte bytes (no_asterisk byte bytes none)))
+    subst (λ (pieces : List Piece). IsMaximalBefore (Slot field) pieces) (sym (pieces_of_other byte bytes (no_asterisk byte bytes none)))
     (ends_before_byte field byte (pieces_of bytes) (full 0 bytes) (λ plain next rest pieces is. no_decimals_possible bytes next rest byte (plain_none plain) pieces is))
 
 maximal-pieces_after : (skipped : ℕ) (bytes : List ℕ) → AreMaximalRuns (pieces_after skipped bytes)
@@ -104,8 +104,8 @@ maximal-pieces_after zero (byte ∷ bytes) =
     let after_is : pieces_after (field.width - 1) bytes ≡ pieces_of after =
     pieces_after-drop (field.width - 1) bytes ∙ ap pieces_of (drop_less field.width byte bytes (field_some (byte ∷ bytes) some))
     in
-    let ends : EndsBefore (Slot field) (pieces_after (field.width - 1) bytes) =
-    subst (λ (pieces : List Piece). EndsBefore (Slot field) pieces) (sym after_is) (ends_before field after (after_field (byte ∷ bytes)) (after_plain_field (byte ∷ bytes)))
+    let ends : IsMaximalBefore (Slot field) (pieces_after (field.width - 1) bytes) =
+    subst (λ (pieces : List Piece). IsMaximalBefore (Slot field) pieces) (sym after_is) (ends_before field after (after_field (byte ∷ bytes)) (after_plain_field (byte ∷ bytes)))
     in
     (room_of (stars (byte ∷ bytes)) (decimals_at (drop (stars (byte ∷ bytes)) (byte ∷ bytes))) some, ends, maximal-pieces_after (field.width - 1) bytes))
     (λ other. maximal-byte_before byte (pieces_after 0 bytes) (eqb-false byte 42 other) (maximal-pieces_after 0 bytes))
@@ -115,7 +115,7 @@ maximal-pieces_after (suc skipped) (byte ∷ bytes) = maximal-pieces_after skipp
 
 -- other bytes before a field are found again
 pieces_of-bytes : (byte : ℕ) (bytes : List ℕ) (rest : List Piece) (after : List ℕ) → HasNoAsterisk (byte ∷ bytes) → pieces_of after ≡ rest
-    → EndsBefore (Literal (byte ∷ bytes)) rest → pieces_of ((byte ∷ bytes) ++ after) ≡ Literal (byte ∷ bytes) ∷ rest
+    → IsMaximalBefore (Literal (byte ∷ bytes)) rest → pieces_of ((byte ∷ bytes) ++ after) ≡ Literal (byte ∷ bytes) ∷ rest
 pieces_of-bytes byte [] [] after plain is ends = pieces_of_other byte after plain.0 ∙ ap (byte_before byte) is
 pieces_of-bytes byte [] (Literal more ∷ rest) after plain is ends = absurd ends
 pieces_of-bytes byte [] (Slot field ∷ rest) after plain is ends = pieces_of_other byte after plain.0 ∙ ap (byte_before byte) is
@@ -123,7 +123,7 @@ pieces_of-bytes byte (next ∷ bytes) rest after plain is ends =
     pieces_of_other byte ((next ∷ bytes) ++ after) plain.0
     ∙ ap (byte_before byte) (pieces_of-bytes next bytes rest after plain.1 is (ends_too rest ends))
   where
-    ends_too : (others : List Piece) → EndsBefore (Literal (byte ∷ next ∷ bytes)) others → EndsBefore (Literal (next ∷ bytes)) others
+    ends_too : (others : List Piece) → IsMaximalBefore (Literal (byte ∷ next ∷ bytes)) others → IsMaximalBefore (Literal (next ∷ bytes)) others
     ends_too [] h = h
     ends_too (Literal more ∷ others) h = h
     ends_too (Slot field ∷ others) h = h
@@ -185,13 +185,13 @@ pieces_of-slot field after room none plain =
     ∙ ap (λ (rest : List ℕ). Slot field ∷ pieces_of rest) (drop_at (characters field) after field.width (length-characters field.width field.decimals room))
 
 -- after a field no asterisk follows, and after one without decimals no period and asterisk
-no_star_after : (field : Field) (rest : List Piece) → EndsBefore (Slot field) rest → AreMaximalRuns rest → stars (joined rest []) ≡ 0
+no_star_after : (field : Field) (rest : List Piece) → IsMaximalBefore (Slot field) rest → AreMaximalRuns rest → stars (joined rest []) ≡ 0
 no_star_after field [] ends runs = refl
 no_star_after field (Literal [] ∷ more) ends runs = absurd runs.0
 no_star_after field (Literal (byte ∷ bytes) ∷ more) ends runs = stars_none byte (bytes ++ joined more []) runs.0.0
 no_star_after field (Slot next ∷ more) ends runs = absurd ends
 
-no_decimals_after : (field : Field) (rest : List Piece) → EndsBefore (Slot field) rest → AreMaximalRuns rest → field.decimals ≡ 0 → decimals_at (joined rest []) ≡ 0
+no_decimals_after : (field : Field) (rest : List Piece) → IsMaximalBefore (Slot field) rest → AreMaximalRuns rest → field.decimals ≡ 0 → decimals_at (joined rest []) ≡ 0
 no_decimals_after field [] ends runs plain = refl
 no_decimals_after field (Literal [] ∷ more) ends runs plain = absurd runs.0
 no_decimals_after field (Literal (byte ∷ []) ∷ []) ends runs plain =

@@ -10,7 +10,7 @@ use Rattle.ss_picture.specs.declared.items.Item.{Item}
 use Rattle.ss_picture.specs.declared.items.Item.TheVariants.{Is, Mean}
 use Rattle.ss_picture.specs.Numerals.{whole_text, mean_text}
 use Rattle.ss_picture.specs.Pictures.{Piece, Literal, Slot, stars, leading_field, decimals_at, characters, byte_before, pieces_after, pieces_of, fields_among, picture_fields, at_right, at_left, shown_characters, joined, filled}
-use Rattle.ss_picture.specs.Suited.{SuitsField, EachSuits}
+use Rattle.ss_picture.specs.Suited.{IsSuitedItem, AreSuitedItems}
 use Rattle.ss_picture.specs.Fields.{starts_among, starts}
 use Rattle.ss_picture.proofs.Stars.{chosen_some, field_some, length-characters_of, characters_at}
 
@@ -260,18 +260,18 @@ fill_next picture line new items k start field item inside given before is start
 -- ---- what a field takes
 
 -- each field that has an item takes it
-pub suits_at : (fields : List Field) (items : List Item) (k : ℕ) (field : Field) (item : Item) → EachSuits fields items → k < length fields → k < length items
-    → SuitsField (get_or fields k field).decimals (get_or items k item)
+pub suits_at : (fields : List Field) (items : List Item) (k : ℕ) (field : Field) (item : Item) → AreSuitedItems fields items → k < length fields → k < length items
+    → IsSuitedItem (get_or fields k field).decimals (get_or items k item)
 suits_at fields [] k field item each inside given = absurd (omega arith)
 suits_at [] (first ∷ items) k field item each inside given = absurd (omega arith)
 suits_at (shape ∷ fields) (first ∷ items) zero field item each inside given = each.0
 suits_at (shape ∷ fields) (first ∷ items) (suc k) field item each inside given =
     suits_at fields items k field item each.1 (omega arith) (omega arith)
 
-pub suits_next : (picture : List ℕ) (items : List Item) (k : ℕ) (field : Field) (item : Item) → EachSuits (picture_fields picture) items
+pub suits_next : (picture : List ℕ) (items : List Item) (k : ℕ) (field : Field) (item : Item) → AreSuitedItems (picture_fields picture) items
     → k < length (picture_fields picture) → k < length items → field ≡ get_or (picture_fields picture) k field → item ≡ get_or items k item
-    → SuitsField field.decimals item
+    → IsSuitedItem field.decimals item
 suits_next picture items k field item each inside given field_is item_is =
-    subst (λ (f : Field). SuitsField f.decimals item) (sym field_is)
-    (subst (λ (i : Item). SuitsField (get_or (picture_fields picture) k field).decimals i) (sym item_is)
+    subst (λ (f : Field). IsSuitedItem f.decimals item) (sym field_is)
+    (subst (λ (i : Item). IsSuitedItem (get_or (picture_fields picture) k field).decimals i) (sym item_is)
     (suits_at (picture_fields picture) items k field item each inside given))

@@ -3,7 +3,7 @@ use Rattle.std.proofs.Common.{◌≡◌, ℕ, ◌+◌, ◌-◌, ◌^◌, ◌<◌
 use Rattle.std.proofs.lemmas.List.{append_assoc, append-nil, length-take-le, length-drop}
 use Rattle.std.proofs.Math.Seq.{take-add}
 use Rattle.std.specs.Io.KnownBytes.{Appends}
-use Rattle.ss_picture.specs.Sending.{SinkState, Sends}
+use Rattle.ss_picture.specs.Sending.{SinkState, HasSent}
 
 -- known bytes that stay have nothing appended
 pub appends_nothing : (known : Option (List ℕ)) → Appends known known []
@@ -20,15 +20,15 @@ appends_more (Some bytes) (Some bytes') (Some bytes'') some more a b =
     b ∙ ap (λ list. list ++ more) a ∙ append_assoc bytes some more
 
 -- nothing is sent where nothing is done
-pub sends_nothing : {W : Type 0} (contents : W → Option (List ℕ)) (state : SinkState W) → state.sent < 2 ^ 128 → Sends contents state state []
+pub sends_nothing : {W : Type 0} (contents : W → Option (List ℕ)) (state : SinkState W) → state.sent < 2 ^ 128 → HasSent contents state state []
 sends_nothing contents state small = record { took = appends_nothing (contents state.writer); counted = omega arith }
 
 -- what is sent in two steps is sent
 pub sends_more : {W : Type 0} (contents : W → Option (List ℕ)) (first second third : SinkState W) (bytes rest : List ℕ) (at count : ℕ)
-    → Sends contents first second (take at bytes) → at < length bytes → rest ≡ drop at bytes → count ≤ length rest
+    → HasSent contents first second (take at bytes) → at < length bytes → rest ≡ drop at bytes → count ≤ length rest
     → Appends (contents second.writer) (contents third.writer) (take count rest)
     → third.sent ≡ min (second.sent + count) (2 ^ 128 - 1)
-    → Sends contents first third (take (at + count) bytes)
+    → HasSent contents first third (take (at + count) bytes)
 sends_more contents first second third bytes rest at count before inside rest_is within took counted = record {
   took =
       let joined : take at bytes ++ take count rest ≡ take (at + count) bytes =

@@ -28,27 +28,27 @@ IsPoint bytes (Slot _ ∷ _) = bytes ≡ period ∷ []
 
 -- a run is maximal before these pieces: they don't begin with one of its kind, and where it is a field without decimals,
 -- none can be had from them
-abbrev pub EndsBefore : Piece → List Piece → Type 0
-EndsBefore _ [] = ⊤
-EndsBefore (Literal _) (Literal _ ∷ _) = ⊥
-EndsBefore (Literal _) (Slot _ ∷ _) = ⊤
-EndsBefore (Slot field) (Literal bytes ∷ rest) = field.decimals ≡ 0 → IsPoint bytes rest → ⊥
-EndsBefore (Slot _) (Slot _ ∷ _) = ⊥
+abbrev pub IsMaximalBefore : Piece → List Piece → Type 0
+IsMaximalBefore _ [] = ⊤
+IsMaximalBefore (Literal _) (Literal _ ∷ _) = ⊥
+IsMaximalBefore (Literal _) (Slot _ ∷ _) = ⊤
+IsMaximalBefore (Slot field) (Literal bytes ∷ rest) = field.decimals ≡ 0 → IsPoint bytes rest → ⊥
+IsMaximalBefore (Slot _) (Slot _ ∷ _) = ⊥
 
 -- pieces that are maximal runs
 abbrev pub AreMaximalRuns : List Piece → Type 0
 AreMaximalRuns [] = ⊤
-AreMaximalRuns (piece ∷ rest) = IsRun piece × EndsBefore piece rest × AreMaximalRuns rest
+AreMaximalRuns (piece ∷ rest) = IsRun piece × IsMaximalBefore piece rest × AreMaximalRuns rest
 
 -- these pieces, none of them filled, are the picture, and they are maximal runs
-pub record Cuts (picture : List ℕ) (pieces : List Piece) : Type 0 where
+pub record IsPictureCut (picture : List ℕ) (pieces : List Piece) : Type 0 where
   pub whole : joined pieces [] ≡ picture
   pub maximal : AreMaximalRuns pieces
 
 -- the pieces of a picture cut it into maximal runs
 abbrev pub PiecesCut : Type 0
-PiecesCut = (picture : List ℕ) → Cuts picture (pieces_of picture)
+PiecesCut = (picture : List ℕ) → IsPictureCut picture (pieces_of picture)
 
 -- and no others do
 abbrev pub OnlyPiecesCut : Type 0
-OnlyPiecesCut = (picture : List ℕ) (pieces : List Piece) → Cuts picture pieces → pieces ≡ pieces_of picture
+OnlyPiecesCut = (picture : List ℕ) (pieces : List Piece) → IsPictureCut picture pieces → pieces ≡ pieces_of picture

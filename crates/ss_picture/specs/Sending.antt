@@ -20,15 +20,15 @@ abbrev pub sent_after : ℕ → List ℕ → ℕ
 sent_after sent bytes = min (sent + length bytes) (2 ^ 128 - 1)
 
 -- from one state of a sink to another these bytes went out: its writer took them, and they were counted
-pub record Sends {W : Type 0} (contents : W → Option (List ℕ)) (old new : SinkState W) (bytes : List ℕ) : Type 0 where
+pub record HasSent {W : Type 0} (contents : W → Option (List ℕ)) (old new : SinkState W) (bytes : List ℕ) : Type 0 where
   pub took : Appends (contents old.writer) (contents new.writer) bytes
   pub counted : new.sent ≡ sent_after old.sent bytes
 
 -- from one state of a sink to another the first of these bytes went out, but not all of them
-pub record SendsFirst {W : Type 0} (contents : W → Option (List ℕ)) (old new : SinkState W) (bytes : List ℕ) : Type 0 where
+pub record HasSentFirst {W : Type 0} (contents : W → Option (List ℕ)) (old new : SinkState W) (bytes : List ℕ) : Type 0 where
   pub count : ℕ
   pub not_all : count < length bytes
-  pub sends : Sends contents old new (take count bytes)
+  pub sends : HasSent contents old new (take count bytes)
 
 -- how many writes in a row may take no byte before a sink gives up
 abbrev pub stall_limit : ℕ
@@ -44,7 +44,7 @@ idle_before zero idle = idle
 idle_before (suc sent) idle = 0
 
 -- the first of these bytes went out, and then the writer took no byte in just as many writes in a row as the limit
-pub record Stalls {W : Type 0} (contents : W → Option (List ℕ)) (idle : W → Option ℕ) (old new : SinkState W) (bytes : List ℕ) : Type 0 where
+pub record HasStalled {W : Type 0} (contents : W → Option (List ℕ)) (idle : W → Option ℕ) (old new : SinkState W) (bytes : List ℕ) : Type 0 where
   pub count : ℕ
-  pub sends : Sends contents old new (take count bytes)
+  pub sends : HasSent contents old new (take count bytes)
   pub in_a_row : idle new.writer ≡ counted_more stall_limit (option_map (idle_before count) (idle old.writer))

@@ -12,12 +12,12 @@ pub record IsMean (sum number : ℤ) : Type 0 where
   pub high : number ≢ pos 0 → sum ≤ℤ (pos (2 ^ 63) *ℤ number)
 
 -- an item that a field of so many decimals takes: a value where it has none, a mean where they are at most 9
-abbrev pub SuitsField : ℕ → Item → Type 0
-SuitsField decimals (Is value) = decimals ≡ 0
-SuitsField decimals (Mean sum number) = (decimals ≤ 9) × IsMean sum number
+abbrev pub IsSuitedItem : ℕ → Item → Type 0
+IsSuitedItem decimals (Is value) = decimals ≡ 0
+IsSuitedItem decimals (Mean sum number) = (decimals ≤ 9) × IsMean sum number
 
 -- each of these fields takes its item, as far as there are items
-abbrev pub EachSuits : List Field → List Item → Type 0
-EachSuits fields [] = ⊤
-EachSuits [] (item ∷ items) = ⊤
-EachSuits (field ∷ fields) (item ∷ items) = SuitsField field.decimals item × EachSuits fields items
+abbrev pub AreSuitedItems : List Field → List Item → Type 0
+AreSuitedItems fields [] = ⊤
+AreSuitedItems [] (item ∷ items) = ⊤
+AreSuitedItems (field ∷ fields) (item ∷ items) = IsSuitedItem field.decimals item × AreSuitedItems fields items

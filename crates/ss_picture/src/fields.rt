@@ -1,7 +1,7 @@
 ghost use Rattle.std.specs.Prelude.{◌≡◌, ◌≤◌, ◌++◌, ◌∷◌, length, [], IfOk, OnOk};
 ghost use Rattle.ss_picture.specs.Pictures.{filled, picture_fields};
 ghost use Rattle.ss_picture.specs.Fields.{starts};
-ghost use Rattle.ss_picture.specs.Suited.{EachSuits};
+ghost use Rattle.ss_picture.specs.Suited.{AreSuitedItems};
 
 use crate::field::{Field, first_field};
 use crate::items::{Item, fill_field};
@@ -51,7 +51,7 @@ impl Fields {
         requires starts { self.now.starts.items ≡ starts line.old }
         requires shapes { self.now.shapes.items ≡ picture_fields line.old }
         requires a_field_each { length items.now ≤ length (picture_fields line.old) }
-        requires suited { EachSuits (picture_fields line.old) items.now }
+        requires suited { AreSuitedItems (picture_fields line.old) items.now }
         ensures { line.new ≡ filled line.old items.now }
     {
         for (field, item) in items.iter().enumerate() {

@@ -1,6 +1,6 @@
 ghost use Rattle.std.specs.Prelude.{◌≡◌, ℕ, length, nat_le};
 ghost use Rattle.ss_picture.specs.Pictures.{at_right as right, at_left as left, shown_characters};
-ghost use Rattle.ss_picture.specs.Suited.{SuitsField};
+ghost use Rattle.ss_picture.specs.Suited.{IsSuitedItem};
 ghost use Rattle.ss_picture.specs.declared.items.Item.TheVariants.{Is};
 
 use crate::means::fill_mean;
@@ -21,7 +21,7 @@ pub enum Item {
 
 // Writes an item to its field, which has so many decimals.
 pub(crate) fn fill_field(field: &mut [u8], decimals: usize, item: &Item)
-    requires { SuitsField decimals item.now }
+    requires { IsSuitedItem decimals item.now }
     ensures { field.new ≡ shown_characters field.old decimals item.now }
 {
     match item {

@@ -2,7 +2,7 @@ ghost use Rattle.std.specs.Cmp.{partial_equiv_from_equiv};
 ghost use Rattle.std.specs.Cmp.Lexicographic.{pointwise, nat_list_eq_equiv};
 ghost use Rattle.std.specs.Prelude.{nat_eq, ◌≡◌, ◌<◌, ◌≤◌, ◌+◌, ◌++◌, length, vec_len, vec_capacity, IfOk, OnOk, OnErr};
 ghost use Rattle.ss_picture.specs.Pictures.{field_count, filled, picture_fields};
-ghost use Rattle.ss_picture.specs.Suited.{EachSuits};
+ghost use Rattle.ss_picture.specs.Suited.{AreSuitedItems};
 
 use crate::field::Field;
 use crate::fields::Fields;
@@ -63,7 +63,7 @@ impl Picture {
     /// The error comes where memory was refused.
     pub fn fill(&self, alloc: Global, items: &[Item]) -> Result<Vec<u8>, AllocError>
         requires a_field_each { length items.now ≡ field_count self.now }
-        requires suited { EachSuits (picture_fields self.now) items.now }
+        requires suited { AreSuitedItems (picture_fields self.now) items.now }
         ensures { IfOk result (λ line. line.items ≡ filled self.now items.now) }
     {
         let mut line = Vec::new(alloc);
@@ -78,7 +78,7 @@ impl Picture {
     /// `line` had room for as many bytes as the picture has.
     pub fn fill_into(&self, line: &mut Vec<u8>, items: &[Item]) -> Result<(), AllocError>
         requires a_field_each { length items.now ≤ field_count self.now }
-        requires suited { EachSuits (picture_fields self.now) items.now }
+        requires suited { AreSuitedItems (picture_fields self.now) items.now }
         ensures ok { OnOk result (line.new.items ≡ line.old.items ++ filled self.now items.now) }
         ensures err { OnErr result (line.new.items ≡ line.old.items) }
         ensures full { OnErr result (vec_capacity line.old < vec_len line.old + length self.now) }

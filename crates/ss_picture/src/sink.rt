@@ -1,6 +1,6 @@
 ghost use Rattle.std.specs.Prelude.{◌≡◌, ◌<◌, ◌≤◌, length, take, [], IsOk, IfOk, OnOk, OnErr, IsErrOf, option_map};
 ghost use Rattle.std.specs.Io.KnownBytes.{Appends, Keeps};
-ghost use Rattle.ss_picture.specs.Sending.{Sends, SendsFirst, Stalls, stall_limit, counted_more};
+ghost use Rattle.ss_picture.specs.Sending.{HasSent, HasSentFirst, HasStalled, stall_limit, counted_more};
 ghost use Rattle.ss_base.specs.Failures.{HasRisen, HasRisenBy};
 
 use ss_base::FaultyWrite;
@@ -58,8 +58,8 @@ impl<W: FaultyWrite> Sink<W> {
     /// writer answered an error, which is not asked again; `Stalled` where it took no byte in
     /// `STALL_LIMIT` writes in a row.
     pub fn write(&mut self, bytes: &[u8]) -> Result<(), SinkError>
-        ensures ok { OnOk result (Sends W.contents self.old self.new bytes.now) }
-        ensures err { OnErr result (SendsFirst W.contents self.old self.new bytes.now) }
+        ensures ok { OnOk result (HasSent W.contents self.old self.new bytes.now) }
+        ensures err { OnErr result (HasSentFirst W.contents self.old self.new bytes.now) }
         ensures failed { IsErrOf result SinkError.Failed
             → HasRisen (W.faults self.old.writer) (W.faults self.new.writer) }
         ensures stalled { IsErrOf result SinkError.Stalled
@@ -68,7 +68,7 @@ impl<W: FaultyWrite> Sink<W> {
         ensures once { IsErrOf result SinkError.Failed
             → W.errors self.new.writer ≡ counted_more 1 (W.errors self.old.writer) }
         ensures no_error { IsErrOf result SinkError.Stalled → W.errors self.new.writer ≡ W.errors self.old.writer }
-        ensures in_a_row { IsErrOf result SinkError.Stalled → Stalls W.contents W.idle self.old self.new bytes.now }
+        ensures in_a_row { IsErrOf result SinkError.Stalled → HasStalled W.contents W.idle self.old self.new bytes.now }
         ensures never_falls { HasRisenBy 0 (W.faults self.old.writer) (W.faults self.new.writer) }
         ensures no_byte { bytes.now ≡ [] → (IsOk result) × (self.new ≡ self.old) }
     {

@@ -15,7 +15,7 @@ use Rattle.ss_program.specs.declared.expression.Variable.TheVariants.{Global, Lo
 use Rattle.ss_base.specs.declared.words.Operator.TheVariants.{Add, Multiply}
 use Rattle.ss_base.specs.declared.words.Sign.TheVariants.{Plus}
 use Rattle.ss_program.specs.Program.{Expression, Constant, Fetch, Calculate, TheSystem, Entity, AtEnd, Numbers, Members, AValue, ToVariable, ToAttribute, ToCount, ByDiscipline, At, Let, Change, Read, Simulate, For, Create, CreateEvery, File, ScheduleNew, Print, Block, Done, Then, Program}
-use Rattle.ss_program.specs.WellTyped.{WellTyped, TypedScope, HaveModes, kind_of_class}
+use Rattle.ss_program.specs.WellTyped.{IsWellTyped, TypedScope, HaveModes, kind_of_class}
 use Rattle.ss_program.specs.Nodes.{nodes}
 
 abbrev number : ℕ → Expression
@@ -47,7 +47,7 @@ numbers l e = record {
 abbrev pub seven : Expression
 seven = Calculate Add (number 1) (Calculate Multiply (number 2) (number 3))
 
-pub numbers_fit : (l : Line) → WellTyped (numbers l seven)
+pub numbers_fit : (l : Line) → IsWellTyped (numbers l seven)
 unfolding picture_fields
 numbers_fit l = record {
   sets = refl;
@@ -61,7 +61,7 @@ numbers_fit l = record {
 }
 
 -- X is a whole number, and takes no text
-pub a_text_does_not : (l : Line) → WellTyped (numbers l (Constant (Text (codes "SEVEN")))) → ⊥
+pub a_text_does_not : (l : Line) → IsWellTyped (numbers l (Constant (Text (codes "SEVEN")))) → ⊥
 a_text_does_not l w = cc
 
 pub numbers_nodes : (l : Line) → nodes (numbers l seven) ≡ 18
@@ -103,7 +103,7 @@ no_notices l zero e = cc
 no_notices l (suc zero) e = cc
 no_notices l (suc (suc n)) e = cc
 
-pub ranking_fits : (l : Line) → WellTyped (ranking l 0)
+pub ranking_fits : (l : Line) → IsWellTyped (ranking l 0)
 ranking_fits l = record {
   sets = refl;
   disciplines = (((Integer, refl), tt), (tt, tt));
@@ -116,7 +116,7 @@ ranking_fits l = record {
 }
 
 -- a job has no third attribute
-pub a_third_attribute_is_none : (l : Line) → WellTyped (ranking l 2) → ⊥
+pub a_third_attribute_is_none : (l : Line) → IsWellTyped (ranking l 2) → ⊥
 a_third_attribute_is_none l w = cc
 
 -- ---- an event
@@ -144,7 +144,7 @@ bell_has_an_event : (l : Line) (class : ℕ) → kind_of_class (bells l (number 
 bell_has_an_event l zero e = (0, omega arith, refl)
 bell_has_an_event l (suc n) e = absurd (none-some Notice e)
 
-pub bells_fit : (l : Line) → WellTyped (bells l (number 8) (ring l))
+pub bells_fit : (l : Line) → IsWellTyped (bells l (number 8) (ring l))
 unfolding picture_fields
 bells_fit l = record {
   sets = refl;
@@ -162,11 +162,11 @@ loud_is_no_tone s [] e h = cc
 loud_is_no_tone s (m ∷ ms) e h = cc
 
 -- a TONE is a whole number
-pub a_tone_is_no_text : (l : Line) → WellTyped (bells l (Constant (Text (codes "LOUD"))) (ring l)) → ⊥
+pub a_tone_is_no_text : (l : Line) → IsWellTyped (bells l (Constant (Text (codes "LOUD"))) (ring l)) → ⊥
 a_tone_is_no_text l w = loud_is_no_tone (record { program = bells l (Constant (Text (codes "LOUD"))) (ring l); locals = []; is_main = true }) w.main.0.0.1.0 w.main.0.0.1.1 w.main.0.0.1.2
 
 -- a simulation is started in MAIN alone
-pub no_simulation_in_an_event : (l : Line) → WellTyped (bells l (number 8) (Then Simulate Done)) → ⊥
+pub no_simulation_in_an_event : (l : Line) → IsWellTyped (bells l (number 8) (Then Simulate Done)) → ⊥
 no_simulation_in_an_event l w = cc
 
 -- two sections, three statements, BELL twice, T, 8, 9 and a picture

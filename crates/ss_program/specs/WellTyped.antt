@@ -102,18 +102,18 @@ abbrev pub HaveModes : TypedScope → List Expression → List Mode → Type 0
 HaveModes s = AllZip (HasMode s)
 
 -- the owner is such as the sets of the name have
-abbrev pub OwnerFits : TypedScope → (set : ℕ) → SetOwner → Type 0
-OwnerFits s set TheSystem = owner_of_set s.program set ≡ Some System
-OwnerFits s set (Entity e) = IsOwned s.program set × HasMode s e Integer
+abbrev pub IsTypedOwner : TypedScope → (set : ℕ) → SetOwner → Type 0
+IsTypedOwner s set TheSystem = owner_of_set s.program set ≡ Some System
+IsTypedOwner s set (Entity e) = IsOwned s.program set × HasMode s e Integer
 
-abbrev pub GoodTest : TypedScope → Test → Type 0
-GoodTest s (Compare relation a b) = (m : Mode) × HasMode s a m × HasMode s b m
-GoodTest s (DataEnded negated) = Unit {0}
-GoodTest s (Empty negated set owner) = OwnerFits s set owner
-GoodTest s (Member negated set e owner) = HasMode s e Integer × OwnerFits s set owner
+abbrev pub IsTypedTest : TypedScope → Test → Type 0
+IsTypedTest s (Compare relation a b) = (m : Mode) × HasMode s a m × HasMode s b m
+IsTypedTest s (DataEnded negated) = Unit {0}
+IsTypedTest s (Empty negated set owner) = IsTypedOwner s set owner
+IsTypedTest s (Member negated set e owner) = HasMode s e Integer × IsTypedOwner s set owner
 
-abbrev pub GoodCondition : TypedScope → Condition → Type 0
-GoodCondition s = Every (Every (GoodTest s))
+abbrev pub IsTypedCondition : TypedScope → Condition → Type 0
+IsTypedCondition s = Every (Every (IsTypedTest s))
 
 -- ---- places and heads of loops
 
@@ -123,138 +123,138 @@ IsPlain p (Global k) = Every (λ count. count.variable ≢ k) p.counts
 IsPlain p (Local k) = Unit {0}
 
 -- the place takes values of the mode
-abbrev pub TakesMode : TypedScope → Place → Mode → Type 0
-TakesMode s (ToVariable x) m = (mode_at s x ≡ Some m) × IsPlain s.program x
-TakesMode s (ToAttribute class field e) m = (field_mode s.program class field ≡ Some m) × HasMode s e Integer
-TakesMode s (ToCount count) m = (m ≡ Integer) × Contains s.program.counts count
+abbrev pub CanTakeMode : TypedScope → Place → Mode → Type 0
+CanTakeMode s (ToVariable x) m = (mode_at s x ≡ Some m) × IsPlain s.program x
+CanTakeMode s (ToAttribute class field e) m = (field_mode s.program class field ≡ Some m) × HasMode s e Integer
+CanTakeMode s (ToCount count) m = (m ≡ Integer) × Contains s.program.counts count
 
-abbrev pub GoodStart : TypedScope → Start → Type 0
-GoodStart s AtEnd = Unit {0}
-GoodStart s (From e) = HasMode s e Integer
-GoodStart s (After e) = HasMode s e Integer
+abbrev pub IsTypedStart : TypedScope → Start → Type 0
+IsTypedStart s AtEnd = Unit {0}
+IsTypedStart s (From e) = HasMode s e Integer
+IsTypedStart s (After e) = HasMode s e Integer
 
-abbrev pub GoodHead : TypedScope → Head → Type 0
-GoodHead s (Numbers x a b step) = TakesMode s (ToVariable x) Integer × HasMode s a Integer × HasMode s b Integer × IfSome step (λ e. HasMode s e Integer)
-GoodHead s (Members x set owner start reverse) = TakesMode s (ToVariable x) Integer × OwnerFits s set owner × GoodStart s start
-GoodHead s (Each x class) = TakesMode s (ToVariable x) Integer × (kind_of_class s.program class ≡ Some Permanent)
+abbrev pub IsTypedHead : TypedScope → Head → Type 0
+IsTypedHead s (Numbers x a b step) = CanTakeMode s (ToVariable x) Integer × HasMode s a Integer × HasMode s b Integer × IfSome step (λ e. HasMode s e Integer)
+IsTypedHead s (Members x set owner start reverse) = CanTakeMode s (ToVariable x) Integer × IsTypedOwner s set owner × IsTypedStart s start
+IsTypedHead s (Each x class) = CanTakeMode s (ToVariable x) Integer × (kind_of_class s.program class ≡ Some Permanent)
 
 -- the condition of a phrase is good
-abbrev pub GoodPhrase : TypedScope → Phrase → Type 0
-GoodPhrase s phrase = GoodCondition s phrase.condition
+abbrev pub IsTypedPhrase : TypedScope → Phrase → Type 0
+IsTypedPhrase s phrase = IsTypedCondition s phrase.condition
 
 -- ---- statements
 
 -- the routine is there, and takes and yields as many values, of the same modes
-abbrev pub GoodCall : TypedScope → (routine : ℕ) → List Expression → List Place → Type 0
-GoodCall s k given yielding =
-    (r : Routine) × (slice_get s.program.routines k ≡ Some r) × HaveModes s given r.given × AllZip (TakesMode s) yielding r.yielding
+abbrev pub IsTypedCall : TypedScope → (routine : ℕ) → List Expression → List Place → Type 0
+IsTypedCall s k given yielding =
+    (r : Routine) × (slice_get s.program.routines k ≡ Some r) × HaveModes s given r.given × AllZip (CanTakeMode s) yielding r.yielding
 
-abbrev pub GoodPosition : TypedScope → Position → Type 0
-GoodPosition s ByDiscipline = Unit {0}
-GoodPosition s AsFirst = Unit {0}
-GoodPosition s AsLast = Unit {0}
-GoodPosition s (BeforeMember e) = HasMode s e Integer
-GoodPosition s (AfterMember e) = HasMode s e Integer
+abbrev pub IsTypedPosition : TypedScope → Position → Type 0
+IsTypedPosition s ByDiscipline = Unit {0}
+IsTypedPosition s AsFirst = Unit {0}
+IsTypedPosition s AsLast = Unit {0}
+IsTypedPosition s (BeforeMember e) = HasMode s e Integer
+IsTypedPosition s (AfterMember e) = HasMode s e Integer
 
-abbrev pub GoodWhen : TypedScope → When → Type 0
-GoodWhen s (At e) = HasMode s e Integer
-GoodWhen s (In e) = HasMode s e Integer
-GoodWhen s Now = Unit {0}
+abbrev pub IsTypedWhen : TypedScope → When → Type 0
+IsTypedWhen s (At e) = HasMode s e Integer
+IsTypedWhen s (In e) = HasMode s e Integer
+IsTypedWhen s Now = Unit {0}
 
 -- the class is one of notices, whose first attributes take the values given
-abbrev pub GoodGiven : TypedScope → (class : ℕ) → List Expression → Type 0
-GoodGiven s class given =
+abbrev pub AreTypedGiven : TypedScope → (class : ℕ) → List Expression → Type 0
+AreTypedGiven s class given =
     (kind_of_class s.program class ≡ Some Notice) × ((modes : List Mode) × (fields_of s.program class ≡ Some modes) × HaveModes s given (take (length given) modes))
 
 -- the statistic is that of one thing or, with an expression, of each entity
-abbrev pub GoodRestart : TypedScope → (statistic : ℕ) → Option Expression → Type 0
-GoodRestart s k None = HasSubject s.program IsAlone k
-GoodRestart s k (Some e) = HasSubject s.program IsOfEntities k × HasMode s e Integer
+abbrev pub IsTypedRestart : TypedScope → (statistic : ℕ) → Option Expression → Type 0
+IsTypedRestart s k None = HasSubject s.program IsAlone k
+IsTypedRestart s k (Some e) = HasSubject s.program IsOfEntities k × HasMode s e Integer
 
 -- a field takes the item: a value where it has no decimals, a mean where it has at most 9
-abbrev pub TakesItem : TypedScope → Field → PrintItem → Type 0
-TakesItem s field (AValue e) = ((m : Mode) × HasMode s e m) × (field.decimals ≡ 0)
-TakesItem s field (AMean k) = HasSubject s.program IsAlone k × (field.decimals ≤ 9)
-TakesItem s field (AMeanOf k e) = HasSubject s.program IsOfEntities k × HasMode s e Integer × (field.decimals ≤ 9)
+abbrev pub CanTakeItem : TypedScope → Field → PrintItem → Type 0
+CanTakeItem s field (AValue e) = ((m : Mode) × HasMode s e m) × (field.decimals ≡ 0)
+CanTakeItem s field (AMean k) = HasSubject s.program IsAlone k × (field.decimals ≤ 9)
+CanTakeItem s field (AMeanOf k e) = HasSubject s.program IsOfEntities k × HasMode s e Integer × (field.decimals ≤ 9)
 
 -- the fields of the pictures take the items, and are as many
-abbrev pub GoodPrint : TypedScope → List PrintItem → List (List ℕ) → Type 0
-GoodPrint s items pictures = AllZip (TakesItem s) (flat_map picture_fields pictures) items
+abbrev pub IsTypedPrint : TypedScope → List PrintItem → List (List ℕ) → Type 0
+IsTypedPrint s items pictures = AllZip (CanTakeItem s) (flat_map picture_fields pictures) items
 
 abbrev mutual
-  pub Good : TypedScope → Statement → Type 0
-  Good s (Let l x e) = (m : Mode) × TakesMode s x m × HasMode s e m
-  Good s (Change l sign x e) = TakesMode s x Integer × HasMode s e Integer
-  Good s (Call l routine given yielding) = GoodCall s routine given yielding
-  Good s Return = Unit {0}
-  Good s Stop = Unit {0}
-  Good s (Read l targets) = Every (λ t. TakesMode s t.place t.mode) targets
-  Good s Simulate = s.is_main ≡ true
-  Good s (If l condition a b) = GoodCondition s condition × GoodBlock s a × GoodBlock s b
-  Good s (Loop l guards body) = Every (λ guard. GoodCondition s guard.condition) guards × GoodBlock s body
-  Good s (For l head phrases body) = GoodHead s head × Every (GoodPhrase s) phrases × GoodBlock s body
-  Good s (Find l head phrases found none) = GoodHead s head × Every (GoodPhrase s) phrases × GoodBlock s found × GoodBlock s none
-  Good s (Create l class x) = (is_created_singly (kind_of_class s.program class) ≡ true) × TakesMode s x Integer
-  Good s (CreateEvery l counts) = Every (Contains s.program.counts) counts
-  Good s (Destroy l class e) = (is_created_singly (kind_of_class s.program class) ≡ true) × HasMode s e Integer
-  Good s (File l set e position owner) = HasMode s e Integer × GoodPosition s position × OwnerFits s set owner
-  Good s (RemoveEnd l end set x owner) = TakesMode s x Integer × OwnerFits s set owner
-  Good s (Remove l set e owner) = HasMode s e Integer × OwnerFits s set owner
-  Good s (ScheduleNew l class x given when) = GoodGiven s class given × TakesMode s x Integer × GoodWhen s when
-  Good s (Schedule l class e given when) = GoodGiven s class given × HasMode s e Integer × GoodWhen s when
-  Good s (Cancel l class e) = (kind_of_class s.program class ≡ Some Notice) × HasMode s e Integer
-  Good s (Reset l restarts) = Every (λ r. GoodRestart s r.statistic r.of) restarts
-  Good s (Print l items pictures) = GoodPrint s items pictures
-  Good s (Skip l e) = HasMode s e Integer
+  pub IsTypedStatement : TypedScope → Statement → Type 0
+  IsTypedStatement s (Let l x e) = (m : Mode) × CanTakeMode s x m × HasMode s e m
+  IsTypedStatement s (Change l sign x e) = CanTakeMode s x Integer × HasMode s e Integer
+  IsTypedStatement s (Call l routine given yielding) = IsTypedCall s routine given yielding
+  IsTypedStatement s Return = Unit {0}
+  IsTypedStatement s Stop = Unit {0}
+  IsTypedStatement s (Read l targets) = Every (λ t. CanTakeMode s t.place t.mode) targets
+  IsTypedStatement s Simulate = s.is_main ≡ true
+  IsTypedStatement s (If l condition a b) = IsTypedCondition s condition × IsTypedBlock s a × IsTypedBlock s b
+  IsTypedStatement s (Loop l guards body) = Every (λ guard. IsTypedCondition s guard.condition) guards × IsTypedBlock s body
+  IsTypedStatement s (For l head phrases body) = IsTypedHead s head × Every (IsTypedPhrase s) phrases × IsTypedBlock s body
+  IsTypedStatement s (Find l head phrases found none) = IsTypedHead s head × Every (IsTypedPhrase s) phrases × IsTypedBlock s found × IsTypedBlock s none
+  IsTypedStatement s (Create l class x) = (is_created_singly (kind_of_class s.program class) ≡ true) × CanTakeMode s x Integer
+  IsTypedStatement s (CreateEvery l counts) = Every (Contains s.program.counts) counts
+  IsTypedStatement s (Destroy l class e) = (is_created_singly (kind_of_class s.program class) ≡ true) × HasMode s e Integer
+  IsTypedStatement s (File l set e position owner) = HasMode s e Integer × IsTypedPosition s position × IsTypedOwner s set owner
+  IsTypedStatement s (RemoveEnd l end set x owner) = CanTakeMode s x Integer × IsTypedOwner s set owner
+  IsTypedStatement s (Remove l set e owner) = HasMode s e Integer × IsTypedOwner s set owner
+  IsTypedStatement s (ScheduleNew l class x given when) = AreTypedGiven s class given × CanTakeMode s x Integer × IsTypedWhen s when
+  IsTypedStatement s (Schedule l class e given when) = AreTypedGiven s class given × HasMode s e Integer × IsTypedWhen s when
+  IsTypedStatement s (Cancel l class e) = (kind_of_class s.program class ≡ Some Notice) × HasMode s e Integer
+  IsTypedStatement s (Reset l restarts) = Every (λ r. IsTypedRestart s r.statistic r.of) restarts
+  IsTypedStatement s (Print l items pictures) = IsTypedPrint s items pictures
+  IsTypedStatement s (Skip l e) = HasMode s e Integer
 
-  pub GoodBlock : TypedScope → Block → Type 0
-  GoodBlock s Done = Unit {0}
-  GoodBlock s (Then statement rest) = Good s statement × GoodBlock s rest
+  pub IsTypedBlock : TypedScope → Block → Type 0
+  IsTypedBlock s Done = Unit {0}
+  IsTypedBlock s (Then statement rest) = IsTypedStatement s statement × IsTypedBlock s rest
 
 -- ---- programs
 
 -- the keys name fields of the class
-abbrev pub GoodKeys : Program → (class : ℕ) → List RankKey → Type 0
-GoodKeys p class = Every (λ key. (m : Mode) × (field_mode p class key.field ≡ Some m))
+abbrev pub AreTypedKeys : Program → (class : ℕ) → List RankKey → Type 0
+AreTypedKeys p class = Every (λ key. (m : Mode) × (field_mode p class key.field ≡ Some m))
 
-abbrev pub GoodDiscipline : Program → SetLayout → Discipline → Type 0
-GoodDiscipline p set Fifo = Unit {0}
-GoodDiscipline p set Lifo = Unit {0}
-GoodDiscipline p set (Ranked keys) = GoodKeys p set.member keys
+abbrev pub IsTypedDiscipline : Program → SetLayout → Discipline → Type 0
+IsTypedDiscipline p set Fifo = Unit {0}
+IsTypedDiscipline p set Lifo = Unit {0}
+IsTypedDiscipline p set (Ranked keys) = AreTypedKeys p set.member keys
 
 -- N. of a class is that of a permanent one
-abbrev pub GoodCount : Program → CountedClass → Type 0
-GoodCount p count = (kind_of_class p count.class ≡ Some Permanent) × (slice_get p.globals count.variable ≡ Some Integer)
+abbrev pub IsTypedCount : Program → CountedClass → Type 0
+IsTypedCount p count = (kind_of_class p count.class ≡ Some Permanent) × (slice_get p.globals count.variable ≡ Some Integer)
 
 -- the subject of a statistic is there, and a whole number
-abbrev pub GoodSubject : Program → Subject → Type 0
-GoodSubject p (OfVariable k) = (slice_get p.globals k ≡ Some Integer) × IsPlain p (Global k)
-GoodSubject p (OfAttribute class field) = field_mode p class field ≡ Some Integer
-GoodSubject p (OfCount set) = IsSet p set
+abbrev pub IsTypedSubject : Program → Subject → Type 0
+IsTypedSubject p (OfVariable k) = (slice_get p.globals k ≡ Some Integer) × IsPlain p (Global k)
+IsTypedSubject p (OfAttribute class field) = field_mode p class field ≡ Some Integer
+IsTypedSubject p (OfCount set) = IsSet p set
 
-abbrev pub GoodRoutine : Program → Routine → Type 0
-GoodRoutine p r = GoodBlock (record { program = p; locals = r.given ++ (r.yielding ++ r.others); is_main = false }) r.body
+abbrev pub IsTypedRoutine : Program → Routine → Type 0
+IsTypedRoutine p r = IsTypedBlock (record { program = p; locals = r.given ++ (r.yielding ++ r.others); is_main = false }) r.body
 
 -- the class is one of notices; its ties are fields of it, and what the routine is given are its first fields
-pub record GoodEvent (p : Program) (e : Event) : Type 0 where
+pub record IsTypedEvent (p : Program) (e : Event) : Type 0 where
   pub modes : List Mode
   pub fields : fields_of p e.class ≡ Some modes
   pub notice : kind_of_class p e.class ≡ Some Notice
-  pub ties : GoodKeys p e.class e.ties
+  pub ties : AreTypedKeys p e.class e.ties
   pub given : e.given ≡ take (length e.given) modes
   -- the variable that takes the number of a notice that is saved
   pub saved : IfSome e.saved (λ k. (slice_get p.globals k ≡ Some Integer) × IsPlain p (Global k))
-  pub body : GoodBlock (record { program = p; locals = e.given ++ e.others; is_main = false }) e.body
+  pub body : IsTypedBlock (record { program = p; locals = e.given ++ e.others; is_main = false }) e.body
 
-pub record WellTyped (p : Program) : Type 0 where
+pub record IsWellTyped (p : Program) : Type 0 where
   -- the owners and member classes of the sets are there
   pub sets : is_sound p.layout ≡ true
   -- each set has a discipline
-  pub disciplines : AllZip (GoodDiscipline p) p.layout.sets p.disciplines
-  pub counts : Every (GoodCount p) p.counts
-  pub statistics : Every (λ s. GoodSubject p s.subject) p.statistics
-  pub routines : Every (GoodRoutine p) p.routines
-  pub events : Every (GoodEvent p) p.events
+  pub disciplines : AllZip (IsTypedDiscipline p) p.layout.sets p.disciplines
+  pub counts : Every (IsTypedCount p) p.counts
+  pub statistics : Every (λ s. IsTypedSubject p s.subject) p.statistics
+  pub routines : Every (IsTypedRoutine p) p.routines
+  pub events : Every (IsTypedEvent p) p.events
   -- each notice class has its event routine
   pub served : (class : ℕ) → kind_of_class p class ≡ Some Notice → Contains (map (λ e. e.class) p.events) class
-  pub main : GoodBlock (record { program = p; locals = p.locals; is_main = true }) p.main
+  pub main : IsTypedBlock (record { program = p; locals = p.locals; is_main = true }) p.main

@@ -16,7 +16,7 @@ impl Model for Checked {
     ghost use Rattle.ss_program.specs.declared.sections.Program.{Program as ProgramSeen};
     ghost use Rattle.ss_program.specs.contracts.sections.Program as row;
     ghost use Rattle.ss_program.specs.View.{view_program};
-    ghost use Rattle.ss_program.specs.WellTyped.{WellTyped};
+    ghost use Rattle.ss_program.specs.WellTyped.{IsWellTyped};
 
     ghost Value = { ProgramSeen };
 
@@ -24,5 +24,5 @@ impl Model for Checked {
 
     ghost view = { λ c. c.program };
 
-    ghost invariant = { λ c. WellTyped (view_program c.program) };
+    ghost invariant = { λ c. IsWellTyped (view_program c.program) };
 }

@@ -10,7 +10,7 @@ use Rattle.ss_records.specs.declared.commands.CommandAnswer.{CommandAnswer}
 use Rattle.ss_records.specs.declared.commands.CommandAnswer.TheVariants.{Number}
 use Rattle.ss_world.specs.State.{State, members_of, and_then, created, created_all, destroyed, assigned, timed}
 use Rattle.ss_world.specs.Sets.{filed_first, filed_last, filed_before, filed_after, removed}
-use Rattle.ss_records.specs.Commands.{LeavesOthers, done_with_state, state_in, after_command, after_commands, IsOnOthers}
+use Rattle.ss_records.specs.Commands.{IsLeavingOthers, done_with_state, state_in, after_command, after_commands, IsOnOthers}
 use Rattle.ss_records.proofs.Relisted.{first_leaves, last_leaves, before_leaves, after_leaves, removed_leaves, created_keeps, created_all_keeps, destroyed_keeps, assigned_keeps, timed_keeps}
 
 made : (s : State) (n o : ℕ) (r : Result (ℤ × State) FaultKind) → ((i : ℤ) (t : State) → r ≡ Ok (i, t) → t.lists ≡ s.lists) → members_of (state_in s (and_then {A = ℤ × State} {B = CommandAnswer × State} r (λ p. Ok (Number p.0, p.1)))).lists n o ≡ members_of s.lists n o
@@ -25,7 +25,7 @@ left : (s : State) (n o : ℕ) (r : Result State FaultKind) → ((t : State) →
 left s n o (Ok t) h = h t refl
 left s n o (Err e) h = refl
 
-on_other : (call : State → ℕ → ℤ → ℤ → Result State FaultKind) → LeavesOthers call → (s : State) (set : ℕ) (p x : ℤ) (n o : ℕ) → (set ≡ n → ⊥) → members_of (state_in s (done_with_state (call s set p x))).lists n o ≡ members_of s.lists n o
+on_other : (call : State → ℕ → ℤ → ℤ → Result State FaultKind) → IsLeavingOthers call → (s : State) (set : ℕ) (p x : ℤ) (n o : ℕ) → (set ≡ n → ⊥) → members_of (state_in s (done_with_state (call s set p x))).lists n o ≡ members_of s.lists n o
 on_other call leaves s set p x n o not = left s n o (call s set p x) (λ t h. leaves s t set p x h n o (λ q. not q.0))
 
 one_leaves : (command : Command) (s : State) (n o : ℕ) → IsOnOthers n command → members_of (after_command command s).lists n o ≡ members_of s.lists n o

@@ -8,7 +8,7 @@ use Rattle.ss_base.specs.declared.layout.ClassKind.{ClassKind}
 use Rattle.ss_base.specs.declared.layout.ClassKind.TheVariants.{Permanent, Temporary, Notice}
 use Rattle.ss_world.specs.State.{State, Record, members_of, with_members, and_then, number_in, entity_in, notice, kind_of, is_filed, contains, with_entity, with_entity_of_kind, record_with_value, with_time, created, created_all, made_many, destroyed, let_go, assigned, timed, is_made, with_made, with_created, in_a_set, owns_members, LAST_NUMBER, MOST_ENTITIES}
 use Rattle.ss_world.specs.Sets.{owner, joiner, with_list_of, put_in, put_beside, taken_out, put_before, put_after, less, filed_first, filed_last, filed_before, filed_after, removed}
-use Rattle.ss_records.specs.Commands.{LeavesOthers, KeepsLists}
+use Rattle.ss_records.specs.Commands.{IsLeavingOthers, IsKeepingLists}
 use Rattle.ss_records.proofs.Same.{differs, by_same}
 use Rattle.ss_records_entities.proofs.Listed.{members_with, members_other}
 
@@ -69,19 +69,19 @@ removed_relists st t s o x h =
     let c = then_ok (contains (members_of st.lists s b.0) a.0) NotFiled (Ok (with_list_of st s b.0 l)) t b.2 in
     (b.0, l, b.1, cc)
 
-pub first_leaves : LeavesOthers filed_first
+pub first_leaves : IsLeavingOthers filed_first
 first_leaves st t s o x h = relisted_leaves st t s o (put_in_relists (λ y l. y ∷ l) st t s o x h)
 
-pub last_leaves : LeavesOthers filed_last
+pub last_leaves : IsLeavingOthers filed_last
 last_leaves st t s o x h = relisted_leaves st t s o (put_in_relists (λ y l. l ++ y ∷ []) st t s o x h)
 
-pub before_leaves : (y : ℤ) → LeavesOthers (λ st s o x. filed_before st s o x y)
+pub before_leaves : (y : ℤ) → IsLeavingOthers (λ st s o x. filed_before st s o x y)
 before_leaves y st t s o x h = relisted_leaves st t s o (put_beside_relists put_before st t s o x y h)
 
-pub after_leaves : (y : ℤ) → LeavesOthers (λ st s o x. filed_after st s o x y)
+pub after_leaves : (y : ℤ) → IsLeavingOthers (λ st s o x. filed_after st s o x y)
 after_leaves y st t s o x h = relisted_leaves st t s o (put_beside_relists put_after st t s o x y h)
 
-pub removed_leaves : LeavesOthers removed
+pub removed_leaves : IsLeavingOthers removed
 removed_leaves st t s o x h = relisted_leaves st t s o (removed_relists st t s o x h)
 
 -- ## Calls that touch no set
@@ -95,10 +95,10 @@ pub made_keeps : (c : ℕ) (n : ℤ) (st t : State) → made_many st c n ≡ Ok 
 made_keeps c (pos n) st t h = ap (λ (u : State). u.lists) (sym (ok_is (then_ok (nat_le n MOST_ENTITIES) BadCount (Ok (with_made st c n)) t h)))
 made_keeps c (negsuc n) st t h = absurd (err_is_not_ok h)
 
-pub created_all_keeps : (c : ℕ) (n : ℤ) → KeepsLists (λ st. created_all st c n)
+pub created_all_keeps : (c : ℕ) (n : ℤ) → IsKeepingLists (λ st. created_all st c n)
 created_all_keeps c n st t h = made_keeps c n st t (else_ok (is_made st c) _ (made_many st c n) t h)
 
-pub destroyed_keeps : (c : ℕ) (x : ℤ) → KeepsLists (λ st. destroyed st c x)
+pub destroyed_keeps : (c : ℕ) (x : ℤ) → IsKeepingLists (λ st. destroyed st c x)
 destroyed_keeps c x st t h =
     let a = both_ok (entity_in st c x) (λ r. let_go st c (number_in x)) t h in
     let u : State = record st { records = slice_set st.records (number_in x - 1) None } in
@@ -111,13 +111,13 @@ with_entity_keeps Permanent st c n r = refl
 with_entity_keeps Temporary st c n r = refl
 with_entity_keeps Notice st c n r = refl
 
-pub assigned_keeps : (c f : ℕ) (x : ℤ) (v : Value) → KeepsLists (λ st. assigned st c f x v)
+pub assigned_keeps : (c f : ℕ) (x : ℤ) (v : Value) → IsKeepingLists (λ st. assigned st c f x v)
 assigned_keeps c f x v st t h =
     let a = both_ok (entity_in st c x) (λ r. Ok (with_entity st c (number_in x) (record_with_value r f v))) t h in
     let e : with_entity st c (number_in x) (record_with_value a.0 f v) ≡ t = cc in
     ap (λ (u : State). u.lists) (sym e) ∙ with_entity_keeps (kind_of st.layout c) st c (number_in x) (record_with_value a.0 f v)
 
-pub timed_keeps : (x i : ℤ) → KeepsLists (λ st. timed st x i)
+pub timed_keeps : (x i : ℤ) → IsKeepingLists (λ st. timed st x i)
 timed_keeps x i st t h =
     let a = both_ok (notice st x) (λ r. Ok (record st { records = slice_set st.records (number_in x - 1) (Some (with_time r i)) })) t h in
     ap (λ (w : State). w.lists) (sym (ok_is a.2))

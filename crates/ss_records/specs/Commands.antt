@@ -15,28 +15,28 @@ use Rattle.ss_world.specs.Sets.{joiner, owner, filed_first, filed_last, filed_be
 -- ## What a call leaves
 
 -- a call on the set s of the owner o leaves the members of every set but this one
-abbrev pub LeavesOthers : (State → ℕ → ℤ → ℤ → Result State FaultKind) → Type 0
-LeavesOthers call =
+abbrev pub IsLeavingOthers : (State → ℕ → ℤ → ℤ → Result State FaultKind) → Type 0
+IsLeavingOthers call =
     (st t : State) (s : ℕ) (o x : ℤ) → call st s o x ≡ Ok t → (r m : ℕ) → ((s ≡ r) × (owner st s o ≡ Ok m) → ⊥) → members_of t.lists r m ≡ members_of st.lists r m
 
 -- a call on the set s of the owner o that goes well: x and o mean the entities n and m, and the members of the set of m are changed by `put`, with n
-abbrev pub ChangesMembers : (ℕ → List ℕ → List ℕ) → (State → ℕ → ℤ → ℤ → Result State FaultKind) → Type 0
-ChangesMembers put call =
+abbrev pub IsChangingMembers : (ℕ → List ℕ → List ℕ) → (State → ℕ → ℤ → ℤ → Result State FaultKind) → Type 0
+IsChangingMembers put call =
     (st t : State) (s : ℕ) (o x : ℤ) → call st s o x ≡ Ok t → (n : ℕ) × (m : ℕ) × (joiner st s x ≡ Ok n) × (owner st s o ≡ Ok m) × (members_of t.lists s m ≡ put n (members_of st.lists s m))
 
 -- what changes where x is put beside y, which is the entity k
-abbrev pub ChangesBeside : (ℕ → ℕ → List ℕ → List ℕ) → (State → ℕ → ℤ → ℤ → ℤ → Result State FaultKind) → Type 0
-ChangesBeside put call =
+abbrev pub IsChangingBeside : (ℕ → ℕ → List ℕ → List ℕ) → (State → ℕ → ℤ → ℤ → ℤ → Result State FaultKind) → Type 0
+IsChangingBeside put call =
     (y : ℤ) (st t : State) (s : ℕ) (o x : ℤ) → call st s o x y ≡ Ok t → (k : ℕ) × (n : ℕ) × (m : ℕ) × (joiner st s y ≡ Ok k) × (joiner st s x ≡ Ok n) × (owner st s o ≡ Ok m) × (members_of t.lists s m ≡ put k n (members_of st.lists s m))
 
 -- a call on a set leaves everything but the members of sets: the layout, each record, and the permanent entities
-abbrev pub KeepsRecords : (State → ℕ → ℤ → ℤ → Result State FaultKind) → Type 0
-KeepsRecords call =
+abbrev pub IsKeepingRecords : (State → ℕ → ℤ → ℤ → Result State FaultKind) → Type 0
+IsKeepingRecords call =
     (st t : State) (s : ℕ) (o x : ℤ) → call st s o x ≡ Ok t → t ≡ record st { lists = t.lists }
 
 -- a call leaves the members of every set
-abbrev pub KeepsLists : (State → Result State FaultKind) → Type 0
-KeepsLists call = (st t : State) → call st ≡ Ok t → t.lists ≡ st.lists
+abbrev pub IsKeepingLists : (State → Result State FaultKind) → Type 0
+IsKeepingLists call = (st t : State) → call st ≡ Ok t → t.lists ≡ st.lists
 
 -- ## Lists of commands
 
@@ -52,17 +52,17 @@ abbrev pub HasField : Layout → ℕ → ℕ → Mode → Type 0
 HasField l c f mode = (c < length l.classes) × (slice_get (modes_of l c) f ≡ Some mode)
 
 -- what a command fits: the class, the field and the set that it names are there, and of its kind
-abbrev pub FitsCommand : Layout → Command → Type 0
-FitsCommand l (Create class) = IsMadeSingly l class
-FitsCommand l (CreateAll class n) = IsMadeTogether l class
-FitsCommand l (Destroy class r) = IsMadeSingly l class
-FitsCommand l (SetValue class field r value) = HasField l class field (mode_of value)
-FitsCommand l (SetTime r time) = Unit {0}
-FitsCommand l (FileFirst set o member) = set < length l.sets
-FitsCommand l (FileLast set o member) = set < length l.sets
-FitsCommand l (FileBefore set o member beside) = set < length l.sets
-FitsCommand l (FileAfter set o member beside) = set < length l.sets
-FitsCommand l (Remove set o member) = set < length l.sets
+abbrev pub IsFittingCommand : Layout → Command → Type 0
+IsFittingCommand l (Create class) = IsMadeSingly l class
+IsFittingCommand l (CreateAll class n) = IsMadeTogether l class
+IsFittingCommand l (Destroy class r) = IsMadeSingly l class
+IsFittingCommand l (SetValue class field r value) = HasField l class field (mode_of value)
+IsFittingCommand l (SetTime r time) = Unit {0}
+IsFittingCommand l (FileFirst set o member) = set < length l.sets
+IsFittingCommand l (FileLast set o member) = set < length l.sets
+IsFittingCommand l (FileBefore set o member beside) = set < length l.sets
+IsFittingCommand l (FileAfter set o member beside) = set < length l.sets
+IsFittingCommand l (Remove set o member) = set < length l.sets
 
 -- what a call answers that gives no value
 abbrev pub answer_without_value : Result (Unit {0}) FaultKind → CommandAnswer

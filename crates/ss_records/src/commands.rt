@@ -4,7 +4,7 @@ ghost use Rattle.ss_base.specs.declared.value.Value.{Value};
 ghost use Rattle.ss_records.specs.declared.commands.Command.{Command};
 ghost use Rattle.ss_world.specs.State.{State, members_of, created, created_all, destroyed, assigned, timed};
 ghost use Rattle.ss_world.specs.Sets.{filed_first, filed_last, filed_before, filed_after, removed, put_before, put_after, less};
-ghost use Rattle.ss_records.specs.Commands.{ChangesMembers, ChangesBeside, LeavesOthers, KeepsRecords, KeepsLists, IsMadeSingly, IsMadeTogether, HasField, IsOnOthers, after_commands, answer_without_value, FitsCommand, command_answer, after_command, command_answers, IsAfterSome};
+ghost use Rattle.ss_records.specs.Commands.{IsChangingMembers, IsChangingBeside, IsLeavingOthers, IsKeepingRecords, IsKeepingLists, IsMadeSingly, IsMadeTogether, HasField, IsOnOthers, after_commands, answer_without_value, IsFittingCommand, command_answer, after_command, command_answers, IsAfterSome};
 
 use crate::heap::Heap;
 use ss_base::{ClassKind, FaultKind, Layout, Mode, Refused, Value};
@@ -14,39 +14,39 @@ use std::alloc::{AllocError, Global};
 /// A call on the set of an owner leaves the members of every other set: those of other names, and those of this name
 /// of other owners.
 pub fn filing_leaves_other_sets()
-    ensures first { LeavesOthers filed_first }
-    ensures last { LeavesOthers filed_last }
-    ensures before { (y : ℤ) → LeavesOthers (λ st s o x. filed_before st s o x y) }
-    ensures after { (y : ℤ) → LeavesOthers (λ st s o x. filed_after st s o x y) }
-    ensures remove { LeavesOthers removed }
+    ensures first { IsLeavingOthers filed_first }
+    ensures last { IsLeavingOthers filed_last }
+    ensures before { (y : ℤ) → IsLeavingOthers (λ st s o x. filed_before st s o x y) }
+    ensures after { (y : ℤ) → IsLeavingOthers (λ st s o x. filed_after st s o x y) }
+    ensures remove { IsLeavingOthers removed }
 {}
 
 /// A call on the set of an owner that goes well changes the members of this set as it says: by the member first, last,
 /// directly before or after another, or without it.
 pub fn filing_changes_its_set()
-    ensures first { ChangesMembers (λ x l. x ∷ l) filed_first }
-    ensures last { ChangesMembers (λ x l. l ++ x ∷ []) filed_last }
-    ensures before { ChangesBeside put_before filed_before }
-    ensures after { ChangesBeside put_after filed_after }
-    ensures remove { ChangesMembers less removed }
+    ensures first { IsChangingMembers (λ x l. x ∷ l) filed_first }
+    ensures last { IsChangingMembers (λ x l. l ++ x ∷ []) filed_last }
+    ensures before { IsChangingBeside put_before filed_before }
+    ensures after { IsChangingBeside put_after filed_after }
+    ensures remove { IsChangingMembers less removed }
 {}
 
 /// A call on the set of an owner leaves every record as it is: its class, its values, its time, and whether it is living.
 pub fn filing_leaves_the_records()
-    ensures first { KeepsRecords filed_first }
-    ensures last { KeepsRecords filed_last }
-    ensures before { (y : ℤ) → KeepsRecords (λ st s o x. filed_before st s o x y) }
-    ensures after { (y : ℤ) → KeepsRecords (λ st s o x. filed_after st s o x y) }
-    ensures remove { KeepsRecords removed }
+    ensures first { IsKeepingRecords filed_first }
+    ensures last { IsKeepingRecords filed_last }
+    ensures before { (y : ℤ) → IsKeepingRecords (λ st s o x. filed_before st s o x y) }
+    ensures after { (y : ℤ) → IsKeepingRecords (λ st s o x. filed_after st s o x y) }
+    ensures remove { IsKeepingRecords removed }
 {}
 
 /// What creates, destroys or assigns leaves the members of every set.
 pub fn other_calls_leave_the_sets()
     ensures create { (c : ℕ) (n : ℤ) (st t : State) → created st c ≡ Ok (n, t) → t.lists ≡ st.lists }
-    ensures create_all { (c : ℕ) (n : ℤ) → KeepsLists (λ st. created_all st c n) }
-    ensures destroy { (c : ℕ) (x : ℤ) → KeepsLists (λ st. destroyed st c x) }
-    ensures set_value { (c f : ℕ) (x : ℤ) (v : Value) → KeepsLists (λ st. assigned st c f x v) }
-    ensures set_time { (x i : ℤ) → KeepsLists (λ st. timed st x i) }
+    ensures create_all { (c : ℕ) (n : ℤ) → IsKeepingLists (λ st. created_all st c n) }
+    ensures destroy { (c : ℕ) (x : ℤ) → IsKeepingLists (λ st. destroyed st c x) }
+    ensures set_value { (c f : ℕ) (x : ℤ) (v : Value) → IsKeepingLists (λ st. assigned st c f x v) }
+    ensures set_time { (x i : ℤ) → IsKeepingLists (λ st. timed st x i) }
 {}
 
 /// Commands none of which is on a set of a name, refused or not, leave the members of the sets of that name, whoever
@@ -128,7 +128,7 @@ pub fn run(
     alloc: Global,
     commands: &[Command],
 ) -> Result<Vec<CommandAnswer>, AllocError>
-    requires { All (FitsCommand heap.old.state.layout) commands.now }
+    requires { All (IsFittingCommand heap.old.state.layout) commands.now }
     ensures answers { IfOk result (λ answers. answers.items ≡ command_answers commands.now heap.old.state) }
     ensures state { OnOk result (heap.new.state ≡ after_commands commands.now heap.old.state) }
     ensures refused { OnErr result (IsAfterSome commands.now heap.old.state heap.new.state) }
@@ -143,13 +143,13 @@ pub fn run(
 
 /// Whether the class, the field and the set that each of these calls names are there, and the class is of its kind.
 pub fn fit(heap: &Heap, commands: &[Command]) -> bool
-    ensures { IsTrue result ↔ All (FitsCommand heap.now.state.layout) commands.now }
+    ensures { IsTrue result ↔ All (IsFittingCommand heap.now.state.layout) commands.now }
 {
     commands.iter().all(|command| fits(heap, command))
 }
 
 fn fits(heap: &Heap, command: &Command) -> bool
-    ensures { IsTrue result ↔ FitsCommand heap.now.state.layout command.now }
+    ensures { IsTrue result ↔ IsFittingCommand heap.now.state.layout command.now }
 {
     match command {
         Command::Create { class } | Command::Destroy { class, .. } => {
@@ -173,7 +173,7 @@ fn fits(heap: &Heap, command: &Command) -> bool
 
 // Makes one call.
 fn make(heap: &mut Heap, command: &Command) -> Result<CommandAnswer, AllocError>
-    requires { FitsCommand heap.old.state.layout command.now }
+    requires { IsFittingCommand heap.old.state.layout command.now }
     ensures answer { IfOk result (λ answer. answer ≡ command_answer command.now heap.old.state) }
     ensures ok { OnOk result (heap.new.state ≡ after_command command.now heap.old.state) }
     ensures err { OnErr result (heap.new.state ≡ heap.old.state) }

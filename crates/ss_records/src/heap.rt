@@ -3,9 +3,9 @@ ghost use Rattle.ss_base.specs.Arithmetic.{plus_of, minus_of};
 ghost use Rattle.ss_base.specs.Layout.{mode_of};
 ghost use Rattle.ss_base.specs.declared.fault.FaultKind.{FaultKind as FaultSeen};
 ghost use Rattle.ss_base.specs.declared.layout.Owner.TheVariants.{System, Class};
-ghost use Rattle.ss_world.specs.State.{State, first_state, numbered_record, known_in, known_notice_in, kind_of, modes_of, value_in, time_in, created, created_all, destroyed, assigned, timed, no_value, RefusedFor, living_numbers, living_records};
+ghost use Rattle.ss_world.specs.State.{State, first_state, numbered_record, known_in, known_notice_in, kind_of, modes_of, value_in, time_in, created, created_all, destroyed, assigned, timed, no_value, IsRefusalOf, living_numbers, living_records};
 ghost use Rattle.ss_world.specs.Disciplines.{first_removed, last_removed, member_test, owned};
-ghost use Rattle.ss_world.specs.Sets.{member_class, joiner, owner, owner_kind, first_in, last_in, count_in, next_in, previous_in, owner_of_member, filed_first, filed_last, filed_before, filed_after, removed, Apart};
+ghost use Rattle.ss_world.specs.Sets.{member_class, joiner, owner, owner_kind, first_in, last_in, count_in, next_in, previous_in, owner_of_member, filed_first, filed_last, filed_before, filed_after, removed, AreMembersApart};
 ghost use Rattle.ss_records_entities.specs.Attributes.{IsAssigned, IsChanged, changed_number};
 ghost use Rattle.ss_records_entities.specs.Classed.{HasClass};
 ghost use Rattle.ss_records_words.specs.Kept.{IsPermanent};
@@ -252,7 +252,7 @@ impl Heap {
     pub fn create(&mut self, class: usize) -> Result<i64, Refused>
         requires class { class < length self.old.state.layout.classes }
         requires kind { IsPermanent (kind_of self.old.state.layout class) → ⊥ }
-        ensures done { MatchResult result (λ n. created self.old.state class ≡ Ok (n, self.new.state)) (λ e. (self.new.state ≡ self.old.state) × RefusedFor (created self.old.state class) e) }
+        ensures done { MatchResult result (λ n. created self.old.state class ≡ Ok (n, self.new.state)) (λ e. (self.new.state ≡ self.old.state) × IsRefusalOf (created self.old.state class) e) }
         ensures touches { self.new.total ≡ self.old.total + self.new.touches }
         ensures links { MatchResult result (λ _. self.new.touches ≡ 3 * set_places self.old.state.layout (Class class)) (λ _. self.new.touches ≡ 0) }
     {
@@ -266,7 +266,7 @@ impl Heap {
     pub fn create_all(&mut self, class: usize, n: i64) -> Result<(), Refused>
         requires class { class < length self.old.state.layout.classes }
         requires kind { IsPermanent (kind_of self.old.state.layout class) }
-        ensures done { MatchResult result (λ _. created_all self.old.state class n ≡ Ok self.new.state) (λ e. (self.new.state ≡ self.old.state) × RefusedFor (created_all self.old.state class n) e) }
+        ensures done { MatchResult result (λ _. created_all self.old.state class n ≡ Ok self.new.state) (λ e. (self.new.state ≡ self.old.state) × IsRefusalOf (created_all self.old.state class n) e) }
         ensures touches { self.new.total ≡ self.old.total + self.new.touches }
         ensures links { MatchResult result (λ _. self.new.touches ≡ nat_abs n * (3 * set_places self.old.state.layout (Class class))) (λ _. self.new.touches ≡ 0) }
     {
@@ -561,7 +561,7 @@ impl Heap {
     /// A law, for contracts: members are entities of their class, and none is twice in a set or in two sets of a
     /// name. It does nothing.
     pub fn sets_are_apart(&self)
-        ensures { Apart self.now.state }
+        ensures { AreMembersApart self.now.state }
     {
         self.records.law();
     }

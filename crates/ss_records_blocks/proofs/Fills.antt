@@ -2,11 +2,11 @@
 use Rattle.std.proofs.Common.{◌≡◌, ℕ, zero, suc, ◌+◌, ◌-◌, ◌*◌, ◌<◌, ◌≤◌, length, refl, sym, ap, subst, ◌∙◌, arith}
 use denote.RawPtr.{Ptr}
 use Rattle.ss_records_blocks.specs.Cells.{Word, blank, number, counter, link, Cells, MayBeNumber, MayBeLink, MayBeCounter, words_at, word_of, word_at, with_word, put_word}
-use Rattle.ss_records_blocks.specs.Writes.{Filled, head_word, links_to, owned_word, owned_from}
+use Rattle.ss_records_blocks.specs.Writes.{IsFilled, head_word, links_to, owned_word, owned_from}
 use Rattle.ss_records_blocks.proofs.Same.{by_same}
 use Rattle.ss_records_blocks.proofs.Puts.{word_other, word_here, words_written, written_put, written_twice, length_put}
 
-pub filled_none : (cs : Cells) (p : Ptr) (from : ℕ) (f : ℕ → Word) → Filled cs cs p from from f
+pub filled_none : (cs : Cells) (p : Ptr) (from : ℕ) (f : ℕ → Word) → IsFilled cs cs p from from f
 filled_none cs p from f = record {
   written = record { others = λ q n. refl; size = refl; count = refl };
   inside = λ k a b. absurd (omega (arith, a, b));
@@ -18,7 +18,7 @@ word_put : (cs : Cells) (p : Ptr) (k : ℕ) (w : Word) (j : ℕ) → word_at (pu
 word_put cs p k w j = ap (λ us. word_of us j) (words_written cs p k w)
 
 -- one more word
-pub filled_put : (cs ds : Cells) (p : Ptr) (from k next : ℕ) (f : ℕ → Word) (w : Word) → Filled cs ds p from k f → from ≤ k → k < length (words_at cs p) → w ≡ f k → next ≡ k + 1 → Filled cs (put_word ds p k w) p from next f
+pub filled_put : (cs ds : Cells) (p : Ptr) (from k next : ℕ) (f : ℕ → Word) (w : Word) → IsFilled cs ds p from k f → from ≤ k → k < length (words_at cs p) → w ≡ f k → next ≡ k + 1 → IsFilled cs (put_word ds p k w) p from next f
 filled_put cs ds p from k next f w h low room e n = record {
   written = written_twice cs ds (put_word ds p k w) p h.written (written_put ds p k w);
   inside = λ j a b. by_same k j
@@ -41,8 +41,8 @@ pub owned_count : (end : Ptr) (i : ℕ) → owned_word end (3 * i + 2) ≡ count
 owned_count end zero = refl
 owned_count end (suc i) = let q : 3 * suc i + 2 ≡ suc (suc (suc (3 * i + 2))) = omega arith in rw q (owned_count end i)
 
-pub filled_owned : (cs ds : Cells) (p end : Ptr) (from i : ℕ) → Filled cs ds p from (from + 3 * i) (owned_from end from) → from + 3 * i + 2 < length (words_at cs p)
-    → Filled cs (put_word (put_word (put_word ds p (from + 3 * i) (link end)) p (from + 3 * i + 1) (link end)) p (from + 3 * i + 2) (counter 0)) p from (from + 3 * (i + 1)) (owned_from end from)
+pub filled_owned : (cs ds : Cells) (p end : Ptr) (from i : ℕ) → IsFilled cs ds p from (from + 3 * i) (owned_from end from) → from + 3 * i + 2 < length (words_at cs p)
+    → IsFilled cs (put_word (put_word (put_word ds p (from + 3 * i) (link end)) p (from + 3 * i + 1) (link end)) p (from + 3 * i + 2) (counter 0)) p from (from + 3 * (i + 1)) (owned_from end from)
 filled_owned cs ds p end from i h room =
     let at : (j : ℕ) → from + 3 * i + j - from ≡ 3 * i + j = λ j. omega arith in
     let at0 : from + 3 * i - from ≡ 3 * i = omega arith in
@@ -51,15 +51,15 @@ filled_owned cs ds p end from i h room =
     filled_put cs (put_word (put_word ds p (from + 3 * i) (link end)) p (from + 3 * i + 1) (link end)) p from (from + 3 * i + 2) (from + 3 * (i + 1)) (owned_from end from) (counter 0) b (omega arith) room (sym (ap (owned_word end) (at 2) ∙ owned_count end i)) (omega arith)
 
 -- the three words of a set that is joined
-pub filled_links : (cs ds : Cells) (p q : Ptr) (from i : ℕ) → Filled cs ds p from (from + 3 * i) (links_to q) → from + 3 * i + 2 < length (words_at cs p)
-    → Filled cs (put_word (put_word (put_word ds p (from + 3 * i) (link q)) p (from + 3 * i + 1) (link q)) p (from + 3 * i + 2) (link q)) p from (from + 3 * (i + 1)) (links_to q)
+pub filled_links : (cs ds : Cells) (p q : Ptr) (from i : ℕ) → IsFilled cs ds p from (from + 3 * i) (links_to q) → from + 3 * i + 2 < length (words_at cs p)
+    → IsFilled cs (put_word (put_word (put_word ds p (from + 3 * i) (link q)) p (from + 3 * i + 1) (link q)) p (from + 3 * i + 2) (link q)) p from (from + 3 * (i + 1)) (links_to q)
 filled_links cs ds p q from i h room =
     let a = filled_put cs ds p from (from + 3 * i) (from + 3 * i + 1) (links_to q) (link q) h (omega arith) (omega (arith, room)) refl refl in
     let b = filled_put cs (put_word ds p (from + 3 * i) (link q)) p from (from + 3 * i + 1) (from + 3 * i + 2) (links_to q) (link q) a (omega arith) (omega (arith, room)) refl (omega arith) in
     filled_put cs (put_word (put_word ds p (from + 3 * i) (link q)) p (from + 3 * i + 1) (link q)) p from (from + 3 * i + 2) (from + 3 * (i + 1)) (links_to q) (link q) b (omega arith) room refl (omega arith)
 
 -- the words that are still blank may be written
-module _ (cs ds : Cells) (p : Ptr) (from count i : ℕ) (f : ℕ → Word) (h : Filled cs ds p from (from + 3 * i) f) (room : from + 3 * count ≤ length (words_at cs p)) (blanks : (k : ℕ) → from ≤ k → k < from + 3 * count → word_at cs p k ≡ blank) (inside : i < count) where
+module _ (cs ds : Cells) (p : Ptr) (from count i : ℕ) (f : ℕ → Word) (h : IsFilled cs ds p from (from + 3 * i) f) (room : from + 3 * count ≤ length (words_at cs p)) (blanks : (k : ℕ) → from ≤ k → k < from + 3 * count → word_at cs p k ≡ blank) (inside : i < count) where
   here_room : (w : Word) (k j : ℕ) → j < from + 3 * count → j < length (words_at (put_word ds p k w) p)
   here_room w k j b = omega (arith, b, room, length_put ds p k w p, h.written.size)
 
@@ -83,13 +83,13 @@ module _ (cs ds : Cells) (p : Ptr) (from count i : ℕ) (f : ℕ → Word) (h : 
         ∙ word_put ds p (from + 3 * i) w (from + 3 * i + 2) ∙ word_other (words_at ds p) (from + 3 * i) w (from + 3 * i + 2) (λ e. absurd (omega (arith, e))) ∙ h.above (from + 3 * i + 2) (omega arith) ∙ blanks (from + 3 * i + 2) (omega arith) (omega (arith, inside)))) tt,
   )
 
-pub blank_above : {cs ds : Cells} {p : Ptr} {from to : ℕ} {f : ℕ → Word} → Filled cs ds p from to f → ((k : ℕ) → from ≤ k → word_at cs p k ≡ blank) → from ≤ to → (k : ℕ) → to ≤ k → word_at ds p k ≡ blank
+pub blank_above : {cs ds : Cells} {p : Ptr} {from to : ℕ} {f : ℕ → Word} → IsFilled cs ds p from to f → ((k : ℕ) → from ≤ k → word_at cs p k ≡ blank) → from ≤ to → (k : ℕ) → to ≤ k → word_at ds p k ≡ blank
 blank_above h b low k a = h.above k a ∙ b k (omega (arith, a, low))
 
 pub head_room1 : (cs : Cells) (p : Ptr) (w : Word) → 2 ≤ length (words_at cs p) → ((k : ℕ) → word_at cs p k ≡ blank) → (1 < length (words_at (put_word cs p 0 w) p)) × MayBeNumber (word_at (put_word cs p 0 w) p 1)
 head_room1 cs p w room b = (omega (arith, room, length_put cs p 0 w p), subst MayBeNumber (sym (word_put cs p 0 w 1 ∙ word_other (words_at cs p) 0 w 1 (λ e. absurd (omega (arith, e))) ∙ b 1)) tt)
 
-pub head_filled : (cs : Cells) (p : Ptr) (c n : ℕ) → 2 ≤ length (words_at cs p) → Filled cs (put_word (put_word cs p 0 (number c)) p 1 (number n)) p 0 2 (head_word c n)
+pub head_filled : (cs : Cells) (p : Ptr) (c n : ℕ) → 2 ≤ length (words_at cs p) → IsFilled cs (put_word (put_word cs p 0 (number c)) p 1 (number n)) p 0 2 (head_word c n)
 head_filled cs p c n room =
     filled_put cs (put_word cs p 0 (number c)) p 0 1 2 (head_word c n) (number n) (filled_put cs cs p 0 0 1 (head_word c n) (number c) (filled_none cs p 0 (head_word c n)) (omega arith) (omega (arith, room)) refl (omega arith)) (omega arith) (omega (arith, room)) refl (omega arith)
 
@@ -101,7 +101,7 @@ module _ (cs : Cells) (p : Ptr) (from to : ℕ) (w : Word) where
   pub first_blank : ((k : ℕ) → from ≤ k → k < to → word_at cs p k ≡ blank) → (k : ℕ) → from + 1 ≤ k → k < to → word_at (put_word cs p from w) p k ≡ blank
   first_blank b k x y = word_put cs p from w k ∙ word_other (words_at cs p) from w k (λ e. absurd (omega (arith, e, x))) ∙ b k (omega (arith, x)) y
 
-  pub filled_first : (ds : Cells) (f : ℕ → Word) → w ≡ f from → from < to → to ≤ length (words_at cs p) → Filled (put_word cs p from w) ds p (from + 1) to f → Filled cs ds p from to f
+  pub filled_first : (ds : Cells) (f : ℕ → Word) → w ≡ f from → from < to → to ≤ length (words_at cs p) → IsFilled (put_word cs p from w) ds p (from + 1) to f → IsFilled cs ds p from to f
   filled_first ds f e low room h =
       let one = filled_put cs cs p from from (from + 1) f w (filled_none cs p from f) (omega arith) (omega (arith, low, room)) e refl in
       record {

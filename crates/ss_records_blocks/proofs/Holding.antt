@@ -9,7 +9,7 @@ use Rattle.std.specs.Map.{lookup, keys_of, set_value, remove_entry}
 use Rattle.std.specs.List.{AllByRecursion, filter}
 use Rattle.std.specs.List.Sorted.{IsStrictlySortedBy}
 use Rattle.std.proofs.lemmas.List.{length-append}
-use Rattle.ss_records_blocks.specs.Pages.{Page, Pages, Spots, Rises, under, page_of, with_page, pages_held}
+use Rattle.ss_records_blocks.specs.Pages.{Page, Pages, Spots, AreRising, under, page_of, with_page, pages_held}
 use Rattle.ss_records_blocks.proofs.Same.{by_same}
 use Rattle.ss_records_blocks.proofs.Paging.{is_at_same, is_at_other}
 use Rattle.ss_records_blocks.proofs.Rising.{less_is, held_at, one_number, written, updates_without, absent}
@@ -26,17 +26,17 @@ above : (x : ℕ) (ss : Spots) → AllByRecursion (λ y. nat_cmp x y ≡ Less) (
 above x [] a = a
 above x (s ∷ ss) a = elim s.1 as (λ o. AllByRecursion (λ y. nat_cmp x y ≡ Less) (keys_of (with_page s.0 o (pages_held ss)))) [ None ↦ above x ss a.1 | Some p ↦ (a.0, above x ss a.1) ]
 
-pub rises_held : (ss : Spots) → Rises ss → Rises (pages_held ss)
+pub rises_held : (ss : Spots) → AreRising ss → AreRising (pages_held ss)
 unfolding IsStrictlySortedBy
 rises_held [] r = r
-rises_held (s ∷ ss) r = elim s.1 as (λ o. Rises (with_page s.0 o (pages_held ss))) [ None ↦ rises_held ss r.1 | Some p ↦ (above s.0 ss r.0, rises_held ss r.1) ]
+rises_held (s ∷ ss) r = elim s.1 as (λ o. AreRising (with_page s.0 o (pages_held ss))) [ None ↦ rises_held ss r.1 | Some p ↦ (above s.0 ss r.0, rises_held ss r.1) ]
 
 -- no later page has the first number
 none_later : (x q : ℕ) (ps : Pages) → AllByRecursion (λ y. nat_cmp x y ≡ Less) (keys_of ps) → q ≡ x → page_of ps q ≡ None
 none_later x q [] a e = refl
 none_later x q (p ∷ ps) a e = ap (λ b. cond b (Some p.1) (page_of ps q)) (is_at_other q p.0 (λ s. omega (arith, less_is x p.0 a.0, s, e))) ∙ none_later x q ps a.1 e
 
-pub page_held : (ss : Spots) → Rises ss → (q : ℕ) → page_of (pages_held ss) q ≡ in_spot (under ss q)
+pub page_held : (ss : Spots) → AreRising ss → (q : ℕ) → page_of (pages_held ss) q ≡ in_spot (under ss q)
 unfolding IsStrictlySortedBy
 page_held [] r q = refl
 page_held (s ∷ ss) r q = elim s.1 as (λ o. page_of (with_page s.0 o (pages_held ss)) q ≡ in_spot (cond (is_at (nat_cmp q) s.0) (Some o) (under ss q))) [
@@ -47,10 +47,10 @@ page_held (s ∷ ss) r q = elim s.1 as (λ o. page_of (with_page s.0 o (pages_he
 ]
 
 -- the page of a spot
-pub page_in : (ss : Spots) → Rises ss → (k q : ℕ) (o : Option Page) → slice_get ss k ≡ Some (q, o) → page_of (pages_held ss) q ≡ o
+pub page_in : (ss : Spots) → AreRising ss → (k q : ℕ) (o : Option Page) → slice_get ss k ≡ Some (q, o) → page_of (pages_held ss) q ≡ o
 page_in ss r k q o g = page_held ss r q ∙ ap in_spot (held_at ss r k q o g)
 
-pub no_page : (ss : Spots) → Rises ss → (q : ℕ) → under ss q ≡ None → page_of (pages_held ss) q ≡ None
+pub no_page : (ss : Spots) → AreRising ss → (q : ℕ) → under ss q ≡ None → page_of (pages_held ss) q ≡ None
 no_page ss r q e = page_held ss r q ∙ ap in_spot e
 
 pub none_is : (p : Page) → None ≡ Some p → ⊥
@@ -103,7 +103,7 @@ one_fewer test [] p h = cc
 one_fewer test (e ∷ ps) p h = (elim (test e.0) as (λ b. cond b (Some e.1) (lookup test ps) ≡ Some p → length (cond b ps (e ∷ remove_entry test ps)) + 1 ≡ suc (length ps)) [ true ↦ λ z. omega arith | false ↦ λ z. omega (arith, one_fewer test ps p z) ]) h
 
 -- a spot with a page, which is written to, or whose page goes
-module _ (ss : Spots) (r : Rises ss) (k q : ℕ) (p : Page) (g : slice_get ss k ≡ Some (q, Some p)) where
+module _ (ss : Spots) (r : AreRising ss) (k q : ℕ) (p : Page) (g : slice_get ss k ≡ Some (q, Some p)) where
   abbrev at_it : ℕ → Bool
   at_it = is_at (nat_cmp q)
 
@@ -125,7 +125,7 @@ module _ (ss : Spots) (r : Rises ss) (k q : ℕ) (p : Page) (g : slice_get ss k 
   pub gone_count : (n : ℕ) → n + length (pages_held ss) ≡ length ss → (n + 1) + length (pages_held (slice_set ss k (q, None))) ≡ length (slice_set ss k (q, None))
   gone_count n h = omega (arith, h, ap length page_gone, one_fewer at_it (pages_held ss) p it_is, ap length (written ss r k q (Some p) g None), length-set_value at_it ss None)
 
-pub gone_updates : (ss : Spots) → Rises ss → (q n : ℕ) (ps : Pages) → ps ≡ remove_entry (is_at (nat_cmp q)) (pages_held ss) → page_of ps n ≡ cond (is_at (nat_cmp q) n) None (page_of (pages_held ss) n)
+pub gone_updates : (ss : Spots) → AreRising ss → (q n : ℕ) (ps : Pages) → ps ≡ remove_entry (is_at (nat_cmp q)) (pages_held ss) → page_of ps n ≡ cond (is_at (nat_cmp q) n) None (page_of (pages_held ss) n)
 gone_updates ss r q n ps is = ap (λ (xs : Pages). page_of xs n) is ∙ updates_without (pages_held ss) (rises_held ss r) q n
 
 same_spot : (s t : ℕ × Option Page) → Some s ≡ Some t → t ≡ s
@@ -158,10 +158,10 @@ above_cut : (x : ℕ) (ss : Spots) → AllByRecursion (λ y. nat_cmp x y ≡ Les
 above_cut x [] a = a
 above_cut x (s ∷ ss) a = elim s.1 as (λ o. AllByRecursion (λ y. nat_cmp x y ≡ Less) (keys_of (cond (is_some o) ((s.0, o) ∷ filter has_page ss) (filter has_page ss)))) [ None ↦ above_cut x ss a.1 | Some p ↦ (a.0, above_cut x ss a.1) ]
 
-pub rises_cut : (ss : Spots) → Rises ss → Rises (filter has_page ss)
+pub rises_cut : (ss : Spots) → AreRising ss → AreRising (filter has_page ss)
 unfolding IsStrictlySortedBy
 rises_cut [] r = r
-rises_cut (s ∷ ss) r = elim s.1 as (λ o. Rises (cond (is_some o) ((s.0, o) ∷ filter has_page ss) (filter has_page ss))) [ None ↦ rises_cut ss r.1 | Some p ↦ (above_cut s.0 ss r.0, rises_cut ss r.1) ]
+rises_cut (s ∷ ss) r = elim s.1 as (λ o. AreRising (cond (is_some o) ((s.0, o) ∷ filter has_page ss) (filter has_page ss))) [ None ↦ rises_cut ss r.1 | Some p ↦ (above_cut s.0 ss r.0, rises_cut ss r.1) ]
 
 abbrev before : ℕ → Option Page → Spots → Spots
 before n o ss = (n, o) ∷ ss
@@ -177,7 +177,7 @@ each_has (s ∷ ss) q o k g = (elim s.1 as (λ (e : Option Page). slice_get (con
   | Some v ↦ λ h. first_or s.0 v (filter has_page ss) q o k h (λ j e. each_has ss q o j e)
 ]) g
 
-pub all_below : (ss : Spots) → Rises ss → (n : ℕ) → ((q : ℕ) (p : Page) → page_of (pages_held ss) q ≡ Some p → q < n) → (k q : ℕ) (o : Option Page) → slice_get (filter has_page ss) k ≡ Some (q, o) → q < n
+pub all_below : (ss : Spots) → AreRising ss → (n : ℕ) → ((q : ℕ) (p : Page) → page_of (pages_held ss) q ≡ Some p → q < n) → (k q : ℕ) (o : Option Page) → slice_get (filter has_page ss) k ≡ Some (q, o) → q < n
 all_below ss r n low k q o g =
     let is = each_has ss q o k g in
     low q is.0 (sym (ap (λ ps. page_of ps q) (held_cut ss)) ∙ page_in (filter has_page ss) (rises_cut ss r) k q o g ∙ is.1)

@@ -15,7 +15,7 @@ use Rattle.std.proofs.lemmas.List.Sums.{sum_by-cons, sum_by_push}
 use Rattle.std.proofs.lemmas.Bool.{le-leb, leb-true, ltb-true, ltb-false}
 use Rattle.ss_records_blocks.specs.declared.store.BlockPlace.{BlockPlace}
 use Rattle.ss_records_blocks.specs.Places.{living_count}
-use Rattle.ss_records_blocks.specs.Pages.{Page, Pages, in_page, slot, page_of, entry, tabulate, Paged}
+use Rattle.ss_records_blocks.specs.Pages.{Page, Pages, in_page, slot, page_of, entry, tabulate, IsPaged}
 use Rattle.ss_records_blocks.proofs.Same.{same, differs, equal, by_same}
 use Rattle.ss_records_blocks.proofs.Entries.{get_inside, get_there, living_push, living_bound, living_gone, length_set}
 
@@ -172,7 +172,7 @@ page_turned ps q cur none r = by_same q r
 sum_turned : (ps : Pages) (q : ℕ) (cur : Page) → sum_by living_count (values_of (ps ++ (q, cur) ∷ [])) ≡ sum_by living_count (values_of ps) + living_count cur
 sum_turned ps q cur = ap (sum_by living_count) (map-append (λ (e : ℕ × Page). e.1) ps ((q, cur) ∷ [])) ∙ sum_by_push living_count (values_of ps) cur
 
-module _ (ps : Pages) (cur : Page) (start issued : ℕ) (P : Paged ps cur start issued) where
+module _ (ps : Pages) (cur : Page) (start issued : ℕ) (P : IsPaged ps cur start issued) where
   abbrev f : ℕ → Option BlockPlace
   f = entry ps cur start
 
@@ -197,7 +197,7 @@ module _ (ps : Pages) (cur : Page) (start issued : ℕ) (P : Paged ps cur start 
     pub places_pushed : tabulate (entry ps cur' start) (issued + 1) ≡ tabulate f issued ++ Some q ∷ []
     places_pushed = let n : issued + 1 ≡ suc issued = omega arith in rw n (λ z. upto_same f (entry ps cur' start) issued pushed_before z ++ pushed_at z ∷ [])
 
-    pub paged_pushed : Paged ps cur' start (issued + 1)
+    pub paged_pushed : IsPaged ps cur' start (issued + 1)
     paged_pushed = record {
       pages = P.pages;
       size = length_set cur (issued - start) (Some q) ∙ P.size;
@@ -237,7 +237,7 @@ module _ (ps : Pages) (cur : Page) (start issued : ℕ) (P : Paged ps cur start 
           (λ a. (λ z. slot (page_of ps ((in_current i a h).0 z)) (i % 256)) ∙ ap (λ o. slot o (i % 256)) no_page_here ∙ sym (at_current ps cur start i a ∙ none_living cur (i - start) none))
           (λ a. sym (at_earlier ps cur start i a)))
 
-      pub paged_again : Paged ps cur (start + 256) issued
+      pub paged_again : IsPaged ps cur (start + 256) issued
       paged_again = record {
         pages = λ q p e. let k = P.pages q p e in (k.0, k.1, omega (arith, k.2));
         size = P.size;
@@ -270,7 +270,7 @@ module _ (ps : Pages) (cur : Page) (start issued : ℕ) (P : Paged ps cur start 
           (λ a. let n = in_current i a h in (λ z. slot (page_of es (n.0 z)) (n.1 z)) ∙ ap (λ o. slot o (i - start)) has_here ∙ sym (at_current ps cur start i a))
           (λ a. ap (λ o. slot o (i % 256)) (has_other (i / 256) (before_here i a)) ∙ sym (at_earlier ps cur start i a)))
 
-      pub paged_turned : Paged es new (start + 256) issued
+      pub paged_turned : IsPaged es new (start + 256) issued
       paged_turned = record {
         pages = λ q p e. by_same here q
             (λ z n. let s : cur ≡ p = the_same (sym has_here ∙ ap (page_of es) n ∙ e) in (ap length (sym s) ∙ P.size, subst (λ v. 1 ≤ living_count v) s some, omega (arith, n, start_is)))
@@ -315,7 +315,7 @@ module _ (ps : Pages) (cur : Page) (start issued : ℕ) (P : Paged ps cur start 
           (λ b. at_current ps cur'' start j b ∙ slot_other cur (i - start) None (j - start) (λ e. n (omega (arith, a, b, e))) ∙ sym (at_current ps cur start j b))
           (λ b. at_earlier ps cur'' start j b ∙ sym (at_earlier ps cur start j b)))
 
-      pub paged_cleared : Paged ps cur'' start issued
+      pub paged_cleared : IsPaged ps cur'' start issued
       paged_cleared = record {
         pages = P.pages;
         size = length_set cur (i - start) None ∙ P.size;
@@ -369,7 +369,7 @@ module _ (ps : Pages) (cur : Page) (start issued : ℕ) (P : Paged ps cur start 
               both : (x y : ℕ) → x / 256 ≡ y / 256 → x % 256 ≡ y % 256 → x ≡ y
               both x y e k = omega (arith, e, k, quot x, quot y)
 
-        pub paged_dropped : Paged es cur start issued
+        pub paged_dropped : IsPaged es cur start issued
         paged_dropped = record {
           pages = λ r v e. by_same q r
               (λ z n. let k = good v (sym has_it ∙ ap (page_of es) n ∙ e) in (k.0, k.1, subst (λ m. m * 256 < start) n (P.pages q pg was).2))
@@ -384,7 +384,7 @@ module _ (ps : Pages) (cur : Page) (start issued : ℕ) (P : Paged ps cur start 
 
 -- ## Reading, and how many pages there are
 
-module _ (ps : Pages) (cur : Page) (start issued : ℕ) (P : Paged ps cur start issued) where
+module _ (ps : Pages) (cur : Page) (start issued : ℕ) (P : IsPaged ps cur start issued) where
   module _ (i : ℕ) (h : i < length (tabulate (entry ps cur start) issued)) where
     pub inside_of : i < issued
     inside_of = omega (arith, h, upto_length (entry ps cur start) issued)
@@ -455,10 +455,10 @@ each_living [] h = omega arith
 each_living (e ∷ es) h = omega (arith, each_living es (λ i q p g. h (suc i) q p g), h 0 e.0 e.1 refl, sum_by-cons living_count e.1 (values_of es))
 
 -- each earlier page has a living number
-pub pages_few : (ps : Pages) (cur : Page) (start issued : ℕ) → Paged ps cur start issued → ((i q : ℕ) (p : Page) → slice_get ps i ≡ Some (q, p) → page_of ps q ≡ Some p) → length ps ≤ living_count (tabulate (entry ps cur start) issued)
+pub pages_few : (ps : Pages) (cur : Page) (start issued : ℕ) → IsPaged ps cur start issued → ((i q : ℕ) (p : Page) → slice_get ps i ≡ Some (q, p) → page_of ps q ≡ Some p) → length ps ≤ living_count (tabulate (entry ps cur start) issued)
 pages_few ps cur start issued P found = omega (arith, P.total, each_living ps (λ i q p g. (P.pages q p (found i q p g)).1))
 
-pub paged_first : Paged [] (replicate 256 None) 0 0
+pub paged_first : IsPaged [] (replicate 256 None) 0 0
 paged_first = record {
   pages = λ q p e. cc;
   size = length_none 256;
@@ -471,7 +471,7 @@ paged_first = record {
 
 -- ## A number of an earlier page is let go of
 
-module _ (ps : Pages) (cur : Page) (start issued : ℕ) (P : Paged ps cur start issued) (i : ℕ) (p : BlockPlace) (g : slice_get (tabulate (entry ps cur start) issued) i ≡ Some (Some p)) (a : i < start) where
+module _ (ps : Pages) (cur : Page) (start issued : ℕ) (P : IsPaged ps cur start issued) (i : ℕ) (p : BlockPlace) (g : slice_get (tabulate (entry ps cur start) issued) i ≡ Some (Some p)) (a : i < start) where
   abbrev found : (pg : Page) × (page_of ps (i / 256) ≡ Some pg) × (length pg ≡ 256) × (slice_get pg (i % 256) ≡ Some (Some p))
   found = its_page ps cur start issued P i p g a
 
@@ -500,7 +500,7 @@ module _ (ps : Pages) (cur : Page) (start issued : ℕ) (P : Paged ps cur start 
       pub places_fewer : tabulate (entry ms cur start) issued ≡ slice_set (tabulate (entry ps cur start) issued) i None
       places_fewer = places_dropped ps cur start issued P i p g a found.0 found.1 ms (Some left) has (λ k. refl) good sum_set
 
-      pub paged_fewer : Paged ms cur start issued
+      pub paged_fewer : IsPaged ms cur start issued
       paged_fewer = paged_dropped ps cur start issued P i p g a found.0 found.1 ms (Some left) has (λ k. refl) good sum_set
 
     module _ (none : nat_eq (living_count left) 0 ≡ true) (es : Pages) (rest_is : es ≡ remove_entry (is_at (nat_cmp (i / 256))) ms) (without : (r : ℕ) → page_of es r ≡ cond (is_at (nat_cmp (i / 256)) r) None (page_of ms r)) where
@@ -525,10 +525,10 @@ module _ (ps : Pages) (cur : Page) (start issued : ℕ) (P : Paged ps cur start 
       pub places_given : tabulate (entry es cur start) issued ≡ slice_set (tabulate (entry ps cur start) issued) i None
       places_given = places_dropped ps cur start issued P i p g a found.0 found.1 es None drops (λ k. sym (none_living left k zero_left)) of_none sum_less
 
-      pub paged_given : Paged es cur start issued
+      pub paged_given : IsPaged es cur start issued
       paged_given = paged_dropped ps cur start issued P i p g a found.0 found.1 es None drops (λ k. sym (none_living left k zero_left)) of_none sum_less
 
-pub full_is : (ps : Pages) (cur : Page) (start issued : ℕ) → Paged ps cur start issued → nat_eq (issued - start) 256 ≡ nat_eq (length (tabulate (entry ps cur start) issued)) (start + 256)
+pub full_is : (ps : Pages) (cur : Page) (start issued : ℕ) → IsPaged ps cur start issued → nat_eq (issued - start) 256 ≡ nat_eq (length (tabulate (entry ps cur start) issued)) (start + 256)
 full_is ps cur start issued P = by_same (issued - start) 256
     (λ e q. e ∙ sym (ap (λ n. nat_eq n (start + 256)) (upto_length (entry ps cur start) issued ∙ full q) ∙ same (start + 256)))
     (λ e n. e ∙ sym (differs (length (tabulate (entry ps cur start) issued)) (start + 256) (λ z. n (from z)))) where

@@ -3,7 +3,7 @@ use Rattle.std.proofs.Common.{◌≡◌, ℕ, zero, suc, ◌+◌, ◌<◌, ◌�
 use denote.RawPtr.{Ptr}
 use Rattle.ss_records_blocks.specs.declared.store.BlockPlace.{BlockPlace}
 use Rattle.ss_records_blocks.specs.Cells.{Cells, words_at, blanks, without_block}
-use Rattle.ss_records_blocks.specs.Writes.{NoneAt, ArePlaced, Unchanged}
+use Rattle.ss_records_blocks.specs.Writes.{HasNoneAt, ArePlaced, AreUnchanged}
 use Rattle.ss_records_blocks.proofs.Puts.{words_new, words_old, words_without}
 use Rattle.ss_records_blocks.proofs.Count.{blocks_without}
 
@@ -19,7 +19,7 @@ AreApart ps = (i j : ℕ) (p q : BlockPlace) → slice_get ps i ≡ Some p → s
 -- the first n blocks at these places are given back
 pub record Backed (cs bs : Cells) (ps : List BlockPlace) (n : ℕ) : Type 0 where
   pub rest : (j : ℕ) (p : BlockPlace) → n ≤ j → slice_get ps j ≡ Some p → words_at bs p.at ≡ words_at cs p.at
-  pub others : (q : Ptr) → NoneAt ps q → words_at bs q ≡ words_at cs q
+  pub others : (q : Ptr) → HasNoneAt ps q → words_at bs q ≡ words_at cs q
   pub count : length bs + n ≡ length cs
 
 pub backed_none : (cs : Cells) (ps : List BlockPlace) → Backed cs cs ps 0
@@ -69,15 +69,15 @@ placed_more cs ds w ps p b free some = record {
   others = λ q h. words_old ds p.at q (blanks w) (λ z. h (length ps) p (get_end ps p) z) ∙ b.others q (λ i r g. h i r (get_before ps p i r g));
   count = omega (arith, b.count, length-append ps (p ∷ []));
 } where
-  off : NoneAt ps p.at
+  off : HasNoneAt ps p.at
   off i q h z = not_blank w some (sym (b.blank i q h) ∙ ap (words_at ds) z ∙ free)
 
   by_place : {P : Type 0} (i : ℕ) (q : BlockPlace) → slice_get (ps ++ p ∷ []) i ≡ Some q → ((i ≡ length ps) → (p ≡ q) → P) → (slice_get ps i ≡ Some q → P) → P
   by_place {P} i q h new was = elim (get_last ps p q i h) as (λ _. P) [ inl x ↦ new x.0 x.1 | inr x ↦ was x ]
 
 -- blank blocks that were given back
-pub unchanged_by : (cs ds es : Cells) (w : ℕ) (ps : List BlockPlace) → ArePlaced cs ds w ps → ((q : Ptr) → NoneAt ps q → words_at es q ≡ words_at ds q) → length es + length ps ≡ length ds → Unchanged cs es
+pub unchanged_by : (cs ds es : Cells) (w : ℕ) (ps : List BlockPlace) → ArePlaced cs ds w ps → ((q : Ptr) → HasNoneAt ps q → words_at es q ≡ words_at ds q) → length es + length ps ≡ length ds → AreUnchanged cs es
 unchanged_by cs ds es w ps b others count = record {
-  words = λ q n. let none : NoneAt ps q = λ i p g z. n (subst (λ r. words_at cs r ≡ []) z (b.fresh i p g)) in others q none ∙ b.others q none;
+  words = λ q n. let none : HasNoneAt ps q = λ i p g z. n (subst (λ r. words_at cs r ≡ []) z (b.fresh i p g)) in others q none ∙ b.others q none;
   count = omega (arith, count, b.count);
 }

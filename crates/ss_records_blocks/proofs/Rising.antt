@@ -15,7 +15,7 @@ use Rattle.std.proofs.lemmas.Map.{lookup-remove_entry, keys-set_value}
 use Rattle.std.proofs.lemmas.Map.Entries.{length-keys_of, lookup_from_place, lookup_at_gap}
 use Rattle.std.proofs.lemmas.Map.Keys.{IsDistinct-from_sorted, below_from_sorted}
 use Rattle.std.proofs.lemmas.Option.{slice_get-get_or, get_or_from_slice_get}
-use Rattle.ss_records_blocks.specs.Pages.{Rises, under}
+use Rattle.ss_records_blocks.specs.Pages.{AreRising, under}
 use Rattle.ss_records_blocks.proofs.Entries.{get_inside}
 use Rattle.ss_records_blocks.proofs.Same.{by_same, false_is_not_true}
 use Rattle.ss_records_blocks.proofs.Paging.{is_at_same, is_at_other}
@@ -38,7 +38,7 @@ other_below a q h = is_at_other q a (λ e. omega (arith, h, e))
 index_rises : (a b q : ℕ) → a ≤ b → ordering_index (nat_cmp a q) ≤ ordering_index (nat_cmp b q)
 index_rises a b q h = grind (arith, nat_tests, h)
 
-pub rises_none : (A : Type 0) → Rises {A = A} []
+pub rises_none : (A : Type 0) → AreRising {A = A} []
 unfolding IsStrictlySortedBy
 rises_none A = tt
 
@@ -48,7 +48,7 @@ rises_none A = tt
 pub read_is : {A : Type 0} (ps : List (ℕ × A)) (k : ℕ) (e x : ℕ × A) → slice_get ps k ≡ Some e → x ≡ get_or ps k x → x ≡ e
 read_is ps k e x g h = h ∙ get_or_from_slice_get ps k e x g
 
-pub held_at : {A : Type 0} (ps : List (ℕ × A)) → Rises ps → (k q : ℕ) (p : A) → slice_get ps k ≡ Some (q, p) → under ps q ≡ Some p
+pub held_at : {A : Type 0} (ps : List (ℕ × A)) → AreRising ps → (k q : ℕ) (p : A) → slice_get ps k ≡ Some (q, p) → under ps q ≡ Some p
 held_at ps r k q p g = lookup_from_place (eq_by_cmp_equiv nat_cmp_total) ps k q p (IsDistinct-from_sorted nat_cmp (keys_of ps) r) g
 
 -- each later number is above
@@ -61,7 +61,7 @@ above_at x (e ∷ es) a (suc k) q p g = above_at x es a.1 k q p g
 
 -- ## A search
 
-module _ {A : Type 0} (ps : List (ℕ × A)) (r : Rises ps) (q : ℕ) where
+module _ {A : Type 0} (ps : List (ℕ × A)) (r : AreRising ps) (q : ℕ) where
   number_at : (i : ℕ) (d : ℕ × A) → i < length ps → get_or (keys_of ps) i d.0 ≡ (get_or ps i d).0
   number_at i d h = get_or-map (λ (e : ℕ × A). e.0) ps i d d.0 h
 
@@ -100,14 +100,14 @@ all_push : {A : Type 0} (x : ℕ) (es : List (ℕ × A)) (q : ℕ) (p : A) → A
 all_push x [] q p a h = (sym (nat_cmp_is x q Less h), tt)
 all_push x (e ∷ es) q p a h = (a.0, all_push x es q p a.1 h)
 
-pub rises_push : {A : Type 0} (ps : List (ℕ × A)) (q : ℕ) (p : A) → Rises ps → ((k r : ℕ) (v : A) → slice_get ps k ≡ Some (r, v) → r < q) → Rises (ps ++ (q, p) ∷ [])
+pub rises_push : {A : Type 0} (ps : List (ℕ × A)) (q : ℕ) (p : A) → AreRising ps → ((k r : ℕ) (v : A) → slice_get ps k ≡ Some (r, v) → r < q) → AreRising (ps ++ (q, p) ∷ [])
 unfolding IsStrictlySortedBy
 rises_push [] q p s below = (tt, tt)
 rises_push (e ∷ es) q p s below = (all_push e.0 es q p s.0 (below 0 e.0 e.1 refl), rises_push es q p s.1 (λ k r v g. below (suc k) r v g))
 
 -- ## A write
 
-set_is : {A : Type 0} (ps : List (ℕ × A)) (k q : ℕ) (p w : A) → Rises ps → slice_get ps k ≡ Some (q, p) → slice_set ps k (q, w) ≡ set_value (is_at (nat_cmp q)) ps w
+set_is : {A : Type 0} (ps : List (ℕ × A)) (k q : ℕ) (p w : A) → AreRising ps → slice_get ps k ≡ Some (q, p) → slice_set ps k (q, w) ≡ set_value (is_at (nat_cmp q)) ps w
 unfolding IsStrictlySortedBy
 set_is [] k q p w s g = refl
 set_is {A} (e ∷ es) zero q p w s g = first e q p g where
@@ -117,11 +117,11 @@ set_is {A} (e ∷ es) zero q p w s g = first e q p g where
 set_is (e ∷ es) (suc k) q p w s g =
     ap (λ l. e ∷ l) (set_is es k q p w s.1 g) ∙ sym (ap (λ b. cond b ((e.0, w) ∷ es) (e ∷ set_value (is_at (nat_cmp q)) es w)) (other_below e.0 q (above_at e.0 es s.0 k q p g)))
 
-module _ {A : Type 0} (ps : List (ℕ × A)) (r : Rises ps) (k q : ℕ) (p : A) (g : slice_get ps k ≡ Some (q, p)) (w : A) where
+module _ {A : Type 0} (ps : List (ℕ × A)) (r : AreRising ps) (k q : ℕ) (p : A) (g : slice_get ps k ≡ Some (q, p)) (w : A) where
   pub written : slice_set ps k (q, w) ≡ set_value (is_at (nat_cmp q)) ps w
   written = set_is ps k q p w r g
 
-  pub rises_written : Rises (slice_set ps k (q, w))
+  pub rises_written : AreRising (slice_set ps k (q, w))
   rises_written = subst (IsStrictlySortedBy nat_cmp) (sym (ap keys_of written ∙ keys-set_value (is_at (nat_cmp q)) ps w)) r
 
   there : IsSome (under ps q)
@@ -136,5 +136,5 @@ absent test (e ∷ es) h = by_test (test e.0) h (absent test es) where
   by_test true z later = cc
   by_test false z later = ap (λ l. e ∷ l) (later z)
 
-pub updates_without : {A : Type 0} (ps : List (ℕ × A)) → Rises ps → (q n : ℕ) → under (remove_entry (is_at (nat_cmp q)) ps) n ≡ cond (is_at (nat_cmp q) n) None (under ps n)
+pub updates_without : {A : Type 0} (ps : List (ℕ × A)) → AreRising ps → (q n : ℕ) → under (remove_entry (is_at (nat_cmp q)) ps) n ≡ cond (is_at (nat_cmp q) n) None (under ps n)
 updates_without ps r q n = lookup-remove_entry (eq_by_cmp_equiv nat_cmp_total) (is_at (nat_cmp q)) (one_number q) n ps (IsDistinct-from_sorted nat_cmp (keys_of ps) r)

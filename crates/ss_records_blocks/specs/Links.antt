@@ -32,7 +32,7 @@ unlinked_in w cs o a a_ends x b b_ends n =
     put_word (put_word (put_word (put_word (hooked b_ends (hooked a_ends cs o w.first a w.next b) o w.last b w.prev a) x w.next (link x)) x w.prev (link x)) x w.owner (link x)) o w.count (counter (n - 1))
 
 -- the word k of the block at p leads to the block at `to`, which has the number n
-pub record Leads (cs : Cells) (p : Ptr) (k : ℕ) : Type 0 where
+pub record HasLink (cs : Cells) (p : Ptr) (k : ℕ) : Type 0 where
   pub to : Ptr
   pub n : ℕ
   pub word : word_at cs p k ≡ link to

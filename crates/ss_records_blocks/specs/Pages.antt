@@ -38,8 +38,8 @@ abbrev pub page_of : Pages → ℕ → Option Page
 page_of ps q = under ps q
 
 -- the numbers rise
-abbrev pub Rises : {A : Type 0} → List (ℕ × A) → Type 0
-Rises xs = IsStrictlySortedBy nat_cmp (keys_of xs)
+abbrev pub AreRising : {A : Type 0} → List (ℕ × A) → Type 0
+AreRising xs = IsStrictlySortedBy nat_cmp (keys_of xs)
 
 -- a row of spots, each with a number, and with a page or empty
 abbrev pub Spots : Type 0
@@ -64,7 +64,7 @@ tabulate f zero = []
 tabulate f (suc n) = tabulate f n ++ f n ∷ []
 
 -- the pages of numbers before the current one have a living number each
-pub record Paged (ps : Pages) (cur : Page) (start issued : ℕ) : Type 0 where
+pub record IsPaged (ps : Pages) (cur : Page) (start issued : ℕ) : Type 0 where
   pub pages : (q : ℕ) (p : Page) → page_of ps q ≡ Some p → (length p ≡ 256) × (1 ≤ living_count p) × (q * 256 < start)
   pub size : length cur ≡ 256
   pub whole : start % 256 ≡ 0

@@ -11,7 +11,7 @@ pub record IsWrittenAt (cs ds : Cells) (p : Ptr) : Type 0 where
   pub count : length ds ≡ length cs
 
 -- only the words from one place to another of the block at p have changed: they are as f says
-pub record Filled (cs ds : Cells) (p : Ptr) (from to : ℕ) (f : ℕ → Word) : Type 0 where
+pub record IsFilled (cs ds : Cells) (p : Ptr) (from to : ℕ) (f : ℕ → Word) : Type 0 where
   pub written : IsWrittenAt cs ds p
   pub inside : (k : ℕ) → from ≤ k → k < to → word_at ds p k ≡ f k
   pub below : (k : ℕ) → k < from → word_at ds p k ≡ word_at cs p k
@@ -42,18 +42,18 @@ abbrev pub owned_from : Ptr → ℕ → ℕ → Word
 owned_from end from k = owned_word end (k - from)
 
 -- none of these places is q
-abbrev pub NoneAt : List BlockPlace → Ptr → Type 0
-NoneAt ps q = (i : ℕ) (p : BlockPlace) → slice_get ps i ≡ Some p → p.at ≡ q → ⊥
+abbrev pub HasNoneAt : List BlockPlace → Ptr → Type 0
+HasNoneAt ps q = (i : ℕ) (p : BlockPlace) → slice_get ps i ≡ Some p → p.at ≡ q → ⊥
 
 -- blank blocks of w words each are new at these places
 pub record ArePlaced (cs ds : Cells) (w : ℕ) (ps : List BlockPlace) : Type 0 where
   pub fresh : (i : ℕ) (p : BlockPlace) → slice_get ps i ≡ Some p → words_at cs p.at ≡ []
   pub blank : (i : ℕ) (p : BlockPlace) → slice_get ps i ≡ Some p → words_at ds p.at ≡ blanks w
   pub apart : (i j : ℕ) (p q : BlockPlace) → slice_get ps i ≡ Some p → slice_get ps j ≡ Some q → p.at ≡ q.at → i ≡ j
-  pub others : (q : Ptr) → NoneAt ps q → words_at ds q ≡ words_at cs q
+  pub others : (q : Ptr) → HasNoneAt ps q → words_at ds q ≡ words_at cs q
   pub count : length ds ≡ length cs + length ps
 
 -- no block but blank ones has changed
-pub record Unchanged (cs ds : Cells) : Type 0 where
+pub record AreUnchanged (cs ds : Cells) : Type 0 where
   pub words : (q : Ptr) → (words_at cs q ≡ [] → ⊥) → words_at ds q ≡ words_at cs q
   pub count : length ds ≡ length cs

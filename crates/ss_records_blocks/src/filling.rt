@@ -1,7 +1,7 @@
 //! The words of a block that is blank: its head, zeros, links, and sets without a member.
 ghost use Rattle.std.specs.Prelude.{◌≡◌, ℕ, ◌+◌, ◌*◌, ◌^◌, ◌<◌, ◌≤◌, length};
 ghost use Rattle.ss_records_blocks.specs.Cells.{blank, word_at, words_at};
-ghost use Rattle.ss_records_blocks.specs.Writes.{Filled, head_word, zeros, links_to, owned_from};
+ghost use Rattle.ss_records_blocks.specs.Writes.{IsFilled, head_word, zeros, links_to, owned_from};
 
 use crate::head::{CLASS, NUMBER};
 use crate::store::{BlockPlace, Blocks};
@@ -12,7 +12,7 @@ pub fn fill_numbers(blocks: &mut Blocks, place: BlockPlace, from: usize, to: usi
     requires order { from ≤ to }
     requires room { to ≤ length (words_at blocks.old.cells place.at) }
     requires blank { (k : ℕ) → from ≤ k → k < to → word_at blocks.old.cells place.at k ≡ blank }
-    ensures filled { Filled blocks.old.cells blocks.new.cells place.at from to zeros }
+    ensures filled { IsFilled blocks.old.cells blocks.new.cells place.at from to zeros }
     ensures touches { (blocks.new.touches ≡ blocks.old.touches) × (blocks.new.total ≡ blocks.old.total) }
 {
     if from < to {
@@ -27,7 +27,7 @@ fn fill_second(blocks: &mut Blocks, place: BlockPlace, from: usize, to: usize)
     requires order { from ≤ to }
     requires room { to ≤ length (words_at blocks.old.cells place.at) }
     requires blank { (k : ℕ) → from ≤ k → k < to → word_at blocks.old.cells place.at k ≡ blank }
-    ensures filled { Filled blocks.old.cells blocks.new.cells place.at from to zeros }
+    ensures filled { IsFilled blocks.old.cells blocks.new.cells place.at from to zeros }
     ensures touches { (blocks.new.touches ≡ blocks.old.touches) × (blocks.new.total ≡ blocks.old.total) }
 {
     if from < to {
@@ -42,7 +42,7 @@ fn fill_third(blocks: &mut Blocks, place: BlockPlace, from: usize, to: usize)
     requires order { from ≤ to }
     requires room { to ≤ length (words_at blocks.old.cells place.at) }
     requires blank { (k : ℕ) → from ≤ k → k < to → word_at blocks.old.cells place.at k ≡ blank }
-    ensures filled { Filled blocks.old.cells blocks.new.cells place.at from to zeros }
+    ensures filled { IsFilled blocks.old.cells blocks.new.cells place.at from to zeros }
     ensures touches { (blocks.new.touches ≡ blocks.old.touches) × (blocks.new.total ≡ blocks.old.total) }
 {
     if from < to {
@@ -57,7 +57,7 @@ fn fill_fourth(blocks: &mut Blocks, place: BlockPlace, from: usize, to: usize)
     requires order { from ≤ to }
     requires room { to ≤ length (words_at blocks.old.cells place.at) }
     requires blank { (k : ℕ) → from ≤ k → k < to → word_at blocks.old.cells place.at k ≡ blank }
-    ensures filled { Filled blocks.old.cells blocks.new.cells place.at from to zeros }
+    ensures filled { IsFilled blocks.old.cells blocks.new.cells place.at from to zeros }
     ensures touches { (blocks.new.touches ≡ blocks.old.touches) × (blocks.new.total ≡ blocks.old.total) }
 {
     if from < to {
@@ -72,7 +72,7 @@ fn fill_on(blocks: &mut Blocks, place: BlockPlace, from: usize, to: usize)
     requires order { from ≤ to }
     requires room { to ≤ length (words_at blocks.old.cells place.at) }
     requires blank { (k : ℕ) → from ≤ k → k < to → word_at blocks.old.cells place.at k ≡ blank }
-    ensures filled { Filled blocks.old.cells blocks.new.cells place.at from to zeros }
+    ensures filled { IsFilled blocks.old.cells blocks.new.cells place.at from to zeros }
     ensures touches { (blocks.new.touches ≡ blocks.old.touches) × (blocks.new.total ≡ blocks.old.total) }
 {
     if from < to {
@@ -86,7 +86,7 @@ fn fill_rest(blocks: &mut Blocks, place: BlockPlace, from: usize, to: usize)
     requires order { from ≤ to }
     requires room { to ≤ length (words_at blocks.old.cells place.at) }
     requires blank { (k : ℕ) → from ≤ k → k < to → word_at blocks.old.cells place.at k ≡ blank }
-    ensures filled { Filled blocks.old.cells blocks.new.cells place.at from to zeros }
+    ensures filled { IsFilled blocks.old.cells blocks.new.cells place.at from to zeros }
     ensures touches { (blocks.new.touches ≡ blocks.old.touches) × (blocks.new.total ≡ blocks.old.total) }
 {
     for k in from..to {
@@ -106,7 +106,7 @@ pub fn fill_links(
     requires room { from + 3 * count ≤ length (words_at blocks.old.cells place.at) }
     requires blank { (k : ℕ) → from ≤ k → k < from + 3 * count → word_at blocks.old.cells place.at k ≡ blank }
     requires small { from + 3 * count < 2 ^ 64 }
-    ensures filled { Filled blocks.old.cells blocks.new.cells place.at from (from + 3 * count) (links_to target.at) }
+    ensures filled { IsFilled blocks.old.cells blocks.new.cells place.at from (from + 3 * count) (links_to target.at) }
     ensures touches { (blocks.new.touches ≡ blocks.old.touches) × (blocks.new.total ≡ blocks.old.total + 3 * count) }
 {
     for i in 0..count {
@@ -129,7 +129,7 @@ pub fn fill_owned(
     requires room { from + 3 * count ≤ length (words_at blocks.old.cells place.at) }
     requires blank { (k : ℕ) → from ≤ k → k < from + 3 * count → word_at blocks.old.cells place.at k ≡ blank }
     requires small { from + 3 * count < 2 ^ 64 }
-    ensures filled { Filled blocks.old.cells blocks.new.cells place.at from (from + 3 * count) (owned_from end.at from) }
+    ensures filled { IsFilled blocks.old.cells blocks.new.cells place.at from (from + 3 * count) (owned_from end.at from) }
     ensures touches { (blocks.new.touches ≡ blocks.old.touches) × (blocks.new.total ≡ blocks.old.total + 3 * count) }
 {
     for i in 0..count {
@@ -145,7 +145,7 @@ pub fn fill_owned(
 pub fn lay_head(blocks: &mut Blocks, place: BlockPlace, class: u64, number: u64)
     requires room { 2 ≤ length (words_at blocks.old.cells place.at) }
     requires blank { (k : ℕ) → word_at blocks.old.cells place.at k ≡ blank }
-    ensures filled { Filled blocks.old.cells blocks.new.cells place.at 0 2 (head_word class number) }
+    ensures filled { IsFilled blocks.old.cells blocks.new.cells place.at 0 2 (head_word class number) }
     ensures touches { (blocks.new.touches ≡ blocks.old.touches) × (blocks.new.total ≡ blocks.old.total) }
 {
     blocks.set_number(place, CLASS, class);

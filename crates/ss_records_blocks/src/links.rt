@@ -2,7 +2,7 @@
 ghost use Rattle.std.specs.Prelude.{◌≡◌, ℕ, ◌+◌, ◌-◌, ◌^◌, ◌<◌, ◌≤◌, true, false, length};
 ghost use denote.RawPtr.{Ptr};
 ghost use Rattle.ss_records_blocks.specs.Cells.{IsLink, IsCounter, link, number, counter, words_at, word_at, put_word};
-ghost use Rattle.ss_records_blocks.specs.Links.{Leads, hooked, linked_in, unlinked_in, slots_at};
+ghost use Rattle.ss_records_blocks.specs.Links.{HasLink, hooked, linked_in, unlinked_in, slots_at};
 
 use crate::head::NUMBER;
 use crate::store::{BlockPlace, Blocks};
@@ -40,7 +40,7 @@ struct LinkWord(BlockPlace, usize);
 impl Blocks {
     /// The entity that a link leads to: a touch.
     pub fn follow(&mut self, place: BlockPlace, k: usize) -> EntityBlock
-        requires leads { Leads self.old.cells place.at k }
+        requires leads { HasLink self.old.cells place.at k }
         requires room { self.old.touches + 1 < 2 ^ 64 }
         ensures word { word_at self.old.cells place.at k ≡ link result.place.at }
         ensures there { word_at self.old.cells result.place.at 1 ≡ number result.number }
@@ -57,7 +57,7 @@ impl Blocks {
     /// As `follow`, but the caller counts the touch.
     #[inline(always)]
     pub fn look(&mut self, place: BlockPlace, k: usize) -> EntityBlock
-        requires leads { Leads self.old.cells place.at k }
+        requires leads { HasLink self.old.cells place.at k }
         ensures word { word_at self.old.cells place.at k ≡ link result.place.at }
         ensures there { word_at self.old.cells result.place.at 1 ≡ number result.number }
         ensures cells { self.new.cells ≡ self.old.cells }

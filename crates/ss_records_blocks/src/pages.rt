@@ -3,7 +3,7 @@ ghost use Rattle.std.specs.Prelude.{◌≡◌, ℕ, ◌+◌, ◌^◌, ◌<◌, �
 ghost use Rattle.std.specs.Ordering.{nat_cmp};
 ghost use Rattle.std.specs.BTreeMap.{is_at};
 ghost use Rattle.std.specs.Map.{set_value, remove_entry};
-ghost use Rattle.ss_records_blocks.specs.Pages.{page_of, under, pages_held, Rises};
+ghost use Rattle.ss_records_blocks.specs.Pages.{page_of, under, pages_held, AreRising};
 ghost use Rattle.ss_records_blocks.specs.declared.store.BlockPlace.{BlockPlace};
 ghost use Rattle.ss_records_blocks.specs.Places.{living_count};
 
@@ -24,13 +24,13 @@ pub(crate) struct PageMap {
 
 impl Model for PageMap {
     ghost use Rattle.std.specs.Prelude.{◌≡◌, ◌+◌, length};
-    ghost use Rattle.ss_records_blocks.specs.Pages.{Pages, Rises, pages_held};
+    ghost use Rattle.ss_records_blocks.specs.Pages.{Pages, AreRising, pages_held};
 
     ghost Value = { Pages };
 
     ghost view = { λ m. pages_held m.spots.items };
 
-    ghost invariant = { λ m. Rises m.spots.items × (m.empty + length (pages_held m.spots.items) ≡ length m.spots.items) };
+    ghost invariant = { λ m. AreRising m.spots.items × (m.empty + length (pages_held m.spots.items) ≡ length m.spots.items) };
 }
 
 impl PageMap {
@@ -142,7 +142,7 @@ fn clear_in(page: &mut Option<Page>, k: usize) -> bool
 // search.
 #[inline(always)]
 fn spot(spots: &[(usize, Option<Page>)], missing: usize, number: usize) -> Option<usize>
-    requires { Rises spots.now }
+    requires { AreRising spots.now }
     ensures { MatchOption result (under spots.now number ≡ None) (λ k. (page : Option (List (Option BlockPlace))) × (slice_get spots.now k ≡ Some (number, page))) }
 {
     match guessed(spots, missing, number) {
@@ -191,7 +191,7 @@ fn has(spots: &[(usize, Option<Page>)], k: usize, number: usize) -> bool
 // Where the spot of a number is, among any numbers.
 #[inline(never)]
 fn searched(spots: &[(usize, Option<Page>)], number: usize) -> Option<usize>
-    requires { Rises spots.now }
+    requires { AreRising spots.now }
     ensures { MatchOption result (under spots.now number ≡ None) (λ k. (page : Option (List (Option BlockPlace))) × (slice_get spots.now k ≡ Some (number, page))) }
 {
     match spots.binary_search_by_key(&number, |spot| spot.0) {
@@ -203,10 +203,10 @@ fn searched(spots: &[(usize, Option<Page>)], number: usize) -> Option<usize>
 // Takes the empty spots out where they are more than half, or one of them has no lower number than a new page will have. It answers
 // how many are left.
 fn tidy(spots: &mut Vec<(usize, Option<Page>)>, empty: usize, number: usize) -> usize
-    requires rises { Rises spots.old.items }
+    requires rises { AreRising spots.old.items }
     requires count { empty + length (pages_held spots.old.items) ≡ length spots.old.items }
     requires above { (q : ℕ) (p : List (Option BlockPlace)) → page_of (pages_held spots.old.items) q ≡ Some p → q < number }
-    ensures rises { Rises spots.new.items }
+    ensures rises { AreRising spots.new.items }
     ensures count { result + length (pages_held spots.new.items) ≡ length spots.new.items }
     ensures pages_held { pages_held spots.new.items ≡ pages_held spots.old.items }
     ensures above { (k q : ℕ) (page : Option (List (Option BlockPlace))) → slice_get spots.new.items k ≡ Some (q, page) → q < number }
@@ -221,7 +221,7 @@ fn tidy(spots: &mut Vec<(usize, Option<Page>)>, empty: usize, number: usize) -> 
 
 // Whether all numbers are below one.
 fn are_below(spots: &[(usize, Option<Page>)], number: usize) -> bool
-    requires { Rises spots.now }
+    requires { AreRising spots.now }
     ensures { result ≡ true → (k q : ℕ) (page : Option (List (Option BlockPlace))) → slice_get spots.now k ≡ Some (q, page) → q < number }
 {
     match spots.last() {

@@ -3,7 +3,7 @@ ghost use Rattle.std.specs.Prelude.{◌≡◌, ℕ, ◌+◌, ◌*◌, ◌^◌, �
 ghost use denote.RawPtr.{Ptr};
 ghost use Rattle.ss_records_blocks.specs.declared.store.BlockPlace.{BlockPlace};
 ghost use Rattle.ss_records_blocks.specs.Cells.{words_at, blanks};
-ghost use Rattle.ss_records_blocks.specs.Writes.{NoneAt, ArePlaced, Unchanged};
+ghost use Rattle.ss_records_blocks.specs.Writes.{HasNoneAt, ArePlaced, AreUnchanged};
 
 use crate::store::{BlockPlace, Blocks};
 use std::alloc::{AllocError, Global};
@@ -13,7 +13,7 @@ pub fn give_places_back(blocks: &mut Blocks, alloc: &Global, places: &[BlockPlac
     requires words { 0 < words }
     requires size { (i : ℕ) (p : BlockPlace) → slice_get places.now i ≡ Some p → length (words_at blocks.old.cells p.at) ≡ words }
     requires apart { (i j : ℕ) (p q : BlockPlace) → slice_get places.now i ≡ Some p → slice_get places.now j ≡ Some q → p.at ≡ q.at → i ≡ j }
-    ensures others { (q : Ptr) → NoneAt places.now q → words_at blocks.new.cells q ≡ words_at blocks.old.cells q }
+    ensures others { (q : Ptr) → HasNoneAt places.now q → words_at blocks.new.cells q ≡ words_at blocks.old.cells q }
     ensures count { length blocks.new.cells + length places.now ≡ length blocks.old.cells }
     ensures touches { (blocks.new.touches ≡ blocks.old.touches) × (blocks.new.total ≡ blocks.old.total) }
 {
@@ -54,7 +54,7 @@ pub fn place_all(
 ) -> Result<Vec<BlockPlace>, AllocError>
     requires size { (0 < words) × (words * 8 < 2 ^ 63) }
     requires room { length blocks.old.cells + count < 2 ^ 64 }
-    ensures placed { MatchResult result (λ ps. (length ps.items ≡ count) × ArePlaced blocks.old.cells blocks.new.cells words ps.items) (λ _. Unchanged blocks.old.cells blocks.new.cells) }
+    ensures placed { MatchResult result (λ ps. (length ps.items ≡ count) × ArePlaced blocks.old.cells blocks.new.cells words ps.items) (λ _. AreUnchanged blocks.old.cells blocks.new.cells) }
     ensures touches { (blocks.new.touches ≡ blocks.old.touches) × (blocks.new.total ≡ blocks.old.total) }
 {
     let mut places = Vec::new(*alloc);

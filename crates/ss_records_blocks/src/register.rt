@@ -23,13 +23,13 @@ pub(crate) struct Register {
 
 impl Model for Register {
     ghost use Rattle.std.specs.Prelude.{◌+◌, length};
-    ghost use Rattle.ss_records_blocks.specs.Pages.{Listed, Paged, entry, tabulate};
+    ghost use Rattle.ss_records_blocks.specs.Pages.{Listed, IsPaged, entry, tabulate};
 
     ghost Value = { Listed };
 
     ghost view = { λ d. record { places = tabulate (entry d.earlier d.current d.start) d.issued; pages = length d.earlier + 1; start = d.start } };
 
-    ghost invariant = { λ d. Paged d.earlier d.current d.start d.issued };
+    ghost invariant = { λ d. IsPaged d.earlier d.current d.start d.issued };
 }
 
 impl Register {

@@ -8,10 +8,10 @@ use Rattle.ss_base.specs.declared.layout.Layout.{Layout}
 use Rattle.ss_records_blocks.specs.declared.store.BlockPlace.{BlockPlace}
 use Rattle.ss_records_blocks.specs.Cells.{Cells, words_at}
 use Rattle.ss_world.specs.State.{State, Members, and_then, of_class, entity_in, entity_of_kind, kind_of, numbered_record, indexed, number_in, members_of, owner_of}
-use Rattle.ss_world.specs.Sets.{member_in, member_class, Apart}
+use Rattle.ss_world.specs.Sets.{member_in, member_class, AreMembersApart}
 use Rattle.ss_records_words.specs.Reading.{record_of}
-use Rattle.ss_records_words.specs.Places.{Directory, Lists, class_at_place}
-use Rattle.ss_records_words.specs.Kept.{Kept, IsPermanent, state_of, issued_place, numbered_place}
+use Rattle.ss_records_words.specs.Places.{Directory, IsListedAt, class_at_place}
+use Rattle.ss_records_words.specs.Kept.{ArePartsKept, IsPermanent, state_of, issued_place, numbered_place}
 use Rattle.ss_records_words.specs.Slotted.{IsEntityOf}
 use Rattle.ss_records_blocks.proofs.Same.{same}
 use Rattle.ss_records_words.proofs.Splice.{not_and_in}
@@ -27,12 +27,12 @@ of_kind st Permanent c n h = absurd (h tt)
 of_kind st Temporary c n h = refl
 of_kind st Notice c n h = refl
 
-module _ (l : Layout) (cs : Cells) (sys : Ptr) (d : Directory) (ms : List Members) (K : Kept l cs sys d ms) where
+module _ (l : Layout) (cs : Cells) (sys : Ptr) (d : Directory) (ms : List Members) (K : ArePartsKept l cs sys d ms) where
   abbrev st : State
   st = state_of l cs d ms
 
   -- what an entity of a class is
-  pub entity_is : (c n i : ℕ) (p : BlockPlace) → n ≡ suc i → class_at_place cs p ≡ c → Lists d i p → entity_in st c (pos n) ≡ Ok (record_of l (words_at cs p.at))
+  pub entity_is : (c n i : ℕ) (p : BlockPlace) → n ≡ suc i → class_at_place cs p ≡ c → IsListedAt d i p → entity_in st c (pos n) ≡ Ok (record_of l (words_at cs p.at))
   entity_is c n i p e k (inl m) =
       let kind = subst (λ b. IsPermanent (kind_of l b) → ⊥) k (K.kinds i p m) in
       let place : numbered_place d.numbers (pos n) ≡ Ok p = ap (λ z. numbered_place d.numbers (pos z)) e ∙ ap issued_place m in
@@ -47,7 +47,7 @@ module _ (l : Layout) (cs : Cells) (sys : Ptr) (d : Directory) (ms : List Member
   pub is_entity : (c n : ℕ) → IsEntityOf cs d c n → and_then (entity_in st c (pos n)) (λ r. Ok (number_in (pos n))) ≡ Ok n
   is_entity c n h = let a = entry_of cs d c n h in ap (λ z. and_then z (λ r. Ok (number_in (pos n)))) (entity_is c n a.0 a.1 a.2 a.4 (listed d c a.0 a.1 a.3))
 
-  pub sets_apart : Apart st
+  pub sets_apart : AreMembersApart st
   sets_apart = record {
     distinct = λ s o h. let y = get_there l.sets s h in (K.names s y.0 y.1).distinct o;
     members = λ s o x h i. let y = get_there l.sets s h in let m = (K.names s y.0 y.1).members o x i in

@@ -18,10 +18,10 @@ use Rattle.ss_records_blocks.specs.declared.store.BlockPlace.{BlockPlace}
 use Rattle.ss_records_blocks.specs.Cells.{Word, number, Cells, IsNumber, MayBeNumber, words_at, word_of, word_at, with_word, put_word}
 use Rattle.ss_world.specs.State.{Record, State, Members, and_then, entity_in, numbered_record, of_notice, notice, value_in, time_in, number_in, kind_in, kind_of, modes_of, is_notice, record_with_value, with_time, with_indexed, with_entity, with_entity_of_kind, assigned, timed}
 use Rattle.ss_records_words.specs.Shape.{values_end, links_start}
-use Rattle.ss_records_words.specs.Reading.{plain, value_of_words, class_in_words, record_of, record_at, records_at, value_at, put_two, PutsValue}
+use Rattle.ss_records_words.specs.Reading.{plain, value_of_words, class_in_words, record_of, record_at, records_at, value_at, put_two, IsValuePut}
 use Rattle.ss_records_blocks.specs.Writes.{IsWrittenAt}
-use Rattle.ss_records_words.specs.Kept.{Kept, Formed, IsPermanent, state_of}
-use Rattle.ss_records_words.specs.Places.{Made, Directory, Lists, class_at_place}
+use Rattle.ss_records_words.specs.Kept.{ArePartsKept, AreFormed, IsPermanent, state_of}
+use Rattle.ss_records_words.specs.Places.{Made, Directory, IsListedAt, class_at_place}
 use Rattle.ss_records_blocks.proofs.Numbers.{length-with_word}
 use Rattle.ss_records_blocks.proofs.Same.{by_same}
 use Rattle.ss_records_blocks.proofs.Puts.{word_other, word_here, words_written, written_put, written_twice}
@@ -47,11 +47,11 @@ get_row l cs (m ∷ ms) zero ps h = let e : m ≡ Some ps = cc in ap (λ o. Some
 get_row l cs (m ∷ ms) (suc c) ps h = get_row l cs ms c ps h
 
 -- a block has room for its head
-pub head_room : (l : Layout) (c n : ℕ) (ws : List Word) → Formed l c n ws → links_start l c ≤ length ws
+pub head_room : (l : Layout) (c n : ℕ) (ws : List Word) → AreFormed l c n ws → links_start l c ≤ length ws
 head_room l c n ws f = omega (arith, f.size)
 
 -- the block with a number written in its head
-pub formed_put : (l : Layout) (c n : ℕ) (ws : List Word) (k w : ℕ) → Formed l c n ws → 2 ≤ k → k < links_start l c → Formed l c n (with_word ws k (number w))
+pub formed_put : (l : Layout) (c n : ℕ) (ws : List Word) (k w : ℕ) → AreFormed l c n ws → 2 ≤ k → k < links_start l c → AreFormed l c n (with_word ws k (number w))
 formed_put l c n ws k w f low high = record {
   size = length-with_word ws k (number w) ∙ f.size;
   class = word_other ws k (number w) 0 (λ e. absurd (omega (arith, e, low))) ∙ f.class;
@@ -72,21 +72,21 @@ record Headed (l : Layout) (cs ds : Cells) (p : BlockPlace) (n : ℕ) (us : List
   pub words : words_at ds p.at ≡ us
   pub written : IsWrittenAt cs ds p.at
   pub its_class : word_of us 0 ≡ word_at cs p.at 0
-  pub formed : Formed l (class_at_place cs p) n us
+  pub formed : AreFormed l (class_at_place cs p) n us
   pub links : (j : ℕ) → links_start l (class_at_place cs p) ≤ j → word_of us j ≡ word_at cs p.at j
 
-module _ (l : Layout) (cs : Cells) (sys : Ptr) (d : Directory) (ms : List Members) (K : Kept l cs sys d ms) (i : ℕ) (p : BlockPlace) (g : Lists d i p) where
+module _ (l : Layout) (cs : Cells) (sys : Ptr) (d : Directory) (ms : List Members) (K : ArePartsKept l cs sys d ms) (i : ℕ) (p : BlockPlace) (g : IsListedAt d i p) where
   module _ (ds : Cells) (us : List Word) (h : Headed l cs ds p (suc i) us) where
     class_put : class_at_place ds p ≡ class_at_place cs p
     class_put = ap class_in_words h.words ∙ ap plain h.its_class
 
-    form_put : Formed l (class_at_place cs p) (suc i) (words_at ds p.at)
-    form_put = subst (λ vs. Formed l (class_at_place cs p) (suc i) vs) (sym h.words) h.formed
+    form_put : AreFormed l (class_at_place cs p) (suc i) (words_at ds p.at)
+    form_put = subst (λ vs. AreFormed l (class_at_place cs p) (suc i) vs) (sym h.words) h.formed
 
     links_put : (j : ℕ) → links_start l (class_at_place cs p) ≤ j → word_at ds p.at j ≡ word_at cs p.at j
     links_put j a = ap (λ vs. word_of vs j) h.words ∙ h.links j a
 
-    kept_put : Kept l ds sys d ms
+    kept_put : ArePartsKept l ds sys d ms
     kept_put = kept_written l cs sys d ms K ds i p g h.written class_put form_put links_put
 
     module _ (r : Record) (e : read_as l (class_at_place cs p) us ≡ r) where
@@ -148,7 +148,7 @@ module _ (l : Layout) (cs : Cells) (sys : Ptr) (d : Directory) (ms : List Member
           ap (λ r. and_then r (λ r. Ok (slice_index_or r.values f (Whole (pos 0))))) found
           ∙ ap Ok (value_read (modes_of l (class_at_place cs p)) (words_at cs p.at) 2 f m (Whole (pos 0)) (subst (λ b. slice_get (modes_of l b) f ≡ Some m) (sym is) mode) ∙ (λ t. value_at m cs p.at (sym start t)))
 
-    module _ (v : Value) (mode : slice_get (modes_of l c) f ≡ Some (mode_of v)) (ds : Cells) (w : PutsValue cs ds p.at k v) where
+    module _ (v : Value) (mode : slice_get (modes_of l c) f ≡ Some (mode_of v)) (ds : Cells) (w : IsValuePut cs ds p.at k v) where
       abbrev new : Record
       new = record_with_value (record_of l (words_at cs p.at)) f v
 
@@ -158,7 +158,7 @@ module _ (l : Layout) (cs : Cells) (sys : Ptr) (d : Directory) (ms : List Member
       value_put : Headed l cs ds p (suc i) us
       value_put = subst (λ (z : Cells). Headed l cs z p (suc i) us) (sym w.cells) (two_put k w.first w.second (omega (arith, start)) (field_in (mode_of v) mode))
 
-      pub kept_assigned : Kept l ds sys d ms
+      pub kept_assigned : ArePartsKept l ds sys d ms
       kept_assigned = kept_put ds us value_put
 
       pub length_assigned : length ds ≡ length cs
@@ -172,7 +172,7 @@ module _ (l : Layout) (cs : Cells) (sys : Ptr) (d : Directory) (ms : List Member
           record_value l (class_at_place cs p) ws f k w.first w.second (mode_of v) v start (subst (λ b. slice_get (modes_of l b) f ≡ Some (mode_of v)) (sym is) mode) w.value room (subst (λ b. f < length (modes_of l b)) (sym is) (get_inside (modes_of l c) f (mode_of v) mode)) in
           let n : number_in x - 1 ≡ i = ap (λ y. number_in y - 1) at ∙ omega arith in
           ap (λ r. and_then r (λ r. Ok (with_entity (state_of l cs d ms) c (number_in x) (record_with_value r f v)))) found ∙ ap Ok (by_entry value n g) where
-            by_entry : read_as l (class_at_place cs p) us ≡ new → number_in x - 1 ≡ i → Lists d i p → with_entity (state_of l cs d ms) c (number_in x) new ≡ state_of l ds d ms
+            by_entry : read_as l (class_at_place cs p) us ≡ new → number_in x - 1 ≡ i → IsListedAt d i p → with_entity (state_of l cs d ms) c (number_in x) new ≡ state_of l ds d ms
             by_entry value n (inl m) =
                 with_numbered (state_of l cs d ms) (kind_of l c) c (number_in x) new (subst (λ b. IsPermanent (kind_of l b) → ⊥) is (K.kinds i p m))
                 ∙ ap (λ j. record (state_of l cs d ms) { records = slice_set (map (record_at l cs) d.numbers) j (Some new) }) n
@@ -233,7 +233,7 @@ module _ (l : Layout) (cs : Cells) (sys : Ptr) (d : Directory) (ms : List Member
       pub may_time : (values_end l (class_at_place cs p) < length (words_at cs p.at)) × MayBeNumber (word_at cs p.at (values_end l (class_at_place cs p)))
       may_time = may_put (values_end l (class_at_place cs p)) w (omega arith) time_in_head
 
-      pub kept_timed : Kept l (put_word cs p.at (values_end l (class_at_place cs p)) (number w)) sys d ms
+      pub kept_timed : ArePartsKept l (put_word cs p.at (values_end l (class_at_place cs p)) (number w)) sys d ms
       kept_timed = kept_put time_words time_us time_put
 
       pub length_timed : length (put_word cs p.at (values_end l (class_at_place cs p)) (number w)) ≡ length cs

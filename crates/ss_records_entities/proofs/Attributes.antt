@@ -10,15 +10,15 @@ use Rattle.ss_records_blocks.specs.declared.store.BlockPlace.{BlockPlace}
 use Rattle.ss_records_blocks.specs.Cells.{Cells, number, IsNumber, MayBeNumber, words_at, word_at, put_word}
 use Rattle.ss_world.specs.State.{modes_of, value_in, assigned, timed}
 use Rattle.ss_records_words.specs.Shape.{values_end}
-use Rattle.ss_records_words.specs.Reading.{value_at, PutsValue}
-use Rattle.ss_records_words.specs.Kept.{Kept, state_of}
+use Rattle.ss_records_words.specs.Reading.{value_at, IsValuePut}
+use Rattle.ss_records_words.specs.Kept.{ArePartsKept, state_of}
 use Rattle.ss_records_words.specs.Places.{class_at_place}
 use Rattle.ss_records_entities.specs.declared.records.Records.{Records}
-use Rattle.ss_records_entities.specs.Parts.{IsKept, state, places, Found, FoundNotice}
+use Rattle.ss_records_entities.specs.Parts.{IsKept, state, places, IsEntityPlace, IsNoticePlace}
 use Rattle.ss_records_entities.proofs.Assigns.{first_number, second_number, is_value, kept_assigned, length_assigned, is_assigned, reads_back, may_time, kept_timed, length_timed, is_set}
 
 -- the attribute f of what was found at p, whose words begin at k
-module _ (r : Records) (K : IsKept r) (c : ℕ) (x : ℤ) (p : BlockPlace) (g : Found r c x p) (f k : ℕ) (start : k ≡ 2 + 2 * f) where
+module _ (r : Records) (K : IsKept r) (c : ℕ) (x : ℤ) (p : BlockPlace) (g : IsEntityPlace r c x p) (f k : ℕ) (start : k ≡ 2 + 2 * f) where
   module _ (m : Mode) (mode : slice_get (modes_of r.layout c) f ≡ Some m) where
     pub found_first : IsNumber (word_at r.blocks.cells p.at k)
     found_first = first_number r.layout r.blocks.cells r.system.at (places r) r.notes.lists K g.index p g.entry c g.class x g.is g.entity f k start m mode
@@ -30,8 +30,8 @@ module _ (r : Records) (K : IsKept r) (c : ℕ) (x : ℤ) (p : BlockPlace) (g : 
     found_value = is_value r.layout r.blocks.cells r.system.at (places r) r.notes.lists K g.index p g.entry c g.class x g.is g.entity f k start m mode
 
   -- a value is written there
-  module _ (v : Value) (mode : slice_get (modes_of r.layout c) f ≡ Some (mode_of v)) (ds : Cells) (w : PutsValue r.blocks.cells ds p.at k v) where
-    pub found_kept : Kept r.layout ds r.system.at (places r) r.notes.lists
+  module _ (v : Value) (mode : slice_get (modes_of r.layout c) f ≡ Some (mode_of v)) (ds : Cells) (w : IsValuePut r.blocks.cells ds p.at k v) where
+    pub found_kept : ArePartsKept r.layout ds r.system.at (places r) r.notes.lists
     found_kept = kept_assigned r.layout r.blocks.cells r.system.at (places r) r.notes.lists K g.index p g.entry c g.class x g.is g.entity f k start v mode ds w
 
     pub found_length : length ds ≡ length r.blocks.cells
@@ -44,14 +44,14 @@ module _ (r : Records) (K : IsKept r) (c : ℕ) (x : ℤ) (p : BlockPlace) (g : 
     found_reads = reads_back r.layout r.blocks.cells r.system.at (places r) r.notes.lists K g.index p g.entry c g.class x g.is g.entity f k start v mode ds w
 
 -- the time t is written of the notice that was found at p
-module _ (r : Records) (K : IsKept r) (x : ℤ) (p : BlockPlace) (g : FoundNotice r x p) (w : ℕ) (t : ℤ) (val : cast_signed w64 w ≡ t) where
+module _ (r : Records) (K : IsKept r) (x : ℤ) (p : BlockPlace) (g : IsNoticePlace r x p) (w : ℕ) (t : ℤ) (val : cast_signed w64 w ≡ t) where
   abbrev timed_cells : Cells
   timed_cells = put_word r.blocks.cells p.at (values_end r.layout (class_at_place r.blocks.cells p)) (number w)
 
   pub notice_may : (values_end r.layout (class_at_place r.blocks.cells p) < length (words_at r.blocks.cells p.at)) × MayBeNumber (word_at r.blocks.cells p.at (values_end r.layout (class_at_place r.blocks.cells p)))
   notice_may = may_time r.layout r.blocks.cells r.system.at (places r) r.notes.lists K g.index p (inl g.entry) x g.is g.notice w t val
 
-  pub notice_kept : Kept r.layout timed_cells r.system.at (places r) r.notes.lists
+  pub notice_kept : ArePartsKept r.layout timed_cells r.system.at (places r) r.notes.lists
   notice_kept = kept_timed r.layout r.blocks.cells r.system.at (places r) r.notes.lists K g.index p (inl g.entry) x g.is g.notice w t val
 
   pub notice_length : length timed_cells ≡ length r.blocks.cells

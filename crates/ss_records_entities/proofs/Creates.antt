@@ -15,10 +15,10 @@ use Rattle.ss_records_blocks.specs.Cells.{Word, number, Cells, IsNumber, words_a
 use Rattle.ss_world.specs.State.{Record, Members, kind_of, modes_of, is_notice, first_record, created, LAST_NUMBER}
 use Rattle.ss_records_words.specs.Shape.{values_end, links_start, block_words}
 use Rattle.ss_records_words.specs.Reading.{plain, value_of_words, values_from, class_in_words, record_of, record_at, records_at}
-use Rattle.ss_records_words.specs.Kept.{Kept, Formed, IsPermanent, state_of}
+use Rattle.ss_records_words.specs.Kept.{ArePartsKept, AreFormed, IsPermanent, state_of}
 use Rattle.ss_records_blocks.specs.Places.{Numbers}
-use Rattle.ss_records_words.specs.Places.{Made, Directory, lying, own_or, listing, Lists, class_at_place, permanent_count}
-use Rattle.ss_records_words.specs.Laid.{Laid, Born}
+use Rattle.ss_records_words.specs.Places.{Made, Directory, lying, own_or, listing, IsListedAt, class_at_place, permanent_count}
+use Rattle.ss_records_words.specs.Laid.{IsLaid, IsBorn}
 use Rattle.ss_records_blocks.proofs.Same.{by_same}
 use Rattle.ss_records_blocks.proofs.Puts.{words_new, words_old, length-blanks}
 use Rattle.ss_records_words.specs.Slotted.{IsEntityOf}
@@ -89,7 +89,7 @@ no_words : {n m : ℕ} → 0 ≡ n → n ≡ m → 2 ≤ m → ⊥
 no_words a b h = omega (arith, a, b, h)
 
 -- a new block has its form
-pub born_formed : (l : Layout) (ds : Cells) (end p : Ptr) (c n : ℕ) → Born l ds end p c n → Formed l c n (words_at ds p)
+pub born_formed : (l : Layout) (ds : Cells) (end p : Ptr) (c n : ℕ) → IsBorn l ds end p c n → AreFormed l c n (words_at ds p)
 born_formed l ds end p c n b = record {
   size = b.size;
   class = b.its_class;
@@ -107,10 +107,10 @@ made_bound [] h = omega arith
 made_bound (None ∷ ms) h = omega (arith, made_bound ms (λ c ps e. h (suc c) ps e))
 made_bound (Some ps ∷ ms) h = omega (arith, made_bound ms (λ c qs e. h (suc c) qs e), h zero ps refl)
 
-pub few_made : (l : Layout) (cs : Cells) (sys : Ptr) (d : Directory) (ms : List Members) → Kept l cs sys d ms → permanent_count d.classes ≤ 2 ^ 40
+pub few_made : (l : Layout) (cs : Cells) (sys : Ptr) (d : Directory) (ms : List Members) → ArePartsKept l cs sys d ms → permanent_count d.classes ≤ 2 ^ 40
 few_made l cs sys d ms K = omega (arith, made_bound d.classes (λ c ps e. (K.made c ps e).few), K.width, K.small.classes)
 
-module _ (l : Layout) (cs : Cells) (sys : Ptr) (d : Directory) (ms : List Members) (K : Kept l cs sys d ms) where
+module _ (l : Layout) (cs : Cells) (sys : Ptr) (d : Directory) (ms : List Members) (K : ArePartsKept l cs sys d ms) where
   pub room_for_one : length cs + 1 < 2 ^ 64
   room_for_one = omega (arith, K.counted, K.issued, living_bound d.numbers, few_made l cs sys d ms K)
 
@@ -119,7 +119,7 @@ module _ (l : Layout) (cs : Cells) (sys : Ptr) (d : Directory) (ms : List Member
     apart_from : (p : Ptr) (n : ℕ) → length (words_at cs p) ≡ n → 2 ≤ n → q ≡ p → ⊥
     apart_from p n h low i = no_words (sym (ap length fresh) ∙ ap (λ r. length (words_at cs r)) i) h low
 
-    pub off_entry : (i : ℕ) (p : BlockPlace) → Lists d i p → q ≡ p.at → ⊥
+    pub off_entry : (i : ℕ) (p : BlockPlace) → IsListedAt d i p → q ≡ p.at → ⊥
     off_entry i p h = apart_from p.at (block_words l (Class (class_at_place cs p))) (K.formed i p h).size (omega arith)
 
     pub off_sys : q ≡ sys → ⊥
@@ -131,11 +131,11 @@ module _ (l : Layout) (cs : Cells) (sys : Ptr) (d : Directory) (ms : List Member
     less_self : {m k : ℕ} → suc m ≡ suc k → k < m → ⊥
     less_self x y = omega (arith, x, y)
 
-    by_entry : (i : ℕ) (p : BlockPlace) → suc (length d.numbers) ≡ suc i → class_at_place cs p ≡ c → Lists d i p → ⊥
+    by_entry : (i : ℕ) (p : BlockPlace) → suc (length d.numbers) ≡ suc i → class_at_place cs p ≡ c → IsListedAt d i p → ⊥
     by_entry i p e k (inl m) = less_self e (get_inside d.numbers i (Some p) m)
     by_entry i p e k (inr (b, ps, m, x)) = let y = K.made b ps m in kind (subst (λ a. IsPermanent (kind_of l a)) (sym (y.class i p x) ∙ k) y.permanent)
 
-  module _ (q : BlockPlace) (fresh : words_at cs q.at ≡ []) (w c : ℕ) (size : w ≡ block_words l (Class c)) (ds : Cells) (laid : Laid l ((q.at, blanks w) ∷ cs) ds sys q.at c (length d.numbers + 1)) (kind : IsPermanent (kind_of l c) → ⊥) (inside : c < length l.classes) (room : length d.numbers < LAST_NUMBER) where
+  module _ (q : BlockPlace) (fresh : words_at cs q.at ≡ []) (w c : ℕ) (size : w ≡ block_words l (Class c)) (ds : Cells) (laid : IsLaid l ((q.at, blanks w) ∷ cs) ds sys q.at c (length d.numbers + 1)) (kind : IsPermanent (kind_of l c) → ⊥) (inside : c < length l.classes) (room : length d.numbers < LAST_NUMBER) where
     abbrev bs : Cells
     bs = (q.at, blanks w) ∷ cs
 
@@ -145,10 +145,10 @@ module _ (l : Layout) (cs : Cells) (sys : Ptr) (d : Directory) (ms : List Member
     kept_words : (p : Ptr) → (q.at ≡ p → ⊥) → words_at ds p ≡ words_at cs p
     kept_words p n = laid.written.others p n ∙ words_old cs q.at p (blanks w) n
 
-    old : (i : ℕ) (p : BlockPlace) → Lists d i p → words_at ds p.at ≡ words_at cs p.at
+    old : (i : ℕ) (p : BlockPlace) → IsListedAt d i p → words_at ds p.at ≡ words_at cs p.at
     old i p h = kept_words p.at (off_entry q.at fresh i p h)
 
-    born : Born l ds sys q.at c (suc (length d.numbers))
+    born : IsBorn l ds sys q.at c (suc (length d.numbers))
     born = record {
       size = laid.written.size ∙ ap length (words_new cs q.at (blanks w)) ∙ length-blanks w ∙ size;
       its_class = laid.its_class;
@@ -161,17 +161,17 @@ module _ (l : Layout) (cs : Cells) (sys : Ptr) (d : Directory) (ms : List Member
     new_class : class_at_place ds q ≡ c
     new_class = ap plain laid.its_class
 
-    by_entry : {P : Type 0} (i : ℕ) (p : BlockPlace) → Lists e i p → ((i ≡ length d.numbers) → (q ≡ p) → P) → (Lists d i p → P) → P
+    by_entry : {P : Type 0} (i : ℕ) (p : BlockPlace) → IsListedAt e i p → ((i ≡ length d.numbers) → (q ≡ p) → P) → (IsListedAt d i p → P) → P
     by_entry {P} i p (inl h) new was = elim (get_cases d.numbers q p i h) as (λ _. P) [ inl x ↦ new x.0 x.1 | inr x ↦ was (inl x) ]
     by_entry {P} i p (inr m) new was = was (inr m)
 
-    new_of : (b i : ℕ) (p : BlockPlace) → i ≡ length d.numbers → q ≡ p → class_at_place ds p ≡ b → Born l ds sys p.at b (suc i) × (IsEntityOf cs d b (suc i) → ⊥)
+    new_of : (b i : ℕ) (p : BlockPlace) → i ≡ length d.numbers → q ≡ p → class_at_place ds p ≡ b → IsBorn l ds sys p.at b (suc i) × (IsEntityOf cs d b (suc i) → ⊥)
     new_of b i p x y k =
         let same : c ≡ b = sym new_class ∙ ap (class_at_place ds) y ∙ k in
-        let at : Born l ds sys p.at c (suc (length d.numbers)) = subst (λ (r : BlockPlace). Born l ds sys r.at c (suc (length d.numbers))) y born in
-        subst (λ j. Born l ds sys p.at b (suc j) × (IsEntityOf cs d b (suc j) → ⊥)) (sym x) (subst (λ a. Born l ds sys p.at a (suc (length d.numbers))) same at, not_yet b (subst (λ a. IsPermanent (kind_of l a) → ⊥) same kind))
+        let at : IsBorn l ds sys p.at c (suc (length d.numbers)) = subst (λ (r : BlockPlace). IsBorn l ds sys r.at c (suc (length d.numbers))) y born in
+        subst (λ j. IsBorn l ds sys p.at b (suc j) × (IsEntityOf cs d b (suc j) → ⊥)) (sym x) (subst (λ a. IsBorn l ds sys p.at a (suc (length d.numbers))) same at, not_yet b (subst (λ a. IsPermanent (kind_of l a) → ⊥) same kind))
 
-    pub kept_created : Kept l ds sys e ms
+    pub kept_created : ArePartsKept l ds sys e ms
     kept_created = record {
       small = K.small;
       issued = omega (arith, length_push d.numbers q, room);
@@ -187,15 +187,15 @@ module _ (l : Layout) (cs : Cells) (sys : Ptr) (d : Directory) (ms : List Member
           (λ x y. subst (λ (r : BlockPlace). class_at_place ds r < length l.classes) y (subst (λ b. b < length l.classes) (sym new_class) inside))
           (λ x. subst (λ us. class_in_words us < length l.classes) (sym (old i p x)) (K.classes i p x));
       formed = λ i p h. by_entry i p h
-          (λ x y. subst (λ (r : BlockPlace). Formed l (class_at_place ds r) (suc i) (words_at ds r.at)) y (subst (λ b. Formed l b (suc i) (words_at ds q.at)) (sym new_class) (subst (λ j. Formed l c (suc j) (words_at ds q.at)) (sym x) (born_formed l ds sys q.at c (suc (length d.numbers)) born))))
-          (λ x. subst (λ us. Formed l (class_in_words us) (suc i) us) (sym (old i p x)) (K.formed i p x));
+          (λ x y. subst (λ (r : BlockPlace). AreFormed l (class_at_place ds r) (suc i) (words_at ds r.at)) y (subst (λ b. AreFormed l b (suc i) (words_at ds q.at)) (sym new_class) (subst (λ j. AreFormed l c (suc j) (words_at ds q.at)) (sym x) (born_formed l ds sys q.at c (suc (length d.numbers)) born))))
+          (λ x. subst (λ us. AreFormed l (class_in_words us) (suc i) us) (sym (old i p x)) (K.formed i p x));
       apart = λ i j p r h k z. by_entry i p h
           (λ x y. by_entry j r k (λ x' y'. x ∙ sym x') (λ x'. absurd (off_entry q.at fresh j r x' (ap (λ (o : BlockPlace). o.at) y ∙ z))))
           (λ x. by_entry j r k (λ x' y'. absurd (off_entry q.at fresh i p x (ap (λ (o : BlockPlace). o.at) y' ∙ sym z))) (λ x'. K.apart i j p r x x' z));
       off_system = λ i p h. by_entry i p h (λ x y z. off_sys q.at fresh (ap (λ (o : BlockPlace). o.at) y ∙ z)) (λ x. K.off_system i p x);
       counted = omega (arith, laid.written.count, K.counted, living_push d.numbers q);
       names = λ s t g. name_born l cs sys d ms K s t g e ds (kept_words sys (off_sys q.at fresh))
-          (λ b i p h k. elim (pushed d q b i p h) as (λ _. (Born l ds sys p.at b (suc i) × (IsEntityOf cs d b (suc i) → ⊥)) ⊎ ((slice_get (listing d b) i ≡ Some (Some p)) × (words_at ds p.at ≡ words_at cs p.at))) [
+          (λ b i p h k. elim (pushed d q b i p h) as (λ _. (IsBorn l ds sys p.at b (suc i) × (IsEntityOf cs d b (suc i) → ⊥)) ⊎ ((slice_get (listing d b) i ≡ Some (Some p)) × (words_at ds p.at ≡ words_at cs p.at))) [
             | inl x ↦ inl (new_of b i p x.0 x.1 k)
             | inr x ↦ inr (x, old i p (listed d b i p x))
           ])

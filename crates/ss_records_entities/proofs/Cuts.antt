@@ -10,11 +10,11 @@ use Rattle.ss_records_blocks.specs.declared.links.EntityBlock.{EntityBlock}
 use Rattle.ss_records_blocks.specs.Cells.{number, link, word_at}
 use Rattle.ss_world.specs.State.{State, and_then, members_of, contains, is_filed}
 use Rattle.ss_world.specs.Sets.{joiner, owner, put_before, put_after, less, with_list_of, put_in, put_beside, filed_before, filed_after, taken_out}
-use Rattle.ss_world.specs.Lists.{head0, last_or, succ, pred_from, In, NotIn, Distinct}
+use Rattle.ss_world.specs.Lists.{head0, last_or, succ, pred_from, IsInList, IsNotInList, AreAllDistinct}
 use Rattle.ss_records_words.specs.Places.{entity_at}
-use Rattle.ss_records_blocks.specs.Links.{Leads}
+use Rattle.ss_records_blocks.specs.Links.{HasLink}
 use Rattle.ss_records_words.specs.Slotted.{member_base, owner_base}
-use Rattle.ss_records_entities.specs.Parts.{IsKept, places, Lies, Owns, Joins, Between, HasNeighbours}
+use Rattle.ss_records_entities.specs.Parts.{IsKept, places, IsInPlace, IsOwnerBlock, CanJoin, AreNeighbours, HasNeighbours}
 use Rattle.ss_records_words.proofs.Splice.{cut, succ_cut, pred_cut, distinct_less, last_splice}
 use Rattle.ss_records_blocks.proofs.Entries.{get_there}
 use Rattle.ss_records_words.proofs.Filed.{contains_in}
@@ -36,24 +36,24 @@ module _ (r : Records) (K : IsKept r) (s : ℕ) (inside : s < length r.layout.se
   abbrev end : EntityBlock
   end = record { place = r.system; number = 0 }
 
-  pub lies_there : (p : Ptr) (k n : ℕ) → To r.blocks.cells at p k n → (q : EntityBlock) → word_at r.blocks.cells p k ≡ link q.place.at → word_at r.blocks.cells q.place.at 1 ≡ number q.number → (Lies r s q) × (q.number ≡ n)
+  pub lies_there : (p : Ptr) (k n : ℕ) → To r.blocks.cells at p k n → (q : EntityBlock) → word_at r.blocks.cells p k ≡ link q.place.at → word_at r.blocks.cells q.place.at 1 ≡ number q.number → (IsInPlace r s q) × (q.number ≡ n)
   lies_there p k n h q w v = let e = its_number r.blocks.cells at p k n h q.place.at w q.number v in (at_target r.blocks.cells at p k n h q.place.at w ∙ ap at (sym e) ∙ ap (λ c. entity_at r.system.at (places r) c q.number) (sym (its_members r.layout r.blocks.cells r.system.at (places r) r.notes.lists K s inside)), e)
 
   -- at the ends of a set
-  module _ (e : EntityBlock) (h : Owns r s e) (b : ℕ) (base : (u : SetLayout) → slice_get r.layout.sets s ≡ Some u → b ≡ owner_base r.layout s u) (q : EntityBlock) where
-    pub at_first : word_at r.blocks.cells e.place.at b ≡ link q.place.at → word_at r.blocks.cells q.place.at 1 ≡ number q.number → Between r s e.number end q [] (f e.number)
+  module _ (e : EntityBlock) (h : IsOwnerBlock r s e) (b : ℕ) (base : (u : SetLayout) → slice_get r.layout.sets s ≡ Some u → b ≡ owner_base r.layout s u) (q : EntityBlock) where
+    pub at_first : word_at r.blocks.cells e.place.at b ≡ link q.place.at → word_at r.blocks.cells q.place.at 1 ≡ number q.number → AreNeighbours r s e.number end q [] (f e.number)
     at_first w v =
         let l = lies_there e.place.at b _ (first_to r.layout r.blocks.cells r.system.at (places r) r.notes.lists K s inside e.place.at e.number h.lies h.may b base) q w v in
         record { list = refl; before = refl; last = refl; after = l.0; first = l.1 }
 
-    pub at_last : word_at r.blocks.cells e.place.at (b + 1) ≡ link q.place.at → word_at r.blocks.cells q.place.at 1 ≡ number q.number → Between r s e.number q end (f e.number) []
+    pub at_last : word_at r.blocks.cells e.place.at (b + 1) ≡ link q.place.at → word_at r.blocks.cells q.place.at 1 ≡ number q.number → AreNeighbours r s e.number q end (f e.number) []
     at_last w v =
         let l = lies_there e.place.at (b + 1) _ (last_to r.layout r.blocks.cells r.system.at (places r) r.notes.lists K s inside e.place.at e.number h.lies h.may b base) q w v in
         record { list = sym (append-nil (f e.number)); before = l.0; last = l.1; after = refl; first = refl }
 
   -- beside a member y
-  module _ (y : EntityBlock) (j : Joins r s y) (b : ℕ) (base : (u : SetLayout) → slice_get r.layout.sets s ≡ Some u → b ≡ member_base r.layout s u) (o : ℕ) (there : contains (f o) y.number ≡ true) where
-    here : In y.number (f o)
+  module _ (y : EntityBlock) (j : CanJoin r s y) (b : ℕ) (base : (u : SetLayout) → slice_get r.layout.sets s ≡ Some u → b ≡ member_base r.layout s u) (o : ℕ) (there : contains (f o) y.number ≡ true) where
+    here : IsInList y.number (f o)
     here = contains_in (f o) y.number there
 
     pub parts : (xs : List ℕ) × (ys : List ℕ) × (f o ≡ xs ++ y.number ∷ ys)
@@ -68,10 +68,10 @@ module _ (r : Records) (K : IsKept r) (s : ℕ) (inside : s < length r.layout.se
     some : 0 ≡ y.number → ⊥
     some = positive r.layout r.blocks.cells r.system.at (places r) r.notes.lists K s inside y.place.at y.number j.lies j.is b base
 
-    apart : Distinct (xs ++ y.number ∷ ys)
-    apart = let k = get_there r.layout.sets s inside in subst Distinct parts.2 ((K.names s k.0 k.1).distinct o)
+    apart : AreAllDistinct (xs ++ y.number ∷ ys)
+    apart = let k = get_there r.layout.sets s inside in subst AreAllDistinct parts.2 ((K.names s k.0 k.1).distinct o)
 
-    not_before : NotIn y.number xs
+    not_before : IsNotInList y.number xs
     not_before = not_in_front y.number xs ys (distinct_less xs y.number ys apart).1
 
     next_there : To r.blocks.cells at y.place.at b (succ y.number (f o))
@@ -80,24 +80,24 @@ module _ (r : Records) (K : IsKept r) (s : ℕ) (inside : s < length r.layout.se
     prev_there : To r.blocks.cells at y.place.at (b + 1) (pred_from 0 y.number (f o))
     prev_there = prev_to r.layout r.blocks.cells r.system.at (places r) r.notes.lists K s inside y.place.at y.number j.lies j.is b base o here
 
-    pub next_found : Leads r.blocks.cells y.place.at b
+    pub next_found : HasLink r.blocks.cells y.place.at b
     next_found = leads r.blocks.cells at y.place.at b _ next_there
 
-    pub prev_found : Leads r.blocks.cells y.place.at (b + 1)
+    pub prev_found : HasLink r.blocks.cells y.place.at (b + 1)
     prev_found = leads r.blocks.cells at y.place.at (b + 1) _ prev_there
 
     module _ (q : EntityBlock) (w : word_at r.blocks.cells y.place.at b ≡ link q.place.at) (v : word_at r.blocks.cells q.place.at 1 ≡ number q.number) where
-      next_is : (Lies r s q) × (q.number ≡ head0 ys)
+      next_is : (IsInPlace r s q) × (q.number ≡ head0 ys)
       next_is = let l = lies_there y.place.at b _ next_there q w v in (l.0, l.1 ∙ ap (succ y.number) parts.2 ∙ succ_cut xs y.number ys some apart)
 
-      after_it : Between r s o y q (xs ++ y.number ∷ []) ys
+      after_it : AreNeighbours r s o y q (xs ++ y.number ∷ []) ys
       after_it = record { list = parts.2 ∙ sym (append_assoc xs (y.number ∷ []) ys); before = j.lies; last = sym (last_splice 0 xs y.number []); after = next_is.0; first = next_is.1 }
 
     module _ (q : EntityBlock) (w : word_at r.blocks.cells y.place.at (b + 1) ≡ link q.place.at) (v : word_at r.blocks.cells q.place.at 1 ≡ number q.number) where
-      prev_is : (Lies r s q) × (q.number ≡ last_or 0 xs)
+      prev_is : (IsInPlace r s q) × (q.number ≡ last_or 0 xs)
       prev_is = let l = lies_there y.place.at (b + 1) _ prev_there q w v in (l.0, l.1 ∙ ap (pred_from 0 y.number) parts.2 ∙ pred_cut xs y.number ys some apart)
 
-      before_it : Between r s o q y xs (y.number ∷ ys)
+      before_it : AreNeighbours r s o q y xs (y.number ∷ ys)
       before_it = record { list = parts.2; before = prev_is.0; last = prev_is.1; after = j.lies; first = refl }
 
       pub around_it : (z : EntityBlock) → word_at r.blocks.cells y.place.at b ≡ link z.place.at → word_at r.blocks.cells z.place.at 1 ≡ number z.number → HasNeighbours r s o y.number q z xs ys
@@ -110,7 +110,7 @@ module _ (r : Records) (K : IsKept r) (s : ℕ) (inside : s < length r.layout.se
     list_after x = append_assoc xs (y.number ∷ []) (x ∷ ys) ∙ sym (ap (put_after y.number x) parts.2 ∙ put_after_cut xs y.number x ys not_before)
 
     -- on either side of it
-    pub beside_found : (before : Bool) → Leads r.blocks.cells y.place.at (if before then b + 1 else b)
+    pub beside_found : (before : Bool) → HasLink r.blocks.cells y.place.at (if before then b + 1 else b)
     beside_found true = prev_found
     beside_found false = next_found
 
@@ -122,7 +122,7 @@ module _ (r : Records) (K : IsKept r) (s : ℕ) (inside : s < length r.layout.se
     back true = y.number ∷ ys
     back false = ys
 
-    pub beside_it : (before : Bool) (q : EntityBlock) → word_at r.blocks.cells y.place.at (if before then b + 1 else b) ≡ link q.place.at → word_at r.blocks.cells q.place.at 1 ≡ number q.number → Between r s o (if before then q else y) (if before then y else q) (front before) (back before)
+    pub beside_it : (before : Bool) (q : EntityBlock) → word_at r.blocks.cells y.place.at (if before then b + 1 else b) ≡ link q.place.at → word_at r.blocks.cells q.place.at 1 ≡ number q.number → AreNeighbours r s o (if before then q else y) (if before then y else q) (front before) (back before)
     beside_it true q w v = before_it q w v
     beside_it false q w v = after_it q w v
 

@@ -10,15 +10,15 @@ use Rattle.ss_records_blocks.specs.Cells.{Cells, words_at, word_of, without_bloc
 use Rattle.ss_world.specs.State.{Members, members_of, kind_of, and_then, entity_in, number_in, in_a_set, owns_members, let_go, destroyed}
 use Rattle.ss_records_words.specs.Shape.{block_words}
 use Rattle.ss_records_words.specs.Reading.{class_in_words, record_of, record_at, records_at}
-use Rattle.ss_records_words.specs.Kept.{Kept, Formed, IsPermanent, state_of}
+use Rattle.ss_records_words.specs.Kept.{ArePartsKept, AreFormed, IsPermanent, state_of}
 use Rattle.ss_records_blocks.specs.Places.{Numbers}
-use Rattle.ss_records_words.specs.Places.{Directory, lying, own_or, listing, IsMade, Lists, class_at_place}
+use Rattle.ss_records_words.specs.Places.{Directory, lying, own_or, listing, IsMade, IsListedAt, class_at_place}
 use Rattle.ss_records_blocks.proofs.Same.{by_same}
 use Rattle.ss_records_blocks.proofs.Puts.{words_without}
 use Rattle.ss_records_words.proofs.Listing.{listed}
 use Rattle.ss_records_entities.proofs.Keeps.{made_same, entry_is}
 use Rattle.ss_records_entities.proofs.NamesGone.{name_gone}
-use Rattle.ss_world.specs.Lists.{NotIn}
+use Rattle.ss_world.specs.Lists.{IsNotInList}
 use Rattle.ss_base.specs.declared.fault.FaultKind.TheVariants.{InASet, OwnsMembers}
 use Rattle.ss_records_blocks.proofs.Count.{blocks_without}
 use Rattle.ss_records_blocks.proofs.Entries.{living_gone, length_set}
@@ -56,7 +56,7 @@ not_dropped d i b j q h other = by_class (slice_get d.classes b) h where
   by_class (Some None) k = in_numbers k
   by_class (Some (Some ps)) k = k
 
-module _ (l : Layout) (cs : Cells) (sys : Ptr) (d : Directory) (ms : List Members) (K : Kept l cs sys d ms) (i : ℕ) (p : BlockPlace) (g : slice_get d.numbers i ≡ Some (Some p)) where
+module _ (l : Layout) (cs : Cells) (sys : Ptr) (d : Directory) (ms : List Members) (K : ArePartsKept l cs sys d ms) (i : ℕ) (p : BlockPlace) (g : slice_get d.numbers i ≡ Some (Some p)) where
   abbrev e : Directory
   e = lying (slice_set d.numbers i None) d.classes
 
@@ -69,7 +69,7 @@ module _ (l : Layout) (cs : Cells) (sys : Ptr) (d : Directory) (ms : List Member
   pub not_made : (j : ℕ) (q : BlockPlace) → IsMade d.classes j q → p.at ≡ q.at → ⊥
   not_made j q h k = let y = K.made h.0 h.1 h.2 in K.kinds i p g (subst (λ c. IsPermanent (kind_of l c)) (sym (ap (λ (r : Ptr). class_in_words (words_at cs r)) k ∙ y.class j q h.3)) y.permanent)
 
-  entry : {P : Type 0} (j : ℕ) (q : BlockPlace) → Lists e j q → ((p.at ≡ q.at → ⊥) → Lists d j q → words_at ds q.at ≡ words_at cs q.at → P) → P
+  entry : {P : Type 0} (j : ℕ) (q : BlockPlace) → IsListedAt e j q → ((p.at ≡ q.at → ⊥) → IsListedAt d j q → words_at ds q.at ≡ words_at cs q.at → P) → P
   entry {P} j q (inl h) k = by_same i j
       (λ t n. absurd (get_gone d.numbers i q (ap (slice_get e.numbers) n ∙ h)))
       (λ t n. let was = sym (get_other d.numbers i None j n) ∙ h in let off : p.at ≡ q.at → ⊥ = λ z. n (K.apart i j p q (inl g) (inl was) z) in k off (inl was) (words_without cs p.at q.at off))
@@ -77,10 +77,10 @@ module _ (l : Layout) (cs : Cells) (sys : Ptr) (d : Directory) (ms : List Member
 
   -- in no set, and without members
   pub record Free : Type 0 where
-    pub unfiled : (s : ℕ) (t : SetLayout) → slice_get l.sets s ≡ Some t → t.member ≡ class_at_place cs p → (o : ℕ) → NotIn (suc i) (members_of ms s o)
+    pub unfiled : (s : ℕ) (t : SetLayout) → slice_get l.sets s ≡ Some t → t.member ≡ class_at_place cs p → (o : ℕ) → IsNotInList (suc i) (members_of ms s o)
     pub owns_none : (s : ℕ) (t : SetLayout) → slice_get l.sets s ≡ Some t → t.owner ≡ Class (class_at_place cs p) → members_of ms s (suc i) ≡ []
 
-  pub kept_destroyed : Free → Kept l ds sys e ms
+  pub kept_destroyed : Free → ArePartsKept l ds sys e ms
   kept_destroyed free = record {
     small = K.small;
     issued = subst (λ n. n < 4611686018427387904) (sym (length_set d.numbers i None)) K.issued;
@@ -92,7 +92,7 @@ module _ (l : Layout) (cs : Cells) (sys : Ptr) (d : Directory) (ms : List Member
         (λ t n. let was = sym (get_other d.numbers i None j n) ∙ h in λ x. K.kinds j q was (subst (λ us. IsPermanent (kind_of l (class_in_words us))) (words_without cs p.at q.at (λ z. n (K.apart i j p q (inl g) (inl was) z))) x));
     made = λ b ps h. let m = K.made b ps h in record { permanent = m.permanent; class = λ j q x. ap class_in_words (words_without cs p.at q.at (not_made j q (b, ps, h, x))) ∙ m.class j q x; few = m.few };
     classes = λ j q h. entry j q h (λ n was w. subst (λ us. class_in_words us < length l.classes) (sym w) (K.classes j q was));
-    formed = λ j q h. entry j q h (λ n was w. subst (λ us. Formed l (class_in_words us) (suc j) us) (sym w) (K.formed j q was));
+    formed = λ j q h. entry j q h (λ n was w. subst (λ us. AreFormed l (class_in_words us) (suc j) us) (sym w) (K.formed j q was));
     apart = λ j k q r h m z. entry j q h (λ n was w. entry k r m (λ n' was' w'. K.apart j k q r was was' z));
     off_system = λ j q h. entry j q h (λ n was w. K.off_system j q was);
     counted = omega (arith, K.counted, living_gone d.numbers i p g, blocks_without cs p.at (omega (arith, (K.formed i p (inl g)).size)));

@@ -6,28 +6,28 @@ use Rattle.ss_records_blocks.specs.declared.links.EntityBlock.{EntityBlock}
 use Rattle.ss_records_blocks.specs.Cells.{number, link, word_at}
 use Rattle.ss_world.specs.State.{members_of}
 use Rattle.ss_world.specs.Sets.{less}
-use Rattle.ss_world.specs.Lists.{head0, succ, In, Distinct}
+use Rattle.ss_world.specs.Lists.{head0, succ, IsInList, AreAllDistinct}
 use Rattle.ss_records_words.specs.Slotted.{member_base}
-use Rattle.ss_records_entities.specs.Parts.{IsKept, places, Joins, HasNeighbours}
+use Rattle.ss_records_entities.specs.Parts.{IsKept, places, CanJoin, HasNeighbours}
 use Rattle.ss_records_words.proofs.Splice.{succ_cut}
 use Rattle.ss_records_blocks.proofs.Entries.{get_there}
 use Rattle.ss_records_entities.proofs.Listed.{less_cut}
 use Rattle.ss_records_entities.proofs.Leading.{next_to}
 use Rattle.ss_records_entities.proofs.Cuts.{lies_there}
 
-after_head : (n : ℕ) (l : List ℕ) → n ≡ head0 l → In n l → (ys : List ℕ) × (l ≡ n ∷ ys)
+after_head : (n : ℕ) (l : List ℕ) → n ≡ head0 l → IsInList n l → (ys : List ℕ) × (l ≡ n ∷ ys)
 after_head n [] e i = absurd i
 after_head n (y ∷ ys) e i = (ys, ap (λ m. m ∷ ys) (sym e))
 
-module _ (r : Records) (K : IsKept r) (s : ℕ) (inside : s < length r.layout.sets) (o : ℕ) (q : EntityBlock) (j : Joins r s q) (inn : In q.number (members_of r.notes.lists s o)) (first : q.number ≡ head0 (members_of r.notes.lists s o)) where
+module _ (r : Records) (K : IsKept r) (s : ℕ) (inside : s < length r.layout.sets) (o : ℕ) (q : EntityBlock) (j : CanJoin r s q) (inn : IsInList q.number (members_of r.notes.lists s o)) (first : q.number ≡ head0 (members_of r.notes.lists s o)) where
   pub following : (ys : List ℕ) × (members_of r.notes.lists s o ≡ q.number ∷ ys)
   following = after_head q.number (members_of r.notes.lists s o) first inn
 
   some : 0 ≡ q.number → ⊥
   some = let y = get_there r.layout.sets s inside in ((K.names s y.0 y.1).members o q.number inn).1
 
-  apart : Distinct (q.number ∷ following.0)
-  apart = let k = get_there r.layout.sets s inside in subst Distinct following.1 ((K.names s k.0 k.1).distinct o)
+  apart : AreAllDistinct (q.number ∷ following.0)
+  apart = let k = get_there r.layout.sets s inside in subst AreAllDistinct following.1 ((K.names s k.0 k.1).distinct o)
 
   pub less_is : following.0 ≡ less q.number (members_of r.notes.lists s o)
   less_is = sym (ap (less q.number) following.1 ∙ less_cut [] q.number following.0 tt)

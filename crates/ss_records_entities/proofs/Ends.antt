@@ -8,9 +8,9 @@ use Rattle.ss_records_blocks.specs.declared.links.EntityBlock.{EntityBlock}
 use Rattle.ss_world.specs.State.{State, and_then, members_of, contains}
 use Rattle.ss_world.specs.Sets.{joiner, owner, member_in, less, with_list_of, removed}
 use Rattle.ss_world.specs.Disciplines.{take, first_removed, last_removed, member_test}
-use Rattle.ss_world.specs.Lists.{head0, last_or, In}
+use Rattle.ss_world.specs.Lists.{head0, last_or, IsInList}
 use Rattle.ss_records_words.specs.Slotted.{IsEntityOf}
-use Rattle.ss_records_entities.specs.Parts.{IsKept, state, places, Lies, Joins, Between}
+use Rattle.ss_records_entities.specs.Parts.{IsKept, state, places, IsInPlace, CanJoin, AreNeighbours}
 use Rattle.ss_records_words.proofs.Splice.{before_in, after_in}
 use Rattle.ss_records_blocks.proofs.Entries.{get_there}
 use Rattle.ss_records_words.proofs.Filed.{in_contains}
@@ -18,8 +18,8 @@ use Rattle.ss_records_entities.proofs.Cuts.{out_done}
 use Rattle.ss_records_entities.proofs.Apart.{sets_apart}
 
 -- a member that was found at an end
-module _ (r : Records) (K : IsKept r) (s : ℕ) (inside : s < length r.layout.sets) (o : ℕ) (q : EntityBlock) (lies : Lies r s q) (inn : In q.number (members_of r.notes.lists s o)) where
-  pub joins_it : Joins r s q
+module _ (r : Records) (K : IsKept r) (s : ℕ) (inside : s < length r.layout.sets) (o : ℕ) (q : EntityBlock) (lies : IsInPlace r s q) (inn : IsInList q.number (members_of r.notes.lists s o)) where
+  pub joins_it : CanJoin r s q
   joins_it =
       let y = get_there r.layout.sets s inside in
       record { lies = lies; is = subst (λ c. IsEntityOf r.blocks.cells (places r) c q.number) (sym (ap member_in y.1)) ((K.names s y.0 y.1).members o q.number inn).0 }
@@ -45,11 +45,11 @@ module _ (r : Records) (K : IsKept r) (s : ℕ) (inside : s < length r.layout.se
 
 -- at the ends
 module _ (r : Records) (s o : ℕ) (a z : EntityBlock) where
-  pub first_in_it : (ys : List ℕ) → Between r s o a z [] ys → (z.number ≡ 0 → ⊥) → In z.number (members_of r.notes.lists s o)
-  first_in_it ys w n = subst (In z.number) (sym w.list) (after_in z.number [] ys (sym w.first) (λ i. n (sym i)))
+  pub first_in_it : (ys : List ℕ) → AreNeighbours r s o a z [] ys → (z.number ≡ 0 → ⊥) → IsInList z.number (members_of r.notes.lists s o)
+  first_in_it ys w n = subst (IsInList z.number) (sym w.list) (after_in z.number [] ys (sym w.first) (λ i. n (sym i)))
 
-  pub last_in_it : (xs : List ℕ) → Between r s o a z xs [] → (a.number ≡ 0 → ⊥) → In a.number (members_of r.notes.lists s o)
-  last_in_it xs w n = subst (In a.number) (sym w.list) (before_in a.number xs [] (sym w.last) (λ i. n (sym i)))
+  pub last_in_it : (xs : List ℕ) → AreNeighbours r s o a z xs [] → (a.number ≡ 0 → ⊥) → IsInList a.number (members_of r.notes.lists s o)
+  last_in_it xs w n = subst (IsInList a.number) (sym w.list) (before_in a.number xs [] (sym w.last) (λ i. n (sym i)))
 
 -- none to take
 pub none_taken : (st : State) (s n : ℕ) (x y : ℤ) (look : Result ℤ FaultKind) → look ≡ Ok y → y ≡ pos n → n ≡ 0 → and_then look (take st s x) ≡ Err EmptySet

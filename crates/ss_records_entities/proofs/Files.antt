@@ -8,12 +8,12 @@ use Rattle.ss_records_blocks.specs.declared.links.EntityBlock.{EntityBlock}
 use Rattle.ss_records_blocks.specs.Cells.{Cells, Memory, IsLink, IsCounter, word_at}
 use Rattle.ss_world.specs.State.{Members, members_of, contains, is_filed, with_members}
 use Rattle.ss_world.specs.Sets.{member_in, owner_in, put_before, less, with_list_of}
-use Rattle.ss_world.specs.Lists.{head0, last_or, In, NotIn, Distinct}
+use Rattle.ss_world.specs.Lists.{head0, last_or, IsInList, IsNotInList, AreAllDistinct}
 use Rattle.ss_records_words.specs.Places.{entity_at, owner_at}
-use Rattle.ss_records_words.specs.Kept.{Kept, state_of}
+use Rattle.ss_records_words.specs.Kept.{ArePartsKept, state_of}
 use Rattle.ss_records_blocks.specs.Links.{linked_in, unlinked_in, slots_at}
 use Rattle.ss_records_words.specs.Slotted.{slots_of, member_base, owner_base, IsEntityOf, MayOwn}
-use Rattle.ss_records_entities.specs.Parts.{IsKept, state, places, uncounted, Lies, Owns, Joins, Between, HasNeighbours}
+use Rattle.ss_records_entities.specs.Parts.{IsKept, state, places, uncounted, IsInPlace, IsOwnerBlock, CanJoin, AreNeighbours, HasNeighbours}
 use Rattle.ss_records_blocks.proofs.Same.{by_same, false_is_not_true}
 use Rattle.ss_records_words.proofs.Splice.{not_in, not_and_in, before_in, after_in, in_left, in_mid, distinct_less}
 use Rattle.ss_records_blocks.proofs.Entries.{get_there}
@@ -28,10 +28,10 @@ pub looked : (r p : Records) (b : Memory) → p ≡ record r { blocks = p.blocks
 looked r p b h e k = reads_only p b k ∙ unmoved r p h e
 
 -- what lies between two neighbours, and around a member, still does
-pub still_between : (r q : Records) (s o : ℕ) (a b : EntityBlock) (xs ys : List ℕ) → uncounted q ≡ uncounted r → Between r s o a b xs ys → Between q s o a b xs ys
+pub still_between : (r q : Records) (s o : ℕ) (a b : EntityBlock) (xs ys : List ℕ) → uncounted q ≡ uncounted r → AreNeighbours r s o a b xs ys → AreNeighbours q s o a b xs ys
 still_between r q s o a b xs ys h w =
-    let v : Between (uncounted r) s o a b xs ys = record { list = w.list; before = w.before; last = w.last; after = w.after; first = w.first } in
-    let u : Between (uncounted q) s o a b xs ys = subst (λ (z : Records). Between z s o a b xs ys) (sym h) v in
+    let v : AreNeighbours (uncounted r) s o a b xs ys = record { list = w.list; before = w.before; last = w.last; after = w.after; first = w.first } in
+    let u : AreNeighbours (uncounted q) s o a b xs ys = subst (λ (z : Records). AreNeighbours z s o a b xs ys) (sym h) v in
     record { list = u.list; before = u.before; last = u.last; after = u.after; first = u.first }
 
 pub still_around : (r q : Records) (s o x : ℕ) (a b : EntityBlock) (xs ys : List ℕ) → uncounted q ≡ uncounted r → HasNeighbours r s o x a b xs ys → HasNeighbours q s o x a b xs ys
@@ -50,15 +50,15 @@ not_among ms s o x h = by_case (contains (members_of ms s o) x) refl where
   by_case false e = e
   by_case true e = absurd (not_and_in x (members_of ms s o) (not_filed_in ms s x h o) (contains_in (members_of ms s o) x e))
 
-pub among_by : (r : Records) (K : IsKept r) (s : ℕ) (inside : s < length r.layout.sets) (o x p : ℕ) → In x (members_of r.notes.lists s p) → nat_eq p o ≡ contains (members_of r.notes.lists s o) x
+pub among_by : (r : Records) (K : IsKept r) (s : ℕ) (inside : s < length r.layout.sets) (o x p : ℕ) → IsInList x (members_of r.notes.lists s p) → nat_eq p o ≡ contains (members_of r.notes.lists s o) x
 among_by r K s inside o x p h = by_same p o
-    (λ e q. e ∙ sym (in_contains (members_of r.notes.lists s o) x (subst (λ n. In x (members_of r.notes.lists s n)) q h)))
+    (λ e q. e ∙ sym (in_contains (members_of r.notes.lists s o) x (subst (λ n. IsInList x (members_of r.notes.lists s n)) q h)))
     (λ e n. e ∙ sym (by_case n (contains (members_of r.notes.lists s o) x) refl)) where
       by_case : (p ≡ o → ⊥) → (b : Bool) → contains (members_of r.notes.lists s o) x ≡ b → contains (members_of r.notes.lists s o) x ≡ false
       by_case n false e = e
       by_case n true e = let y = get_there r.layout.sets s inside in absurd (n ((K.names s y.0 y.1).sole p o x h (contains_in (members_of r.notes.lists s o) x e)))
 
-module _ (r : Records) (K : IsKept r) (s : ℕ) (inside : s < length r.layout.sets) (e x : EntityBlock) (h : Owns r s e) (m b : ℕ)
+module _ (r : Records) (K : IsKept r) (s : ℕ) (inside : s < length r.layout.sets) (e x : EntityBlock) (h : IsOwnerBlock r s e) (m b : ℕ)
     (mb : (u : SetLayout) → slice_get r.layout.sets s ≡ Some u → m ≡ member_base r.layout s u) (ob : (u : SetLayout) → slice_get r.layout.sets s ≡ Some u → b ≡ owner_base r.layout s u) where
   abbrev cs : Cells
   cs = r.blocks.cells
@@ -87,7 +87,7 @@ module _ (r : Records) (K : IsKept r) (s : ℕ) (inside : s < length r.layout.se
   its_home : e.place.at ≡ home o
   its_home = h.lies ∙ ap (λ u. owner_at r.system.at (places r) u o) (ap owner_in g)
 
-  its_place : (z : EntityBlock) → Lies r s z → z.place.at ≡ at z.number
+  its_place : (z : EntityBlock) → IsInPlace r s z → z.place.at ≡ at z.number
   its_place z lies = lies ∙ ap (λ c. entity_at r.system.at (places r) c z.number) (ap member_in g)
 
   pub owner_words : IsLink (word_at cs e.place.at b) × IsLink (word_at cs e.place.at (b + 1)) × IsCounter (word_at cs e.place.at (b + 2))
@@ -98,7 +98,7 @@ module _ (r : Records) (K : IsKept r) (s : ℕ) (inside : s < length r.layout.se
   )
 
   -- a member of the set has links
-  module _ (z : EntityBlock) (lies : Lies r s z) (inn : In z.number (f o)) where
+  module _ (z : EntityBlock) (lies : IsInPlace r s z) (inn : IsInList z.number (f o)) where
     of_it : IsEntityOf cs (places r) t.member z.number
     of_it = ((K.names s t g).members o z.number inn).0
 
@@ -114,19 +114,19 @@ module _ (r : Records) (K : IsKept r) (s : ℕ) (inside : s < length r.layout.se
     pub owner_link : IsLink (word_at cs z.place.at (m + 2))
     owner_link = is_link cs home z.place.at (m + 2) _ (owner_to r.layout cs r.system.at (places r) r.notes.lists K s inside z.place.at z.number lies its m mb o inn)
 
-  module _ (j : Joins r s x) where
+  module _ (j : CanJoin r s x) where
     lx : IsEntityOf cs (places r) t.member x.number
     lx = subst (λ c. IsEntityOf cs (places r) c x.number) (ap member_in g) j.is
 
     some : 0 ≡ x.number → ⊥
     some = above_zero r.layout cs r.system.at (places r) r.notes.lists K s t g x.number lx
 
-    none0 : (l : List ℕ) → f o ≡ l → NotIn 0 l
-    none0 l w = not_in 0 l (λ i. ((K.names s t g).members o 0 (subst (In 0) (sym w) i)).1 refl)
+    none0 : (l : List ℕ) → f o ≡ l → IsNotInList 0 l
+    none0 l w = not_in 0 l (λ i. ((K.names s t g).members o 0 (subst (IsInList 0) (sym w) i)).1 refl)
 
     -- into the set
     module _ (free : is_filed r.notes.lists s x.number ≡ false) where
-      out : (p : ℕ) → NotIn x.number (f p)
+      out : (p : ℕ) → IsNotInList x.number (f p)
       out = not_filed_in r.notes.lists s x.number free
 
       pub member_words : IsLink (word_at cs x.place.at m) × IsLink (word_at cs x.place.at (m + 1)) × IsLink (word_at cs x.place.at (m + 2))
@@ -136,9 +136,9 @@ module _ (r : Records) (K : IsKept r) (s : ℕ) (inside : s < length r.layout.se
         is_link cs at x.place.at (m + 2) _ (owner_self r.layout cs r.system.at (places r) r.notes.lists K s inside x.place.at x.number j.lies j.is m mb out),
       )
 
-      module _ (a z : EntityBlock) (xs ys : List ℕ) (w : Between r s o a z xs ys) where
-        inner : (y : ℕ) → In y (xs ++ ys) → In y (f o)
-        inner y i = subst (In y) (sym w.list) i
+      module _ (a z : EntityBlock) (xs ys : List ℕ) (w : AreNeighbours r s o a z xs ys) where
+        inner : (y : ℕ) → IsInList y (xs ++ ys) → IsInList y (f o)
+        inner y i = subst (IsInList y) (sym w.list) i
 
         pub before_word : (a.number == 0) ≡ false → IsLink (word_at cs a.place.at m)
         before_word n = next_link a w.before (inner a.number (before_in a.number xs ys (sym w.last) (λ i. is_not_zero a.number n (sym i))))
@@ -147,7 +147,7 @@ module _ (r : Records) (K : IsKept r) (s : ℕ) (inside : s < length r.layout.se
         after_word n = prev_link z w.after (inner z.number (after_in z.number xs ys (sym w.first) (λ i. is_not_zero z.number n (sym i))))
 
         list_is : put_before z.number x.number (f o) ≡ xs ++ x.number ∷ ys
-        list_is = (λ i. put_before (w.first i) x.number (w.list i)) ∙ put_cut xs x.number ys (subst Distinct w.list ((K.names s t g).distinct o)) (none0 (xs ++ ys) w.list)
+        list_is = (λ i. put_before (w.first i) x.number (w.list i)) ∙ put_cut xs x.number ys (subst AreAllDistinct w.list ((K.names s t g).distinct o)) (none0 (xs ++ ys) w.list)
 
         module _ (n : ℕ) (count : n ≡ length (f o)) where
           abbrev ds : Cells
@@ -156,7 +156,7 @@ module _ (r : Records) (K : IsKept r) (s : ℕ) (inside : s < length r.layout.se
           cells_are : ds ≡ linked_in (slots_of r.layout s t) cs (home o) (at (last_or 0 xs)) (last_or 0 xs == 0) (at x.number) (at (head0 ys)) (head0 ys == 0) (length (f o))
           cells_are = λ i. linked_in (slots_at (mb t g i) (ob t g i)) cs (its_home i) ((its_place a w.before ∙ ap at w.last) i) (w.last i == 0) (its_place x j.lies i) ((its_place z w.after ∙ ap at w.first) i) (w.first i == 0) (count i)
 
-          pub kept_in : Kept r.layout ds r.system.at (places r) (with_members r.notes.lists s o (put_before z.number x.number (f o)))
+          pub kept_in : ArePartsKept r.layout ds r.system.at (places r) (with_members r.notes.lists s o (put_before z.number x.number (f o)))
           kept_in = rw (cells_are, list_is) (kept_linked r.layout cs r.system.at (places r) r.notes.lists K s t g o x.number xs ys lo lx some w.list out)
 
           pub state_in : state_of r.layout ds (places r) (with_members r.notes.lists s o (put_before z.number x.number (f o))) ≡ with_list_of (state r) s o (xs ++ x.number ∷ ys)
@@ -164,10 +164,10 @@ module _ (r : Records) (K : IsKept r) (s : ℕ) (inside : s < length r.layout.se
 
     -- out of the set
     module _ (a z : EntityBlock) (xs ys : List ℕ) (w : HasNeighbours r s o x.number a z xs ys) where
-      inner' : (y : ℕ) → In y (xs ++ x.number ∷ ys) → In y (f o)
-      inner' y i = subst (In y) (sym w.list) i
+      inner' : (y : ℕ) → IsInList y (xs ++ x.number ∷ ys) → IsInList y (f o)
+      inner' y i = subst (IsInList y) (sym w.list) i
 
-      here : In x.number (f o)
+      here : IsInList x.number (f o)
       here = inner' x.number (in_mid xs x.number ys)
 
       pub member_words' : IsLink (word_at cs x.place.at m) × IsLink (word_at cs x.place.at (m + 1)) × IsLink (word_at cs x.place.at (m + 2))
@@ -181,12 +181,12 @@ module _ (r : Records) (K : IsKept r) (s : ℕ) (inside : s < length r.layout.se
 
       pub some_members : (n : ℕ) → n ≡ length (f o) → 0 < n
       some_members n count = positive_length (f o) here n count where
-        positive_length : (l : List ℕ) → In x.number l → (n : ℕ) → n ≡ length l → 0 < n
+        positive_length : (l : List ℕ) → IsInList x.number l → (n : ℕ) → n ≡ length l → 0 < n
         positive_length [] i n c = absurd i
         positive_length (y ∷ ys) i n c = omega (arith, c)
 
       list_is' : less x.number (f o) ≡ xs ++ ys
-      list_is' = ap (less x.number) w.list ∙ less_cut xs x.number ys (not_in_front x.number xs ys (distinct_less xs x.number ys (subst Distinct w.list ((K.names s t g).distinct o))).1)
+      list_is' = ap (less x.number) w.list ∙ less_cut xs x.number ys (not_in_front x.number xs ys (distinct_less xs x.number ys (subst AreAllDistinct w.list ((K.names s t g).distinct o))).1)
 
       module _ (n : ℕ) (count : n ≡ length (f o)) where
         abbrev es : Cells
@@ -195,7 +195,7 @@ module _ (r : Records) (K : IsKept r) (s : ℕ) (inside : s < length r.layout.se
         cells_are' : es ≡ unlinked_in (slots_of r.layout s t) cs (home o) (at (last_or 0 xs)) (last_or 0 xs == 0) (at x.number) (at (head0 ys)) (head0 ys == 0) (length (f o))
         cells_are' = λ i. unlinked_in (slots_at (mb t g i) (ob t g i)) cs (its_home i) ((its_place a w.before ∙ ap at w.last) i) (w.last i == 0) (its_place x j.lies i) ((its_place z w.after ∙ ap at w.first) i) (w.first i == 0) (count i)
 
-        pub kept_out : Kept r.layout es r.system.at (places r) (with_members r.notes.lists s o (less x.number (f o)))
+        pub kept_out : ArePartsKept r.layout es r.system.at (places r) (with_members r.notes.lists s o (less x.number (f o)))
         kept_out = rw (cells_are', list_is') (kept_unlinked r.layout cs r.system.at (places r) r.notes.lists K s t g o x.number xs ys lo w.list)
 
         pub state_out : state_of r.layout es (places r) (with_members r.notes.lists s o (less x.number (f o))) ≡ with_list_of (state r) s o (xs ++ ys)

@@ -8,20 +8,20 @@ use Rattle.ss_records_entities.specs.declared.records.Records.{Records}
 use Rattle.ss_records_blocks.specs.declared.store.BlockPlace.{BlockPlace}
 use Rattle.ss_records_blocks.specs.Cells.{Cells}
 use Rattle.ss_world.specs.State.{Members, kind_of, members_of, is_filed, has_members, in_a_set, owns_members}
-use Rattle.ss_records_words.specs.Places.{Directory, Lists, class_at_place}
-use Rattle.ss_records_words.specs.Kept.{Kept, IsPermanent}
-use Rattle.ss_records_entities.specs.Parts.{IsKept, places, Found}
+use Rattle.ss_records_words.specs.Places.{Directory, IsListedAt, class_at_place}
+use Rattle.ss_records_words.specs.Kept.{ArePartsKept, IsPermanent}
+use Rattle.ss_records_entities.specs.Parts.{IsKept, places, IsEntityPlace}
 use Rattle.ss_records_words.proofs.Filed.{in_none_of, owns_none_of, not_filed_in, no_members}
 use Rattle.ss_records_entities.proofs.Destroys.{Free}
 
 -- an entity of a class of numbers is found under its number
-pub by_number : (r : Records) (K : IsKept r) (c : ℕ) (x : ℤ) (p : BlockPlace) (f : Found r c x p) → (IsPermanent (kind_of r.layout c) → ⊥) → slice_get r.directory.places f.index ≡ Some (Some p)
+pub by_number : (r : Records) (K : IsKept r) (c : ℕ) (x : ℤ) (p : BlockPlace) (f : IsEntityPlace r c x p) → (IsPermanent (kind_of r.layout c) → ⊥) → slice_get r.directory.places f.index ≡ Some (Some p)
 by_number r K c x p f kind = by_entry f.entry where
-  by_entry : Lists (places r) f.index p → slice_get r.directory.places f.index ≡ Some (Some p)
+  by_entry : IsListedAt (places r) f.index p → slice_get r.directory.places f.index ≡ Some (Some p)
   by_entry (inl m) = m
   by_entry (inr (b, ps, m, h)) = let y = K.made b ps m in absurd (kind (subst (λ a. IsPermanent (kind_of r.layout a)) (sym (y.class f.index p h) ∙ f.class) y.permanent))
 
-pub free_by : (l : Layout) (cs : Cells) (sys : Ptr) (d : Directory) (ms : List Members) (K : Kept l cs sys d ms) (i : ℕ) (p : BlockPlace) (g : slice_get d.numbers i ≡ Some (Some p)) (c : ℕ) → class_at_place cs p ≡ c
+pub free_by : (l : Layout) (cs : Cells) (sys : Ptr) (d : Directory) (ms : List Members) (K : ArePartsKept l cs sys d ms) (i : ℕ) (p : BlockPlace) (g : slice_get d.numbers i ≡ Some (Some p)) (c : ℕ) → class_at_place cs p ≡ c
     → in_a_set l.sets 0 ms c (suc i) ≡ false → owns_members l.sets 0 ms c (suc i) ≡ false → Free l cs sys d ms K i p g
 free_by l cs sys d ms K i p g c class none few = record {
   unfiled = λ s t h e. not_filed_in ms s (suc i) (ap (λ n. is_filed ms n (suc i)) (sym (zero-add s)) ∙ in_none_of l.sets 0 c (suc i) ms none s t h (e ∙ class));

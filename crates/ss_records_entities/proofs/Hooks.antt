@@ -3,7 +3,7 @@ use Rattle.std.proofs.Common.{◌≡◌, ℕ, ◌<◌, true, false, cond, ◌==�
 use denote.RawPtr.{Ptr}
 use Rattle.ss_records_blocks.specs.Cells.{Word, link, Cells, same_ptr, words_at, word_at, put_word}
 use Rattle.ss_records_blocks.specs.Links.{hooked, Slots}
-use Rattle.ss_records_words.specs.Links.{OfMember, OfOwner, Grounds}
+use Rattle.ss_records_words.specs.Links.{IsOfMember, IsOfOwner, AreSlotsApart}
 use Rattle.ss_records_blocks.proofs.Numbers.{same_ptr_refl}
 use Rattle.ss_records_blocks.proofs.Same.{same, differs, by_same}
 use Rattle.ss_records_blocks.proofs.Puts.{words_put, ptr_differs, length_put, word_with, put_other}
@@ -15,22 +15,22 @@ put_here at cs x y k v apart room = by_same x y
     (λ e q. rw (words_put cs (at x) k v (at y), e, subst (λ z. same_ptr (at x) (at z) ≡ true) q (same_ptr_refl (at x)), word_with (words_at cs (at y)) k v k room, same k) refl)
     (λ e n. rw (words_put cs (at x) k v (at y), e, ptr_differs (at x) (at y) (λ q. n (apart q))) refl)
 
-pub of_next : (w : Slots) → OfMember w w.next
+pub of_next : (w : Slots) → IsOfMember w w.next
 of_next w = inl refl
 
-pub of_prev : (w : Slots) → OfMember w w.prev
+pub of_prev : (w : Slots) → IsOfMember w w.prev
 of_prev w = inr (inl refl)
 
-pub of_owner : (w : Slots) → OfMember w w.owner
+pub of_owner : (w : Slots) → IsOfMember w w.owner
 of_owner w = inr (inr refl)
 
-pub of_first : (w : Slots) → OfOwner w w.first
+pub of_first : (w : Slots) → IsOfOwner w w.first
 of_first w = inl refl
 
-pub of_last : (w : Slots) → OfOwner w w.last
+pub of_last : (w : Slots) → IsOfOwner w w.last
 of_last w = inr (inl refl)
 
-pub of_count : (w : Slots) → OfOwner w w.count
+pub of_count : (w : Slots) → IsOfOwner w w.count
 of_count w = inr (inr refl)
 
 -- ds is cs once i is hooked to a, or to the first word of o, and then j to b, or to the last word of o
@@ -44,7 +44,7 @@ pub record Hooked (w : Slots) (cs ds : Cells) (at home : ℕ → Ptr) (alive own
   pub room : (q : Ptr) → length (words_at ds q) ≡ length (words_at cs q)
 
 -- the hooks at blocks of the same lengths as those of `cs`
-module _ (w : Slots) (cs c1 : Cells) (at home : ℕ → Ptr) (alive owns : ℕ → Type 0) (g : Grounds w cs at home alive owns) (o a b : ℕ) (i j : Ptr) (len1 : (q : Ptr) → length (words_at c1 q) ≡ length (words_at cs q)) (lo : owns o) (la : (a ≡ 0 → ⊥) → alive a) (lb : (b ≡ 0 → ⊥) → alive b) where
+module _ (w : Slots) (cs c1 : Cells) (at home : ℕ → Ptr) (alive owns : ℕ → Type 0) (g : AreSlotsApart w cs at home alive owns) (o a b : ℕ) (i j : Ptr) (len1 : (q : Ptr) → length (words_at c1 q) ≡ length (words_at cs q)) (lo : owns o) (la : (a ≡ 0 → ⊥) → alive a) (lb : (b ≡ 0 → ⊥) → alive b) where
   abbrev c2 : Cells
   c2 = hooked (a == 0) c1 (home o) w.first (at a) w.next i
 
@@ -57,20 +57,20 @@ module _ (w : Slots) (cs c1 : Cells) (at home : ℕ → Ptr) (alive owns : ℕ �
   len3 : (q : Ptr) → length (words_at c3 q) ≡ length (words_at c2 q)
   len3 q = elim (b == 0) as (λ t. length (words_at (hooked t c2 (home o) w.last (at b) w.prev j) q) ≡ length (words_at c2 q)) [ true ↦ length_put c2 (home o) w.last (link j) q | false ↦ length_put c2 (at b) w.prev (link j) q ]
 
-  member_room : (y k : ℕ) → alive y → OfMember w k → k < length (words_at c1 (at y))
+  member_room : (y k : ℕ) → alive y → IsOfMember w k → k < length (words_at c1 (at y))
   member_room y k h m = subst (λ n. k < n) (sym (len1 (at y))) (g.member_room y k h m)
 
-  owner_room : (p k : ℕ) → owns p → OfOwner w k → k < length (words_at c1 (home p))
+  owner_room : (p k : ℕ) → owns p → IsOfOwner w k → k < length (words_at c1 (home p))
   owner_room p k h m = subst (λ n. k < n) (sym (len1 (home p))) (g.owner_room p k h m)
 
   -- words of members
-  m3 : (y k : ℕ) → alive y → OfMember w k → (w.prev ≡ k → ⊥) → word_at c3 (at y) k ≡ word_at c2 (at y) k
+  m3 : (y k : ℕ) → alive y → IsOfMember w k → (w.prev ≡ k → ⊥) → word_at c3 (at y) k ≡ word_at c2 (at y) k
   m3 y k h m ne = (elim (b == 0) as (λ t. word_at (hooked t c2 (home o) w.last (at b) w.prev j) (at y) k ≡ word_at c2 (at y) k) [
     | true ↦ put_other c2 (home o) w.last (link j) (at y) k (λ d e. g.crossed y o k w.last h lo m (of_last w) (sym d) (sym e))
     | false ↦ put_other c2 (at b) w.prev (link j) (at y) k (λ d e. ne e)
   ])
 
-  m2 : (y k : ℕ) → alive y → OfMember w k → (w.next ≡ k → ⊥) → word_at c2 (at y) k ≡ word_at c1 (at y) k
+  m2 : (y k : ℕ) → alive y → IsOfMember w k → (w.next ≡ k → ⊥) → word_at c2 (at y) k ≡ word_at c1 (at y) k
   m2 y k h m ne = (elim (a == 0) as (λ t. word_at (hooked t c1 (home o) w.first (at a) w.next i) (at y) k ≡ word_at c1 (at y) k) [
     | true ↦ put_other c1 (home o) w.first (link i) (at y) k (λ d e. g.crossed y o k w.first h lo m (of_first w) (sym d) (sym e))
     | false ↦ put_other c1 (at a) w.next (link i) (at y) k (λ d e. ne e)
@@ -87,12 +87,12 @@ module _ (w : Slots) (cs c1 : Cells) (at home : ℕ → Ptr) (alive owns : ℕ �
       (λ e q. rw e (put_here at c2 b y w.prev (link j) (g.members_apart b y (lb q) h) (subst (λ n. w.prev < n) (sym (len2 (at y))) (member_room y w.prev h (of_prev w)))))
 
   -- words of owners
-  home_a : (p k : ℕ) → owns p → OfOwner w k → (w.first ≡ k → ⊥) → word_at c2 (home p) k ≡ word_at c1 (home p) k
+  home_a : (p k : ℕ) → owns p → IsOfOwner w k → (w.first ≡ k → ⊥) → word_at c2 (home p) k ≡ word_at c1 (home p) k
   home_a p k h m ne = by_same a 0
       (λ e q. rw e (put_other c1 (home o) w.first (link i) (home p) k (λ d f. ne f)))
       (λ e q. rw e (put_other c1 (at a) w.next (link i) (home p) k (λ d f. g.crossed a p w.next k (la q) h (of_next w) m d f)))
 
-  home_b : (p k : ℕ) → owns p → OfOwner w k → (w.last ≡ k → ⊥) → word_at c3 (home p) k ≡ word_at c2 (home p) k
+  home_b : (p k : ℕ) → owns p → IsOfOwner w k → (w.last ≡ k → ⊥) → word_at c3 (home p) k ≡ word_at c2 (home p) k
   home_b p k h m ne = by_same b 0
       (λ e q. rw e (put_other c2 (home o) w.last (link j) (home p) k (λ d f. ne f)))
       (λ e q. rw e (put_other c2 (at b) w.prev (link j) (home p) k (λ d f. g.crossed b p w.prev k (lb q) h (of_prev w) m d f)))

@@ -13,7 +13,7 @@ use Rattle.ss_records_words.specs.Reading.{record_of, records_at}
 use Rattle.ss_records_words.specs.Places.{Made, Directory}
 use Rattle.ss_records_blocks.specs.Places.{row_in}
 use Rattle.ss_records_words.specs.Kept.{IsPermanent, state_of, place_or, indexed_place}
-use Rattle.ss_records_entities.specs.Parts.{IsKept, state, places, Found}
+use Rattle.ss_records_entities.specs.Parts.{IsKept, state, places, IsEntityPlace}
 use Rattle.ss_records_entities.proofs.Keeps.{read_place}
 
 pub of_permanent : (st : State) (k : ClassKind) (c : ℕ) (x : ℤ) → IsPermanent k → entity_of_kind st k c x ≡ indexed st c x
@@ -57,12 +57,12 @@ module _ (r : Records) (K : IsKept r) (c : ℕ) (x : ℤ) (kind : IsPermanent (k
   by_index : entity_in (state r) c x ≡ read_place r.layout r.blocks.cells (indexed_place (row_in (slice_get (places r).classes c)) x)
   by_index = of_permanent (state r) (kind_of r.layout c) c x kind ∙ indexed_is r.layout r.blocks.cells (places r) r.notes.lists c x
 
-  found_at : (p : BlockPlace) → indexed_place (row_in (slice_get (places r).classes c)) x ≡ Ok p → Found r c x p
+  found_at : (p : BlockPlace) → indexed_place (row_in (slice_get (places r).classes c)) x ≡ Ok p → IsEntityPlace r c x p
   found_at p h =
       let a = at_index (row_in (slice_get (places r).classes c)) x p h in
       let o = of_row (slice_get (places r).classes c) a.0 p a.2 in
       record { index = a.0; is = a.1; entry = inr (c, o.0, o.1, o.2); class = (K.made c o.0 o.1).class a.0 p o.2; entity = by_index ∙ ap (read_place r.layout r.blocks.cells) h }
 
-  pub find_indexed : (v : Result BlockPlace FaultKind) → v ≡ indexed_place (row_in (slice_get (places r).classes c)) x → MatchResult v (λ p. Found r c x p) (λ e. entity_in (state r) c x ≡ Err e)
+  pub find_indexed : (v : Result BlockPlace FaultKind) → v ≡ indexed_place (row_in (slice_get (places r).classes c)) x → MatchResult v (λ p. IsEntityPlace r c x p) (λ e. entity_in (state r) c x ≡ Err e)
   find_indexed (Ok p) h = found_at p (sym h)
   find_indexed (Err e) h = by_index ∙ ap (read_place r.layout r.blocks.cells) (sym h)

@@ -12,11 +12,11 @@ use Rattle.ss_records_blocks.specs.Cells.{number, Cells, IsNumber, words_at, wor
 use Rattle.ss_world.specs.State.{Record, Members, issued_record, numbered_record, and_then, of_class, of_notice, notice, is_notice, kind_of}
 use Rattle.ss_records_words.specs.Reading.{plain, class_in_words, record_of, record_at, records_at}
 use Rattle.ss_records_blocks.specs.Writes.{IsWrittenAt}
-use Rattle.ss_records_words.specs.Kept.{Kept, IsPermanent, Formed, MadeOf, state_of, issued_place, numbered_place}
+use Rattle.ss_records_words.specs.Kept.{ArePartsKept, IsPermanent, AreFormed, AreOfClass, state_of, issued_place, numbered_place}
 use Rattle.ss_records_blocks.specs.Places.{Numbers}
-use Rattle.ss_records_words.specs.Places.{Made, Directory, IsMade, Lists, class_at_place}
+use Rattle.ss_records_words.specs.Places.{Made, Directory, IsMade, IsListedAt, class_at_place}
 use Rattle.ss_records_words.specs.Shape.{links_start}
-use Rattle.ss_records_words.specs.Slotted.{OfName}
+use Rattle.ss_records_words.specs.Slotted.{IsOfName}
 use Rattle.ss_records_blocks.proofs.Puts.{by_ptr}
 use Rattle.ss_records_words.proofs.Disjoint.{above_head}
 use Rattle.ss_records_entities.proofs.NamesKept.{names_same}
@@ -93,8 +93,8 @@ made_set l cs ds (z ∷ zs) zero ps i v m e o = let here : z ≡ Some ps = cc in
 made_set l cs ds (None ∷ zs) (suc c) ps i v m e o = ap (λ rs. None ∷ rs) (made_set l cs ds zs c ps i v m e (λ b qs h n. o (suc b) qs h (λ k. n (omega (arith, k)))))
 made_set l cs ds (Some rs ∷ zs) (suc c) ps i v m e o = λ t. Some (row_same l cs ds rs (λ j q h. o zero rs refl (λ n. absurd (omega (arith, n))) j q h) t) ∷ made_set l cs ds zs c ps i v m e (λ b qs h n. o (suc b) qs h (λ k. n (omega (arith, k)))) t
 
-module _ (l : Layout) (cs : Cells) (sys : Ptr) (d : Directory) (ms : List Members) (K : Kept l cs sys d ms) where
-  pub formed_there : (x : ℤ) (p : BlockPlace) → numbered_place d.numbers x ≡ Ok p → (n : ℕ) × Formed l (class_at_place cs p) n (words_at cs p.at)
+module _ (l : Layout) (cs : Cells) (sys : Ptr) (d : Directory) (ms : List Members) (K : ArePartsKept l cs sys d ms) where
+  pub formed_there : (x : ℤ) (p : BlockPlace) → numbered_place d.numbers x ≡ Ok p → (n : ℕ) × AreFormed l (class_at_place cs p) n (words_at cs p.at)
   formed_there x p h = let t = there d.numbers x p h in (suc t.0, K.formed t.0 p (inl t.2))
 
   pub class_number : (x : ℤ) (p : BlockPlace) → numbered_place d.numbers x ≡ Ok p → IsNumber (word_at cs p.at 0)
@@ -128,20 +128,20 @@ module _ (l : Layout) (cs : Cells) (sys : Ptr) (d : Directory) (ms : List Member
   notice_none x e h = ap (λ r. and_then r (of_notice l)) (numbered_is l cs d ms x ∙ ap (read_place l cs) h)
 
   -- only the block of an entry is written, and keeps its class and its form
-  module _ (ds : Cells) (i : ℕ) (p : BlockPlace) (g : Lists d i p) (w : IsWrittenAt cs ds p.at) (same_class : class_at_place ds p ≡ class_at_place cs p) (f : Formed l (class_at_place cs p) (suc i) (words_at ds p.at)) (links : (k : ℕ) → links_start l (class_at_place cs p) ≤ k → word_at ds p.at k ≡ word_at cs p.at k) where
-    entries : (j : ℕ) (q : BlockPlace) → Lists d j q → {P : Type 0} → ((i ≡ j) → (p.at ≡ q.at) → P) → ((p.at ≡ q.at → ⊥) → P) → P
+  module _ (ds : Cells) (i : ℕ) (p : BlockPlace) (g : IsListedAt d i p) (w : IsWrittenAt cs ds p.at) (same_class : class_at_place ds p ≡ class_at_place cs p) (f : AreFormed l (class_at_place cs p) (suc i) (words_at ds p.at)) (links : (k : ℕ) → links_start l (class_at_place cs p) ≤ k → word_at ds p.at k ≡ word_at cs p.at k) where
+    entries : (j : ℕ) (q : BlockPlace) → IsListedAt d j q → {P : Type 0} → ((i ≡ j) → (p.at ≡ q.at) → P) → ((p.at ≡ q.at → ⊥) → P) → P
     entries j q h {P} here other = by_ptr p.at q.at (λ e k. here (K.apart i j p q g h k) k) (λ e n. other n)
 
     abbrev class_in : Ptr → ℕ
     class_in r = class_in_words (words_at ds r)
 
-    pub class_kept : (j : ℕ) (q : BlockPlace) → Lists d j q → class_at_place ds q ≡ class_at_place cs q
+    pub class_kept : (j : ℕ) (q : BlockPlace) → IsListedAt d j q → class_at_place ds q ≡ class_at_place cs q
     class_kept j q h = entries j q h (λ k e. ap class_in (sym e) ∙ same_class ∙ ap (λ (r : Ptr). class_in_words (words_at cs r)) e) (λ n. ap class_in_words (w.others q.at n))
 
-    made_kept : (c : ℕ) (ps : List BlockPlace) → slice_get d.classes c ≡ Some (Some ps) → MadeOf l ds c ps
+    made_kept : (c : ℕ) (ps : List BlockPlace) → slice_get d.classes c ≡ Some (Some ps) → AreOfClass l ds c ps
     made_kept c ps e = let m = K.made c ps e in record { permanent = m.permanent; class = λ j q h. class_kept j q (inr (c, ps, e, h)) ∙ m.class j q h; few = m.few }
 
-    pub kept_written : Kept l ds sys d ms
+    pub kept_written : ArePartsKept l ds sys d ms
     kept_written = record {
       small = K.small;
       issued = K.issued;
@@ -151,19 +151,19 @@ module _ (l : Layout) (cs : Cells) (sys : Ptr) (d : Directory) (ms : List Member
       kinds = λ j q h k. K.kinds j q h (subst (λ c. IsPermanent (kind_of l c)) (class_kept j q (inl h)) k);
       made = made_kept;
       classes = λ j q h. subst (λ c. c < length l.classes) (sym (class_kept j q h)) (K.classes j q h);
-      formed = λ j q h. subst (λ c. Formed l c (suc j) (words_at ds q.at)) (sym (class_kept j q h)) (entries j q h {P = Formed l (class_at_place cs q) (suc j) (words_at ds q.at)}
-          (λ k e. subst (λ (r : Ptr). Formed l (class_in_words (words_at cs r)) (suc j) (words_at ds r)) e (subst (λ n. Formed l (class_at_place cs p) (suc n) (words_at ds p.at)) k f))
-          (λ n. subst (λ us. Formed l (class_at_place cs q) (suc j) us) (sym (w.others q.at n)) (K.formed j q h)));
+      formed = λ j q h. subst (λ c. AreFormed l c (suc j) (words_at ds q.at)) (sym (class_kept j q h)) (entries j q h {P = AreFormed l (class_at_place cs q) (suc j) (words_at ds q.at)}
+          (λ k e. subst (λ (r : Ptr). AreFormed l (class_in_words (words_at cs r)) (suc j) (words_at ds r)) e (subst (λ n. AreFormed l (class_at_place cs p) (suc n) (words_at ds p.at)) k f))
+          (λ n. subst (λ us. AreFormed l (class_at_place cs q) (suc j) us) (sym (w.others q.at n)) (K.formed j q h)));
       apart = K.apart;
       off_system = K.off_system;
       counted = w.count ∙ K.counted;
       names = λ s t h. names_same l cs sys d ms K ds class_kept s t h (λ q k o. by_ptr p.at q
-          (λ e z. subst (λ r. word_at ds r k ≡ word_at cs r k) z (links k (at_least (links_start l (class_at_place cs p)) k (λ small. above_head l cs sys d ms K s t h i p k g small (subst (λ r. OfName l cs sys d s t r k) (sym z) o)))))
+          (λ e z. subst (λ r. word_at ds r k ≡ word_at cs r k) z (links k (at_least (links_start l (class_at_place cs p)) k (λ small. above_head l cs sys d ms K s t h i p k g small (subst (λ r. IsOfName l cs sys d s t r k) (sym z) o)))))
           (λ e n. ap (λ us. word_of us k) (w.others q n)));
     }
 
     -- what is read at the other entries
-    read_other : (j : ℕ) (q : BlockPlace) → Lists d j q → (p.at ≡ q.at → ⊥) → record_of l (words_at ds q.at) ≡ record_of l (words_at cs q.at)
+    read_other : (j : ℕ) (q : BlockPlace) → IsListedAt d j q → (p.at ≡ q.at → ⊥) → record_of l (words_at ds q.at) ≡ record_of l (words_at cs q.at)
     read_other j q h n = ap (record_of l) (w.others q.at n)
 
     -- the entry of a creation number

@@ -11,9 +11,9 @@ use Rattle.ss_world.specs.State.{Members, members_of, owner_of, is_filed}
 use Rattle.ss_world.specs.Sets.{member_in, owner_in, member_class, owner_kind, follower, precursor, members_by, companions}
 use Rattle.ss_records_words.specs.Reading.{plain}
 use Rattle.ss_records_words.specs.Places.{Directory, listing, entity_at, owner_at}
-use Rattle.ss_records_words.specs.Kept.{Kept}
-use Rattle.ss_world.specs.Lists.{head0, last_or, succ, pred_from, In, NotIn}
-use Rattle.ss_records_blocks.specs.Links.{Leads}
+use Rattle.ss_records_words.specs.Kept.{ArePartsKept}
+use Rattle.ss_world.specs.Lists.{head0, last_or, succ, pred_from, IsInList, IsNotInList}
+use Rattle.ss_records_blocks.specs.Links.{HasLink}
 use Rattle.ss_records_words.specs.Slotted.{member_base, owner_base, IsEntityOf, MayOwn}
 use Rattle.ss_records_blocks.proofs.Same.{by_same}
 use Rattle.ss_records_blocks.proofs.Entries.{get_inside, get_there}
@@ -42,7 +42,7 @@ pub record To (cs : Cells) (at : ℕ → Ptr) (p : Ptr) (k n : ℕ) : Type 0 whe
   pub small : n < 2 ^ 62
 
 module _ (cs : Cells) (at : ℕ → Ptr) (p : Ptr) (k n : ℕ) (h : To cs at p k n) where
-  pub leads : Leads cs p k
+  pub leads : HasLink cs p k
   leads = record { to = at n; n = n; word = h.word; there = h.there }
 
   pub is_link : IsLink (word_at cs p k)
@@ -55,7 +55,7 @@ module _ (cs : Cells) (at : ℕ → Ptr) (p : Ptr) (k n : ℕ) (h : To cs at p k
     pub its_number : (v : ℕ) → word_at cs q 1 ≡ number v → v ≡ n
     its_number v e = ap plain (sym e ∙ (λ i. word_at cs (at_target i) 1) ∙ h.there)
 
-module _ (l : Layout) (cs : Cells) (sys : Ptr) (d : Directory) (ms : List Members) (K : Kept l cs sys d ms) (s : ℕ) (inside : s < length l.sets) where
+module _ (l : Layout) (cs : Cells) (sys : Ptr) (d : Directory) (ms : List Members) (K : ArePartsKept l cs sys d ms) (s : ℕ) (inside : s < length l.sets) where
   abbrev f : ℕ → List ℕ
   f = members_of ms s
 
@@ -88,7 +88,7 @@ module _ (l : Layout) (cs : Cells) (sys : Ptr) (d : Directory) (ms : List Member
   small_of c n (inl e) = omega (arith, e)
   small_of c n (inr h) = let a = entry_of cs d c n h in let i = get_inside (listing d c) a.0 (Some a.1) a.3 in omega (arith, i, a.2, not_many l cs sys d ms K c)
 
-  pub zero_or : (o n : ℕ) → (n ≡ 0) ⊎ In n (f o) → (n ≡ 0) ⊎ IsEntityOf cs d t.member n
+  pub zero_or : (o n : ℕ) → (n ≡ 0) ⊎ IsInList n (f o) → (n ≡ 0) ⊎ IsEntityOf cs d t.member n
   zero_or o n h = elim h as (λ _. (n ≡ 0) ⊎ IsEntityOf cs d t.member n) [ inl e ↦ inl e | inr i ↦ inr ((K.names s t g).members o n i).0 ]
 
   to_member : (p : Ptr) (k n : ℕ) → word_at cs p k ≡ link (at n) → (n ≡ 0) ⊎ IsEntityOf cs d t.member n → To cs at p k n
@@ -142,7 +142,7 @@ module _ (l : Layout) (cs : Cells) (sys : Ptr) (d : Directory) (ms : List Member
     number_is = (λ i. word_at cs (its_block i) 1) ∙ number_at l cs sys d ms K t.member x (inr is)
 
     -- where x is in the set of o
-    module _ (o : ℕ) (h : In x (f o)) where
+    module _ (o : ℕ) (h : IsInList x (f o)) where
       pub next_to : To cs at p b (succ x (f o))
       next_to = to_member p b (succ x (f o)) ((λ i. word_at cs (its_block i) (base t g i)) ∙ (K.names s t g).next o x h) (zero_or o (succ x (f o)) (succ_is x (f o) h))
 
@@ -160,7 +160,7 @@ module _ (l : Layout) (cs : Cells) (sys : Ptr) (d : Directory) (ms : List Member
       prev_differs = pred_differs 0 x (f o) h ((K.names s t g).distinct o) positive
 
     -- where x is in no set of the name
-    module _ (out : (o : ℕ) → NotIn x (f o)) where
+    module _ (out : (o : ℕ) → IsNotInList x (f o)) where
       pub next_self : To cs at p b x
       next_self = to_member p b x ((λ i. word_at cs (its_block i) (base t g i)) ∙ ((K.names s t g).unfiled x is positive out).0) (inr is)
 
@@ -175,7 +175,7 @@ module _ (l : Layout) (cs : Cells) (sys : Ptr) (d : Directory) (ms : List Member
       pub to : ℕ
       pub leads_to : To cs at p k to
       pub out : to ≡ x → owner_of ms s x ≡ None
-      pub in_one : (to ≡ x → ⊥) → (o : ℕ) × (owner_of ms s x ≡ Some o) × (In x (f o)) × (to ≡ of (f o))
+      pub in_one : (to ≡ x → ⊥) → (o : ℕ) × (owner_of ms s x ≡ Some o) × (IsInList x (f o)) × (to ≡ of (f o))
 
     pub next_beside : Beside b (succ x)
     next_beside = elim (filed_or_not ms s x) as (λ _. Beside b (succ x)) [
@@ -223,8 +223,8 @@ module _ (l : Layout) (cs : Cells) (sys : Ptr) (d : Directory) (ms : List Member
         clash z = cc
 
     -- the set that has x
-    pub in_which : is_filed ms s x ≡ true → (o : ℕ) × (owner_of ms s x ≡ Some o) × (In x (f o))
-    in_which e = elim (filed_or_not ms s x) as (λ _. (o : ℕ) × (owner_of ms s x ≡ Some o) × (In x (f o))) [
+    pub in_which : is_filed ms s x ≡ true → (o : ℕ) × (owner_of ms s x ≡ Some o) × (IsInList x (f o))
+    in_which e = elim (filed_or_not ms s x) as (λ _. (o : ℕ) × (owner_of ms s x ≡ Some o) × (IsInList x (f o))) [
       | inl a ↦ a
       | inr a ↦ absurd (clash (sym (ap is_some a.0) ∙ e))
     ] where

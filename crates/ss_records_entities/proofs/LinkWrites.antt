@@ -3,11 +3,11 @@ use Rattle.std.proofs.Common.{◌≡◌, ℕ, ◌+◌, ◌<◌, cond, ◌==◌, 
 use denote.RawPtr.{Ptr}
 use Rattle.ss_records_blocks.specs.Cells.{counter, link, Cells, words_at, word_at, put_word}
 use Rattle.ss_records_blocks.specs.Links.{hooked, Slots, linked_in}
-use Rattle.ss_records_words.specs.Links.{words_of, Linked, OfMember, OfOwner, Grounds}
+use Rattle.ss_records_words.specs.Links.{words_of, IsLinkedIn, IsOfMember, IsOfOwner, AreSlotsApart}
 use Rattle.ss_records_blocks.proofs.Puts.{length_put, put_other}
 use Rattle.ss_records_entities.proofs.Hooks.{put_here, of_next, of_prev, of_owner, of_first, of_last, of_count, Hooked, hooks}
 
-module _ (w : Slots) (cs : Cells) (at home : ℕ → Ptr) (alive owns : ℕ → Type 0) (g : Grounds w cs at home alive owns) (o a x b n : ℕ) (lo : owns o) (lx : alive x) (la : (a ≡ 0 → ⊥) → alive a) (lb : (b ≡ 0 → ⊥) → alive b) where
+module _ (w : Slots) (cs : Cells) (at home : ℕ → Ptr) (alive owns : ℕ → Type 0) (g : AreSlotsApart w cs at home alive owns) (o a x b n : ℕ) (lo : owns o) (lx : alive x) (la : (a ≡ 0 → ⊥) → alive a) (lb : (b ≡ 0 → ⊥) → alive b) where
   abbrev c1 : Cells
   c1 = put_word cs (at x) w.next (link (at b))
 
@@ -33,21 +33,21 @@ module _ (w : Slots) (cs : Cells) (at home : ℕ → Ptr) (alive owns : ℕ → 
   hooks_are = hooks w cs c3 at home alive owns g o a b (at x) (at x) len3 lo la lb
 
   -- words of members, which the count of the owner leaves
-  m6 : (y k : ℕ) → alive y → OfMember w k → word_at ds (at y) k ≡ word_at c5 (at y) k
+  m6 : (y k : ℕ) → alive y → IsOfMember w k → word_at ds (at y) k ≡ word_at c5 (at y) k
   m6 y k h m = put_other c5 (home o) w.count (counter (n + 1)) (at y) k (λ e i. g.crossed y o k w.count h lo m (of_count w) (sym e) (sym i))
 
   -- words of owners: the writes at members leave them
-  o3 : (p k : ℕ) → owns p → OfOwner w k → word_at c3 (home p) k ≡ word_at cs (home p) k
+  o3 : (p k : ℕ) → owns p → IsOfOwner w k → word_at c3 (home p) k ≡ word_at cs (home p) k
   o3 p k h m = put_other c2 (at x) w.owner (link (home o)) (home p) k (λ e i. g.crossed x p w.owner k lx h (of_owner w) m e i)
       ∙ put_other c1 (at x) w.prev (link (at a)) (home p) k (λ e i. g.crossed x p w.prev k lx h (of_prev w) m e i) ∙ put_other cs (at x) w.next (link (at b)) (home p) k (λ e i. g.crossed x p w.next k lx h (of_next w) m e i)
 
-  room1 : (y k : ℕ) → alive y → OfMember w k → k < length (words_at c1 (at y))
+  room1 : (y k : ℕ) → alive y → IsOfMember w k → k < length (words_at c1 (at y))
   room1 y k h m = subst (λ z. k < z) (sym (length_put cs (at x) w.next (link (at b)) (at y))) (g.member_room y k h m)
 
-  room2 : (y k : ℕ) → alive y → OfMember w k → k < length (words_at c2 (at y))
+  room2 : (y k : ℕ) → alive y → IsOfMember w k → k < length (words_at c2 (at y))
   room2 y k h m = subst (λ z. k < z) (sym (length_put c1 (at x) w.prev (link (at a)) (at y))) (room1 y k h m)
 
-  pub any_linked_is : Linked (words_of w cs at home) (words_of w ds at home) at home alive owns o a x b n
+  pub any_linked_is : IsLinkedIn (words_of w cs at home) (words_of w ds at home) at home alive owns o a x b n
   any_linked_is = record {
     next = λ y h pos. m6 y w.next h (of_next w) ∙ hooks_are.next y h pos ∙ ap (λ v. cond (a == y) (link (at x)) v)
         (put_other c2 (at x) w.owner (link (home o)) (at y) w.next (λ e i. g.next_owner (sym i)) ∙ put_other c1 (at x) w.prev (link (at a)) (at y) w.next (λ e i. g.next_prev (sym i))

@@ -11,9 +11,9 @@ use Rattle.ss_world.specs.State.{Members, not_made as unmade, living_numbers, ma
 use Rattle.ss_records_words.specs.Shape.{block_words}
 use Rattle.ss_records_words.specs.Reading.{class_in_words, record_of, record_at, records_at}
 use Rattle.ss_records_blocks.specs.Places.{row_in, Numbers, living_count}
-use Rattle.ss_records_words.specs.Kept.{Kept, Small, RowsHeld, state_of}
-use Rattle.ss_records_words.specs.Places.{Made, Directory, lying, IsMade, Lists, permanent_count}
-use Rattle.ss_records_words.specs.Laid.{LaidSystem}
+use Rattle.ss_records_words.specs.Kept.{ArePartsKept, IsSmall, AreRowsHeld, state_of}
+use Rattle.ss_records_words.specs.Places.{Made, Directory, lying, IsMade, IsListedAt, permanent_count}
+use Rattle.ss_records_words.specs.Laid.{IsSystemLaid}
 use Rattle.ss_records_blocks.specs.Pages.{in_page}
 use Rattle.ss_records_blocks.proofs.Puts.{words_new, words_without, length-blanks}
 use Rattle.ss_records_blocks.proofs.Count.{blocks_without}
@@ -52,7 +52,7 @@ length_none : (n : ℕ) → length (replicate {A = Option (List BlockPlace)} n N
 length_none zero = refl
 length_none (suc n) = ap suc (length_none n)
 
-none_listed : (n i : ℕ) (p : BlockPlace) → Lists (lying [] (replicate n None)) i p → ⊥
+none_listed : (n i : ℕ) (p : BlockPlace) → IsListedAt (lying [] (replicate n None)) i p → ⊥
 none_listed n i p (inl h) = cc
 none_listed n i p (inr h) = nothing_made n h.0 h.1 h.2
 
@@ -61,7 +61,7 @@ pub none_made : (l : Layout) (cs : Cells) (cl : List ClassLayout) → map (recor
 none_made l cs [] = refl
 none_made l cs (k ∷ ks) = ap (λ rs. None ∷ rs) (none_made l cs ks)
 
-pub kept_first : (l : Layout) (ds : Cells) (q : BlockPlace) (w : ℕ) → Small l → w ≡ block_words l System → LaidSystem l ((q.at, blanks w) ∷ []) ds q.at → Kept l ds q.at (lying [] (replicate (length l.classes) None)) []
+pub kept_first : (l : Layout) (ds : Cells) (q : BlockPlace) (w : ℕ) → IsSmall l → w ≡ block_words l System → IsSystemLaid l ((q.at, blanks w) ∷ []) ds q.at → ArePartsKept l ds q.at (lying [] (replicate (length l.classes) None)) []
 kept_first l ds q w small size laid = record {
   small = small;
   issued = omega arith;
@@ -112,7 +112,7 @@ pub nothing_left : (cs : Cells) (p : Ptr) → length cs ≡ 1 → 0 < length (wo
 nothing_left cs p h k = nothing (without_block cs p) (omega (arith, blocks_without cs p k, h))
 
 -- the blocks of the permanent entities, where the others were given back
-pub rows_held : (l : Layout) (cs bs : Cells) (sys : Ptr) (d : Directory) (ms : List Members) → Kept l cs sys d ms → ((i : ℕ) (p : BlockPlace) → IsMade d.classes i p → words_at bs p.at ≡ words_at cs p.at) → length bs ≡ permanent_count d.classes + 1 → RowsHeld l bs sys d.classes
+pub rows_held : (l : Layout) (cs bs : Cells) (sys : Ptr) (d : Directory) (ms : List Members) → ArePartsKept l cs sys d ms → ((i : ℕ) (p : BlockPlace) → IsMade d.classes i p → words_at bs p.at ≡ words_at cs p.at) → length bs ≡ permanent_count d.classes + 1 → AreRowsHeld l bs sys d.classes
 rows_held l cs bs sys d ms K same count = record {
   width = K.width;
   size = λ c i ps p m h. let x : IsMade d.classes i p = (c, ps, m, h) in ap length (same i p x) ∙ (K.formed i p (inr x)).size ∙ ap (λ b. block_words l (Class b)) ((K.made c ps m).class i p h);
@@ -157,7 +157,7 @@ left_past cs bs sys d i n m e none h = record {
 }
 
 -- one more block of a number is given back
-module _ (l : Layout) (cs bs : Cells) (sys : Ptr) (d : Directory) (ms : List Members) (K : Kept l cs sys d ms) (i : ℕ) (p : BlockPlace) (g : slice_get d.numbers i ≡ Some (Some p)) (kept : (j : ℕ) (q : BlockPlace) → i ≤ j → slice_get d.numbers j ≡ Some (Some q) → words_at bs q.at ≡ words_at cs q.at) where
+module _ (l : Layout) (cs bs : Cells) (sys : Ptr) (d : Directory) (ms : List Members) (K : ArePartsKept l cs sys d ms) (i : ℕ) (p : BlockPlace) (g : slice_get d.numbers i ≡ Some (Some p)) (kept : (j : ℕ) (q : BlockPlace) → i ≤ j → slice_get d.numbers j ≡ Some (Some q) → words_at bs q.at ≡ words_at cs q.at) where
   pub still_here : words_at bs p.at ≡ words_at cs p.at
   still_here = kept i p (omega arith) g
 

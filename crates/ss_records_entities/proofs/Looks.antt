@@ -12,11 +12,11 @@ use Rattle.ss_records_blocks.specs.declared.links.EntityBlock.{EntityBlock}
 use Rattle.ss_records_blocks.specs.Cells.{number, counter, link, IsCounter, word_at}
 use Rattle.ss_world.specs.State.{State, and_then, members_of, owner_of, is_filed}
 use Rattle.ss_world.specs.Sets.{joiner, owner, as_number, companions, follower, precursor, first_in, last_in, count_in, next_in, previous_in, owner_of_member}
-use Rattle.ss_world.specs.Lists.{head0, last_or, succ, pred_from, In}
+use Rattle.ss_world.specs.Lists.{head0, last_or, succ, pred_from, IsInList}
 use Rattle.ss_records_words.specs.Places.{entity_at, owner_at}
-use Rattle.ss_records_blocks.specs.Links.{Leads}
+use Rattle.ss_records_blocks.specs.Links.{HasLink}
 use Rattle.ss_records_words.specs.Slotted.{member_base, owner_base}
-use Rattle.ss_records_entities.specs.Parts.{IsKept, state, places, Owns, Joins}
+use Rattle.ss_records_entities.specs.Parts.{IsKept, state, places, IsOwnerBlock, CanJoin}
 use Rattle.ss_records_blocks.proofs.Same.{differs, by_same}
 use Rattle.ss_records_blocks.proofs.Entries.{get_there}
 use Rattle.ss_records_entities.proofs.Leading.{To, leads, its_number, first_to, last_to, is_counter, count_is, count_small, Beside, next_beside, prev_beside, owner_to, filed_is, next_value, prev_value, in_which}
@@ -42,17 +42,17 @@ module _ (r : Records) (K : IsKept r) (s : ℕ) (inside : s < length r.layout.se
   home = owner_at r.system.at (places r) (get_there r.layout.sets s inside).0.owner
 
   -- the words of an owner
-  module _ (e : EntityBlock) (h : Owns r s e) (b : ℕ) (base : (u : SetLayout) → slice_get r.layout.sets s ≡ Some u → b ≡ owner_base r.layout s u) where
+  module _ (e : EntityBlock) (h : IsOwnerBlock r s e) (b : ℕ) (base : (u : SetLayout) → slice_get r.layout.sets s ≡ Some u → b ≡ owner_base r.layout s u) where
     first_there : To r.blocks.cells at e.place.at b (head0 (members_of r.notes.lists s e.number))
     first_there = first_to r.layout r.blocks.cells r.system.at (places r) r.notes.lists K s inside e.place.at e.number h.lies h.may b base
 
     last_there : To r.blocks.cells at e.place.at (b + 1) (last_or 0 (members_of r.notes.lists s e.number))
     last_there = last_to r.layout r.blocks.cells r.system.at (places r) r.notes.lists K s inside e.place.at e.number h.lies h.may b base
 
-    pub first_leads : Leads r.blocks.cells e.place.at b
+    pub first_leads : HasLink r.blocks.cells e.place.at b
     first_leads = leads r.blocks.cells at e.place.at b _ first_there
 
-    pub last_leads : Leads r.blocks.cells e.place.at (b + 1)
+    pub last_leads : HasLink r.blocks.cells e.place.at (b + 1)
     last_leads = leads r.blocks.cells at e.place.at (b + 1) _ last_there
 
     pub counts : IsCounter (word_at r.blocks.cells e.place.at (b + 2))
@@ -79,7 +79,7 @@ module _ (r : Records) (K : IsKept r) (s : ℕ) (inside : s < length r.layout.se
       last_value x o = ap Ok (as_whole q.number _ last_number last_there.small) ∙ sym (ap (λ z. and_then z (λ n. Ok (pos (last_or 0 (members_of r.notes.lists s n))))) o)
 
     -- at either end
-    pub end_leads : (last : Bool) → Leads r.blocks.cells e.place.at (if last then b + 1 else b)
+    pub end_leads : (last : Bool) → HasLink r.blocks.cells e.place.at (if last then b + 1 else b)
     end_leads false = first_leads
     end_leads true = last_leads
 
@@ -107,7 +107,7 @@ module _ (r : Records) (K : IsKept r) (s : ℕ) (inside : s < length r.layout.se
       how_many_value x o = ap Ok (as_whole v _ how_many few_enough) ∙ sym (ap (λ z. and_then z (λ n. Ok (pos (length (members_of r.notes.lists s n))))) o)
 
   -- the words of a member
-  module _ (e : EntityBlock) (h : Joins r s e) (b : ℕ) (base : (u : SetLayout) → slice_get r.layout.sets s ≡ Some u → b ≡ member_base r.layout s u) where
+  module _ (e : EntityBlock) (h : CanJoin r s e) (b : ℕ) (base : (u : SetLayout) → slice_get r.layout.sets s ≡ Some u → b ≡ member_base r.layout s u) where
     abbrev Near : ℕ → (List ℕ → ℕ) → Type 0
     Near k of = Beside r.layout r.blocks.cells r.system.at (places r) r.notes.lists K s inside e.place.at e.number h.lies h.is b base k of
 
@@ -117,10 +117,10 @@ module _ (r : Records) (K : IsKept r) (s : ℕ) (inside : s < length r.layout.se
     prev_near : Near (b + 1) (pred_from 0 e.number)
     prev_near = prev_beside r.layout r.blocks.cells r.system.at (places r) r.notes.lists K s inside e.place.at e.number h.lies h.is b base
 
-    pub next_leads : Leads r.blocks.cells e.place.at b
+    pub next_leads : HasLink r.blocks.cells e.place.at b
     next_leads = leads r.blocks.cells at e.place.at b _ next_near.leads_to
 
-    pub prev_leads : Leads r.blocks.cells e.place.at (b + 1)
+    pub prev_leads : HasLink r.blocks.cells e.place.at (b + 1)
     prev_leads = leads r.blocks.cells at e.place.at (b + 1) _ prev_near.leads_to
 
     module _ (q : EntityBlock) (w : word_at r.blocks.cells e.place.at b ≡ link q.place.at) (v : word_at r.blocks.cells q.place.at 1 ≡ number q.number) where
@@ -163,13 +163,13 @@ module _ (r : Records) (K : IsKept r) (s : ℕ) (inside : s < length r.layout.se
 
     -- where it is in a set
     module _ (filed : is_filed r.notes.lists s e.number ≡ true) where
-      in_it : (o : ℕ) × (owner_of r.notes.lists s e.number ≡ Some o) × (In e.number (members_of r.notes.lists s o))
+      in_it : (o : ℕ) × (owner_of r.notes.lists s e.number ≡ Some o) × (IsInList e.number (members_of r.notes.lists s o))
       in_it = in_which r.layout r.blocks.cells r.system.at (places r) r.notes.lists K s inside e.place.at e.number h.lies h.is b base filed
 
       owner_there : To r.blocks.cells home e.place.at (b + 2) in_it.0
       owner_there = owner_to r.layout r.blocks.cells r.system.at (places r) r.notes.lists K s inside e.place.at e.number h.lies h.is b base in_it.0 in_it.2
 
-      pub owner_leads : Leads r.blocks.cells e.place.at (b + 2)
+      pub owner_leads : HasLink r.blocks.cells e.place.at (b + 2)
       owner_leads = leads r.blocks.cells home e.place.at (b + 2) _ owner_there
 
       module _ (q : EntityBlock) (w : word_at r.blocks.cells e.place.at (b + 2) ≡ link q.place.at) (v : word_at r.blocks.cells q.place.at 1 ≡ number q.number) where
@@ -180,8 +180,8 @@ module _ (r : Records) (K : IsKept r) (s : ℕ) (inside : s < length r.layout.se
         owner_small = subst (λ n. n < 4611686018427387904) (sym owner_number) owner_there.small
 
         -- the set in which it is
-        pub owner_has : (owner_of r.notes.lists s e.number ≡ Some q.number) × (In e.number (members_of r.notes.lists s q.number))
-        owner_has = (in_it.1 ∙ ap Some (sym owner_number), subst (λ o. In e.number (members_of r.notes.lists s o)) (sym owner_number) in_it.2)
+        pub owner_has : (owner_of r.notes.lists s e.number ≡ Some q.number) × (IsInList e.number (members_of r.notes.lists s q.number))
+        owner_has = (in_it.1 ∙ ap Some (sym owner_number), subst (λ o. IsInList e.number (members_of r.notes.lists s o)) (sym owner_number) in_it.2)
 
         pub owner_value : (x : ℤ) → joiner (state r) s x ≡ Ok e.number → Ok (Some (cast_signed w64 q.number)) ≡ owner_of_member (state r) s x
         owner_value x o = ap (λ z. Ok (Some z)) (as_whole q.number q.number refl owner_small) ∙ sym (ap (λ z. and_then z (λ n. Ok (as_number (owner_of r.notes.lists s n)))) o ∙ ap (λ z. Ok (as_number z)) owner_has.0)

@@ -9,10 +9,10 @@ use Rattle.ss_records_blocks.specs.Cells.{Cells, words_at, word_of}
 use Rattle.ss_world.specs.State.{Record, Members, kind_of, first_record, with_made}
 use Rattle.ss_records_words.specs.Shape.{block_words}
 use Rattle.ss_records_words.specs.Reading.{plain, class_in_words, record_of, record_at, records_at}
-use Rattle.ss_records_words.specs.Places.{Made, Directory, lying, own_or, listing, IsMade, Lists, class_at_place, permanent_count}
-use Rattle.ss_records_words.specs.Kept.{Kept, Formed, MadeOf, IsPermanent, state_of}
-use Rattle.ss_records_blocks.specs.Writes.{NoneAt, ArePlaced, Unchanged}
-use Rattle.ss_records_words.specs.Laid.{Born, LaidTo}
+use Rattle.ss_records_words.specs.Places.{Made, Directory, lying, own_or, listing, IsMade, IsListedAt, class_at_place, permanent_count}
+use Rattle.ss_records_words.specs.Kept.{ArePartsKept, AreFormed, AreOfClass, IsPermanent, state_of}
+use Rattle.ss_records_blocks.specs.Writes.{HasNoneAt, ArePlaced, AreUnchanged}
+use Rattle.ss_records_words.specs.Laid.{IsBorn, AreLaidTo}
 use Rattle.ss_records_words.specs.Slotted.{IsEntityOf}
 use Rattle.ss_records_blocks.proofs.Same.{by_same}
 use Rattle.ss_records_words.proofs.Listing.{unmapped, listed}
@@ -67,19 +67,19 @@ rows_set l cs ds (m ∷ ms) (suc c) ps rs h e o = λ t. made_same l cs ds (m ∷
   first_made (zero, qs, g, k) = (zero, qs, g, k)
   first_made (suc b, qs, g, k) = cc
 
-module _ (l : Layout) (cs : Cells) (sys : Ptr) (d : Directory) (ms : List Members) (K : Kept l cs sys d ms) where
+module _ (l : Layout) (cs : Cells) (sys : Ptr) (d : Directory) (ms : List Members) (K : ArePartsKept l cs sys d ms) where
   -- blocks that no entity has are no matter
-  module _ (ds : Cells) (u : Unchanged cs ds) where
+  module _ (ds : Cells) (u : AreUnchanged cs ds) where
     some_words : (p : Ptr) (n : ℕ) → length (words_at cs p) ≡ n → 2 ≤ n → words_at cs p ≡ [] → ⊥
     some_words p n h low e = omega (arith, ap length e, h, low)
 
-    same_words : (i : ℕ) (p : BlockPlace) → Lists d i p → words_at ds p.at ≡ words_at cs p.at
+    same_words : (i : ℕ) (p : BlockPlace) → IsListedAt d i p → words_at ds p.at ≡ words_at cs p.at
     same_words i p h = u.words p.at (some_words p.at (block_words l (Class (class_at_place cs p))) (K.formed i p h).size (omega arith))
 
     same_system : words_at ds sys ≡ words_at cs sys
     same_system = u.words sys (some_words sys (block_words l System) K.system (omega arith))
 
-    pub kept_unchanged : Kept l ds sys d ms
+    pub kept_unchanged : ArePartsKept l ds sys d ms
     kept_unchanged = record {
       small = K.small;
       issued = K.issued;
@@ -89,7 +89,7 @@ module _ (l : Layout) (cs : Cells) (sys : Ptr) (d : Directory) (ms : List Member
       kinds = λ i p h. subst (λ us. IsPermanent (kind_of l (class_in_words us)) → ⊥) (sym (same_words i p (inl h))) (K.kinds i p h);
       made = λ c ps h. let m = K.made c ps h in record { permanent = m.permanent; class = λ i p x. ap class_in_words (same_words i p (inr (c, ps, h, x))) ∙ m.class i p x; few = m.few };
       classes = λ i p h. subst (λ us. class_in_words us < length l.classes) (sym (same_words i p h)) (K.classes i p h);
-      formed = λ i p h. subst (λ us. Formed l (class_in_words us) (suc i) us) (sym (same_words i p h)) (K.formed i p h);
+      formed = λ i p h. subst (λ us. AreFormed l (class_in_words us) (suc i) us) (sym (same_words i p h)) (K.formed i p h);
       apart = K.apart;
       off_system = K.off_system;
       counted = u.count ∙ K.counted;
@@ -109,14 +109,14 @@ module _ (l : Layout) (cs : Cells) (sys : Ptr) (d : Directory) (ms : List Member
   pub room_for_all : (n : ℕ) → n ≤ 2 ^ 20 → length cs + n < 2 ^ 64
   room_for_all n h = omega (arith, K.counted, K.issued, living_bound d.numbers, few_made l cs sys d ms K, h)
 
-  module _ (c : ℕ) (kind : IsPermanent (kind_of l c)) (inside : c < length l.classes) (free : slice_get d.classes c ≡ Some None) (bs ds : Cells) (w : ℕ) (ps : List BlockPlace) (placed : ArePlaced cs bs w ps) (laid : LaidTo l bs ds sys ps c (length ps)) (few : length ps ≤ 2 ^ 20) where
+  module _ (c : ℕ) (kind : IsPermanent (kind_of l c)) (inside : c < length l.classes) (free : slice_get d.classes c ≡ Some None) (bs ds : Cells) (w : ℕ) (ps : List BlockPlace) (placed : ArePlaced cs bs w ps) (laid : AreLaidTo l bs ds sys ps c (length ps)) (few : length ps ≤ 2 ^ 20) where
     abbrev e : Directory
     e = lying d.numbers (slice_set d.classes c (Some ps))
 
-    fresh_words : (q : Ptr) → NoneAt ps q → words_at ds q ≡ words_at cs q
+    fresh_words : (q : Ptr) → HasNoneAt ps q → words_at ds q ≡ words_at cs q
     fresh_words q n = laid.others q n ∙ placed.others q n
 
-    old : (i : ℕ) (p : BlockPlace) → Lists d i p → words_at ds p.at ≡ words_at cs p.at
+    old : (i : ℕ) (p : BlockPlace) → IsListedAt d i p → words_at ds p.at ≡ words_at cs p.at
     old i p h = fresh_words p.at (λ j q g z. off_entry l cs sys d ms K q.at (placed.fresh j q g) i p h z)
 
     old_system : words_at ds sys ≡ words_at cs sys
@@ -127,7 +127,7 @@ module _ (l : Layout) (cs : Cells) (sys : Ptr) (d : Directory) (ms : List Member
     inside_row (q ∷ qs) zero p h = omega arith
     inside_row (q ∷ qs) (suc i) p h = omega (arith, inside_row qs i p h)
 
-    born : (i : ℕ) (p : BlockPlace) → slice_get ps i ≡ Some p → Born l ds sys p.at c (suc i)
+    born : (i : ℕ) (p : BlockPlace) → slice_get ps i ≡ Some p → IsBorn l ds sys p.at c (suc i)
     born i p h = laid.laid i p h (inside_row ps i p h)
 
     new_class : (i : ℕ) (p : BlockPlace) → slice_get ps i ≡ Some p → class_at_place ds p ≡ c
@@ -136,7 +136,7 @@ module _ (l : Layout) (cs : Cells) (sys : Ptr) (d : Directory) (ms : List Member
     -- no entity is of the class yet
     none_yet : (n : ℕ) → IsEntityOf cs d c n → ⊥
     none_yet n h = let a = entry_of cs d c n h in by_entry a.0 a.1 a.4 (listed d c a.0 a.1 a.3) where
-      by_entry : (i : ℕ) (p : BlockPlace) → class_at_place cs p ≡ c → Lists d i p → ⊥
+      by_entry : (i : ℕ) (p : BlockPlace) → class_at_place cs p ≡ c → IsListedAt d i p → ⊥
       by_entry i p k (inl m) = K.kinds i p m (subst (λ b. IsPermanent (kind_of l b)) (sym k) kind)
       by_entry i p k (inr (b, qs, m, x)) = no_row (sym free ∙ subst (λ a. slice_get d.classes a ≡ Some (Some qs)) (sym ((K.made b qs m).class i p x) ∙ k) m)
 
@@ -145,7 +145,7 @@ module _ (l : Layout) (cs : Cells) (sys : Ptr) (d : Directory) (ms : List Member
         (λ t z. new z (some_row (sym (get_row_set d.classes c (Some ps) None free) ∙ ap (slice_get e.classes) z ∙ h)))
         (λ t n. was (sym (get_other_row d.classes c (Some ps) b n) ∙ h))
 
-    by_listed : {P : Type 0} (i : ℕ) (p : BlockPlace) → Lists e i p → (slice_get ps i ≡ Some p → P) → (Lists d i p → P) → P
+    by_listed : {P : Type 0} (i : ℕ) (p : BlockPlace) → IsListedAt e i p → (slice_get ps i ≡ Some p → P) → (IsListedAt d i p → P) → P
     by_listed {P} i p (inl h) new was = was (inl h)
     by_listed {P} i p (inr (b, qs, m, h)) new was = by_row b qs m (λ z y. new (subst (λ us. slice_get us i ≡ Some p) (sym y) h)) (λ x. was (inr (b, qs, x, h)))
 
@@ -156,10 +156,10 @@ module _ (l : Layout) (cs : Cells) (sys : Ptr) (d : Directory) (ms : List Member
     its_listing : listing e c ≡ map Some ps
     its_listing = ap (own_or d.numbers) (get_row_set d.classes c (Some ps) None free)
 
-    which : (b i : ℕ) (p : BlockPlace) → slice_get (listing e b) i ≡ Some (Some p) → class_at_place ds p ≡ b → (Born l ds sys p.at b (suc i) × (IsEntityOf cs d b (suc i) → ⊥)) ⊎ ((slice_get (listing d b) i ≡ Some (Some p)) × (words_at ds p.at ≡ words_at cs p.at))
+    which : (b i : ℕ) (p : BlockPlace) → slice_get (listing e b) i ≡ Some (Some p) → class_at_place ds p ≡ b → (IsBorn l ds sys p.at b (suc i) × (IsEntityOf cs d b (suc i) → ⊥)) ⊎ ((slice_get (listing d b) i ≡ Some (Some p)) × (words_at ds p.at ≡ words_at cs p.at))
     which b i p h k = by_same c b
         (λ t z. let g = unmapped ps i p (ap (λ us. slice_get us i) (sym its_listing ∙ ap (listing e) z) ∙ h) in
-        inl (subst (λ a. Born l ds sys p.at a (suc i) × (IsEntityOf cs d a (suc i) → ⊥)) z (born i p g, none_yet (suc i))))
+        inl (subst (λ a. IsBorn l ds sys p.at a (suc i) × (IsEntityOf cs d a (suc i) → ⊥)) z (born i p g, none_yet (suc i))))
         (λ t n. let was = sym (ap (λ us. slice_get us i) (other_listing b n)) ∙ h in inr (was, old i p (listed d b i p was)))
 
     still : (b i : ℕ) (p : BlockPlace) → slice_get (listing d b) i ≡ Some (Some p) → class_at_place cs p ≡ b → (slice_get (listing e b) i ≡ Some (Some p)) × (class_at_place ds p ≡ b)
@@ -167,7 +167,7 @@ module _ (l : Layout) (cs : Cells) (sys : Ptr) (d : Directory) (ms : List Member
         (λ t z. absurd (none_yet (suc i) (subst (λ a. IsEntityOf cs d a (suc i)) (sym z) (is_of cs d b i p h k))))
         (λ t n. (ap (λ us. slice_get us i) (other_listing b n) ∙ h, ap class_in_words (old i p (listed d b i p h)) ∙ k))
 
-    pub kept_made : Kept l ds sys e ms
+    pub kept_made : ArePartsKept l ds sys e ms
     kept_made = record {
       small = K.small;
       issued = K.issued;
@@ -176,14 +176,14 @@ module _ (l : Layout) (cs : Cells) (sys : Ptr) (d : Directory) (ms : List Member
       end = ap (λ us. word_of us 1) old_system ∙ K.end;
       kinds = λ i p h. subst (λ us. IsPermanent (kind_of l (class_in_words us)) → ⊥) (sym (old i p (inl h))) (K.kinds i p h);
       made = λ b qs h. by_row b qs h
-          (λ z y. subst (λ a. MadeOf l ds a qs) z (subst (MadeOf l ds c) y (record { permanent = kind; class = new_class; few = few })))
+          (λ z y. subst (λ a. AreOfClass l ds a qs) z (subst (AreOfClass l ds c) y (record { permanent = kind; class = new_class; few = few })))
           (λ x. let m = K.made b qs x in record { permanent = m.permanent; class = λ i p g. ap class_in_words (old i p (inr (b, qs, x, g))) ∙ m.class i p g; few = m.few });
       classes = λ i p h. by_listed i p h
           (λ x. subst (λ b. b < length l.classes) (sym (new_class i p x)) inside)
           (λ x. subst (λ us. class_in_words us < length l.classes) (sym (old i p x)) (K.classes i p x));
       formed = λ i p h. by_listed i p h
-          (λ x. subst (λ b. Formed l b (suc i) (words_at ds p.at)) (sym (new_class i p x)) (born_formed l ds sys p.at c (suc i) (born i p x)))
-          (λ x. subst (λ us. Formed l (class_in_words us) (suc i) us) (sym (old i p x)) (K.formed i p x));
+          (λ x. subst (λ b. AreFormed l b (suc i) (words_at ds p.at)) (sym (new_class i p x)) (born_formed l ds sys p.at c (suc i) (born i p x)))
+          (λ x. subst (λ us. AreFormed l (class_in_words us) (suc i) us) (sym (old i p x)) (K.formed i p x));
       apart = λ i j p q h k z. by_listed i p h
           (λ x. by_listed j q k (λ y. placed.apart i j p q x y z) (λ y. absurd (off_entry l cs sys d ms K p.at (placed.fresh i p x) j q y z)))
           (λ x. by_listed j q k (λ y. absurd (off_entry l cs sys d ms K q.at (placed.fresh j q y) i p x (sym z))) (λ y. K.apart i j p q x y z));

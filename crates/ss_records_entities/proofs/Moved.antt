@@ -3,8 +3,8 @@
 use Rattle.std.proofs.Common.{◌≡◌, ℕ, List, [], length, ◌⊎◌, inl, inr, sym, ap, subst, ◌∙◌}
 use denote.RawPtr.{Ptr}
 use Rattle.ss_records_blocks.specs.Cells.{counter, link}
-use Rattle.ss_world.specs.Lists.{head0, last_or, succ, pred_from, In, NotIn}
-use Rattle.ss_records_words.specs.Links.{Words, Shows}
+use Rattle.ss_world.specs.Lists.{head0, last_or, succ, pred_from, IsInList, IsNotInList}
+use Rattle.ss_records_words.specs.Links.{Words, AreShowing}
 use Rattle.ss_records_words.proofs.Splice.{head_is, last_is, succ_is, pred_is, not_and_in}
 
 module _ (m m' : Words) (at at' home home' : ℕ → Ptr) (alive alive' owns owns' : ℕ → Type 0) (f : ℕ → List ℕ) where
@@ -12,7 +12,7 @@ module _ (m m' : Words) (at at' home home' : ℕ → Ptr) (alive alive' owns own
   OldMember y = alive y × (at' y ≡ at y) × (m'.next y ≡ m.next y) × (m'.prev y ≡ m.prev y) × (m'.owner y ≡ m.owner y)
 
   abbrev pub NewMember : ℕ → Type 0
-  NewMember y = ((o : ℕ) → NotIn y (f o)) × (m'.next y ≡ link (at' y)) × (m'.prev y ≡ link (at' y)) × (m'.owner y ≡ link (at' y))
+  NewMember y = ((o : ℕ) → IsNotInList y (f o)) × (m'.next y ≡ link (at' y)) × (m'.prev y ≡ link (at' y)) × (m'.owner y ≡ link (at' y))
 
   abbrev pub OldOwner : ℕ → Type 0
   OldOwner o = owns o × (home' o ≡ home o) × (m'.first o ≡ m.first o) × (m'.last o ≡ m.last o) × (m'.count o ≡ m.count o)
@@ -20,22 +20,22 @@ module _ (m m' : Words) (at at' home home' : ℕ → Ptr) (alive alive' owns own
   abbrev pub NewOwner : ℕ → Type 0
   NewOwner o = (f o ≡ []) × (m'.first o ≡ link (at' 0)) × (m'.last o ≡ link (at' 0)) × (m'.count o ≡ counter 0)
 
-  module _ (s : Shows m at home alive owns f) (zero_at : at' 0 ≡ at 0) (member : (y : ℕ) → alive' y → OldMember y ⊎ NewMember y) (owner : (o : ℕ) → owns' o → OldOwner o ⊎ NewOwner o) (stays : (o y : ℕ) → In y (f o) → alive' y × owns' o) where
+  module _ (s : AreShowing m at home alive owns f) (zero_at : at' 0 ≡ at 0) (member : (y : ℕ) → alive' y → OldMember y ⊎ NewMember y) (owner : (o : ℕ) → owns' o → OldOwner o ⊎ NewOwner o) (stays : (o y : ℕ) → IsInList y (f o) → alive' y × owns' o) where
     -- a member is an old one, and so is the owner of one
-    old_member : (o y : ℕ) → In y (f o) → OldMember y
+    old_member : (o y : ℕ) → IsInList y (f o) → OldMember y
     old_member o y h = elim (member y (stays o y h).0) as (λ _. OldMember y) [ inl x ↦ x | inr x ↦ absurd (not_and_in y (f o) (x.0 o) h) ]
 
-    in_none : (o y : ℕ) → f o ≡ [] → In y (f o) → ⊥
-    in_none o y e h = subst (λ l. In y l) e h
+    in_none : (o y : ℕ) → f o ≡ [] → IsInList y (f o) → ⊥
+    in_none o y e h = subst (λ l. IsInList y l) e h
 
-    old_owner : (o y : ℕ) → In y (f o) → OldOwner o
+    old_owner : (o y : ℕ) → IsInList y (f o) → OldOwner o
     old_owner o y h = elim (owner o (stays o y h).1) as (λ _. OldOwner o) [ inl x ↦ x | inr x ↦ absurd (in_none o y x.0 h) ]
 
     -- a neighbour, or the end, lies where it lay
-    goes : (o n : ℕ) → (n ≡ 0) ⊎ In n (f o) → link (at n) ≡ link (at' n)
+    goes : (o n : ℕ) → (n ≡ 0) ⊎ IsInList n (f o) → link (at n) ≡ link (at' n)
     goes o n h = elim h as (λ _. link (at n) ≡ link (at' n)) [ inl e ↦ ap link (ap at e ∙ sym zero_at ∙ ap at' (sym e)) | inr k ↦ ap link (sym (old_member o n k).1) ]
 
-    pub shows_moved : Shows m' at' home' alive' owns' f
+    pub shows_moved : AreShowing m' at' home' alive' owns' f
     shows_moved = record {
       first = λ o h. elim (owner o h) as (λ _. m'.first o ≡ link (at' (head0 (f o)))) [ inl x ↦ x.2 ∙ s.first o x.0 ∙ goes o (head0 (f o)) (head_is (f o)) | inr x ↦ x.1 ∙ ap (λ l. link (at' (head0 l))) (sym x.0) ];
       last = λ o h. elim (owner o h) as (λ _. m'.last o ≡ link (at' (last_or 0 (f o)))) [ inl x ↦ x.3 ∙ s.last o x.0 ∙ goes o (last_or 0 (f o)) (last_is 0 (f o)) | inr x ↦ x.2 ∙ ap (λ l. link (at' (last_or 0 l))) (sym x.0) ];

@@ -11,19 +11,19 @@ use Rattle.ss_world.specs.State.{Members, members_of}
 use Rattle.ss_records_words.specs.Shape.{owned_start, block_words, count_before, owned_by}
 use Rattle.ss_records_words.specs.Reading.{class_in_words}
 use Rattle.ss_records_words.specs.Places.{Directory, listing, place_in_record, entity_at, owner_at, class_at_place}
-use Rattle.ss_records_words.specs.Kept.{Kept}
+use Rattle.ss_records_words.specs.Kept.{ArePartsKept}
 use Rattle.ss_records_blocks.specs.Writes.{owned_word, owned_from}
-use Rattle.ss_records_words.specs.Laid.{Born}
-use Rattle.ss_world.specs.Lists.{In}
+use Rattle.ss_records_words.specs.Laid.{IsBorn}
+use Rattle.ss_world.specs.Lists.{IsInList}
 use Rattle.ss_records_blocks.specs.Links.{Slots}
-use Rattle.ss_records_words.specs.Links.{Words, words_of, OfMember, OfOwner}
-use Rattle.ss_records_words.specs.Slotted.{slots_of, IsEntityOf, MayOwn, NameKept}
+use Rattle.ss_records_words.specs.Links.{Words, words_of, IsOfMember, IsOfOwner}
+use Rattle.ss_records_words.specs.Slotted.{slots_of, IsEntityOf, MayOwn, IsNameKept}
 use Rattle.ss_records_words.proofs.Splice.{not_in}
 use Rattle.ss_records_blocks.proofs.Fills.{owned_first, owned_last, owned_count}
 use Rattle.ss_records_entities.proofs.Moved.{OldMember, NewMember, OldOwner, NewOwner, shows_moved}
 use Rattle.ss_records_words.proofs.Disjoint.{member_inside, owner_inside, entry_of, is_of}
 
-pub empty : (l : List ℕ) → ((n : ℕ) → In n l → ⊥) → l ≡ []
+pub empty : (l : List ℕ) → ((n : ℕ) → IsInList n l → ⊥) → l ≡ []
 empty [] h = refl
 empty (z ∷ zs) h = absurd (h z (inl refl))
 
@@ -33,13 +33,13 @@ owned_words end start i =
     let a : start + 3 * i - start ≡ 3 * i = omega arith in let b : start + 3 * i + 1 - start ≡ 3 * i + 1 = omega arith in let c : start + 3 * i + 2 - start ≡ 3 * i + 2 = omega arith in
     (ap (owned_word end) a ∙ owned_first end i, ap (owned_word end) b ∙ owned_last end i, ap (owned_word end) c ∙ owned_count end i)
 
-module _ (l : Layout) (cs : Cells) (sys : Ptr) (d : Directory) (ms : List Members) (K : Kept l cs sys d ms) (s : ℕ) (t : SetLayout) (g : slice_get l.sets s ≡ Some t) where
+module _ (l : Layout) (cs : Cells) (sys : Ptr) (d : Directory) (ms : List Members) (K : ArePartsKept l cs sys d ms) (s : ℕ) (t : SetLayout) (g : slice_get l.sets s ≡ Some t) where
   abbrev f : ℕ → List ℕ
   f = members_of ms s
 
   -- the entity n of the class b is a new one
   abbrev pub Newborn : Cells → ℕ → ℕ → Ptr → Type 0
-  Newborn ds b n p = Born l ds sys p b n × (IsEntityOf cs d b n → ⊥)
+  Newborn ds b n p = IsBorn l ds sys p b n × (IsEntityOf cs d b n → ⊥)
 
   module _ (e : Directory) (ds : Cells) (words_sys : words_at ds sys ≡ words_at cs sys)
       (which : (b i : ℕ) (p : BlockPlace) → slice_get (listing e b) i ≡ Some (Some p) → class_at_place ds p ≡ b → Newborn ds b (suc i) p.at ⊎ ((slice_get (listing d b) i ≡ Some (Some p)) × (words_at ds p.at ≡ words_at cs p.at)))
@@ -87,7 +87,7 @@ module _ (l : Layout) (cs : Cells) (sys : Ptr) (d : Directory) (ms : List Member
       | inl x ↦ inr ((λ o. not_in y (f o) (λ j. x.1 ((K.names s t g).members o y j).0)), self x.0 w.next (inl refl), self x.0 w.prev (inr (inl refl)), self x.0 w.owner (inr (inr refl)))
       | inr x ↦ inl (x.0, x.1.0, x.1.1 w.next, x.1.1 w.prev, x.1.1 w.owner)
     ] where
-      self : Born l ds sys (at' y) t.member y → (k : ℕ) → OfMember w k → word_at ds (at' y) k ≡ link (at' y)
+      self : IsBorn l ds sys (at' y) t.member y → (k : ℕ) → IsOfMember w k → word_at ds (at' y) k ≡ link (at' y)
       self b k o = let r = member_inside l s t k g o in b.links k r.0 r.1
 
     -- the owners, by who they are
@@ -98,7 +98,7 @@ module _ (l : Layout) (cs : Cells) (sys : Ptr) (d : Directory) (ms : List Member
       | inr x ↦ inl x
     ]
 
-    new_owned : (n c k : ℕ) → t.owner ≡ Class c → Born l ds sys (home' n) c n → OfOwner w k → word_at ds (home' n) k ≡ owned_from sys (owned_start l t.owner) k
+    new_owned : (n c k : ℕ) → t.owner ≡ Class c → IsBorn l ds sys (home' n) c n → IsOfOwner w k → word_at ds (home' n) k ≡ owned_from sys (owned_start l t.owner) k
     new_owned n c k b x o =
         let r = owner_inside l s t k g o in
         x.owned k (subst (λ v. owned_start l v ≤ k) b r.0) (subst (λ v. k < block_words l v) b r.1) ∙ ap (λ v. owned_from sys (owned_start l v) k) (sym b)
@@ -115,6 +115,6 @@ module _ (l : Layout) (cs : Cells) (sys : Ptr) (d : Directory) (ms : List Member
     owner_still System n h = h
     owner_still (Class b) n h = still_of b n h
 
-    pub name_born : NameKept l ds sys e ms s t
+    pub name_born : IsNameKept l ds sys e ms s t
     name_born = shows_moved m m' at at' home home' (IsEntityOf cs d t.member) (IsEntityOf ds e t.member) (MayOwn cs d t.owner) (MayOwn ds e t.owner) f (K.names s t g) refl member owner
         (λ o y h. let k = (K.names s t g).members o y h in (still_of t.member y k.0, owner_still t.owner o k.2))

@@ -11,19 +11,19 @@ use Rattle.ss_world.specs.State.{Members, members_of}
 use Rattle.ss_records_words.specs.Shape.{owned_start, block_words, count_before, owned_by}
 use Rattle.ss_records_words.specs.Reading.{class_in_words}
 use Rattle.ss_records_words.specs.Places.{Directory, listing, place_in_record, entity_at, owner_at, class_at_place}
-use Rattle.ss_records_words.specs.Kept.{Kept}
+use Rattle.ss_records_words.specs.Kept.{ArePartsKept}
 use Rattle.ss_records_blocks.specs.Writes.{owned_from}
-use Rattle.ss_records_words.specs.Laid.{LaidSystem}
-use Rattle.ss_world.specs.Lists.{In, NotIn}
+use Rattle.ss_records_words.specs.Laid.{IsSystemLaid}
+use Rattle.ss_world.specs.Lists.{IsInList, IsNotInList}
 use Rattle.ss_records_blocks.specs.Links.{Slots}
-use Rattle.ss_records_words.specs.Links.{Words, words_of, OfOwner}
-use Rattle.ss_records_words.specs.Slotted.{owner_base, slots_of, IsEntityOf, MayOwn, NameKept}
+use Rattle.ss_records_words.specs.Links.{Words, words_of, IsOfOwner}
+use Rattle.ss_records_words.specs.Slotted.{owner_base, slots_of, IsEntityOf, MayOwn, IsNameKept}
 use Rattle.ss_records_words.proofs.Splice.{not_and_in}
 use Rattle.ss_records_entities.proofs.Moved.{shows_moved}
 use Rattle.ss_records_words.proofs.Disjoint.{owner_inside, entry_of, is_of}
 use Rattle.ss_records_entities.proofs.NamesCreated.{owned_words}
 
-module _ (l : Layout) (ds : Cells) (sys : Ptr) (bs : Cells) (laid : LaidSystem l bs ds sys) (d : Directory) (none : (c i : ℕ) (p : BlockPlace) → slice_get (listing d c) i ≡ Some (Some p) → ⊥) (s : ℕ) (t : SetLayout) (g : slice_get l.sets s ≡ Some t) where
+module _ (l : Layout) (ds : Cells) (sys : Ptr) (bs : Cells) (laid : IsSystemLaid l bs ds sys) (d : Directory) (none : (c i : ℕ) (p : BlockPlace) → slice_get (listing d c) i ≡ Some (Some p) → ⊥) (s : ℕ) (t : SetLayout) (g : slice_get l.sets s ≡ Some t) where
   none_of : (b n : ℕ) → IsEntityOf ds d b n → ⊥
   none_of b n h = let a = entry_of ds d b n h in none b a.0 a.1 a.3
 
@@ -34,7 +34,7 @@ module _ (l : Layout) (ds : Cells) (sys : Ptr) (bs : Cells) (laid : LaidSystem l
   the_end System u n h = (refl, refl)
   the_end (Class b) u n h = absurd (none_of b n h)
 
-  end_word : (n k : ℕ) → MayOwn ds d t.owner n → OfOwner w0 k → word_at ds (owner_at sys d t.owner n) k ≡ owned_from sys (owned_start l t.owner) k
+  end_word : (n k : ℕ) → MayOwn ds d t.owner n → IsOfOwner w0 k → word_at ds (owner_at sys d t.owner n) k ≡ owned_from sys (owned_start l t.owner) k
   end_word n k h o =
       let e = the_end t.owner refl n h in let r = owner_inside l s t k g o in
       (λ z. word_at ds (e.0 z) k) ∙ laid.owned k (subst (λ v. owned_start l v ≤ k) e.1 r.0) (subst (λ v. k < block_words l v) e.1 r.1) ∙ ap (λ v. owned_from sys (owned_start l v) k) (sym e.1)
@@ -42,7 +42,7 @@ module _ (l : Layout) (ds : Cells) (sys : Ptr) (bs : Cells) (laid : LaidSystem l
   abbrev v : (owned_from sys (owned_start l t.owner) (owner_base l s t) ≡ link sys) × (owned_from sys (owned_start l t.owner) (owner_base l s t + 1) ≡ link sys) × (owned_from sys (owned_start l t.owner) (owner_base l s t + 2) ≡ counter 0)
   v = owned_words sys (owned_start l t.owner) (count_before (owned_by t.owner) l.sets s)
 
-  pub name_first : NameKept l ds sys d [] s t
+  pub name_first : IsNameKept l ds sys d [] s t
   name_first = record {
     first = λ o h. end_word o w0.first h (inl refl) ∙ v.0;
     last = λ o h. end_word o w0.last h (inr (inl refl)) ∙ v.1;
@@ -56,9 +56,9 @@ module _ (l : Layout) (ds : Cells) (sys : Ptr) (bs : Cells) (laid : LaidSystem l
     sole = λ o p y h k. absurd h;
   }
 
-module _ (l : Layout) (cs : Cells) (sys : Ptr) (d : Directory) (ms : List Members) (K : Kept l cs sys d ms) (s : ℕ) (t : SetLayout) (g : slice_get l.sets s ≡ Some t)
+module _ (l : Layout) (cs : Cells) (sys : Ptr) (d : Directory) (ms : List Members) (K : ArePartsKept l cs sys d ms) (s : ℕ) (t : SetLayout) (g : slice_get l.sets s ≡ Some t)
     (ds : Cells) (e : Directory) (i : ℕ) (p : BlockPlace) (words_sys : words_at ds sys ≡ words_at cs sys)
-    (free : t.member ≡ class_at_place cs p → (o : ℕ) → NotIn (suc i) (members_of ms s o)) (owns : t.owner ≡ Class (class_at_place cs p) → members_of ms s (suc i) ≡ [])
+    (free : t.member ≡ class_at_place cs p → (o : ℕ) → IsNotInList (suc i) (members_of ms s o)) (owns : t.owner ≡ Class (class_at_place cs p) → members_of ms s (suc i) ≡ [])
     (entry : (b j : ℕ) (q : BlockPlace) → slice_get (listing e b) j ≡ Some (Some q) → (slice_get (listing d b) j ≡ Some (Some q)) × (words_at ds q.at ≡ words_at cs q.at))
     (other : (b j : ℕ) (q : BlockPlace) → slice_get (listing d b) j ≡ Some (Some q) → class_at_place cs q ≡ b → (j ≡ i → b ≡ class_at_place cs p → ⊥) → slice_get (listing e b) j ≡ Some (Some q)) where
   abbrev at : ℕ → Ptr
@@ -105,11 +105,11 @@ module _ (l : Layout) (cs : Cells) (sys : Ptr) (d : Directory) (ms : List Member
   owner_stays System n h not_it = h
   owner_stays (Class b) n h not_it = stays_entity b n h (λ x y. not_it x (ap Class y))
 
-  pub name_gone : NameKept l ds sys e ms s t
+  pub name_gone : IsNameKept l ds sys e ms s t
   name_gone = shows_moved m m' at at' home home' (IsEntityOf cs d t.member) (IsEntityOf ds e t.member) (MayOwn cs d t.owner) (MayOwn ds e t.owner) f (K.names s t g) refl
       (λ y h. let x = was t.member y h in inl (x.0, x.1, x.2 w.next, x.2 w.prev, x.2 w.owner))
       (λ o h. let x = owner_was t.owner o h in inl (x.0, x.1, x.2 w.first, x.2 w.last, x.2 w.count))
       (λ o y h. let k = (K.names s t g).members o y h in (
-        stays_entity t.member y k.0 (λ x b. not_and_in y (f o) (subst (λ n. NotIn n (f o)) (sym x) (free b o)) h),
-        owner_stays t.owner o k.2 (λ x b. subst (λ z. In y z) (subst (λ n. f n ≡ []) (sym x) (owns b)) h),
+        stays_entity t.member y k.0 (λ x b. not_and_in y (f o) (subst (λ n. IsNotInList n (f o)) (sym x) (free b o)) h),
+        owner_stays t.owner o k.2 (λ x b. subst (λ z. IsInList y z) (subst (λ n. f n ≡ []) (sym x) (owns b)) h),
       ))

@@ -8,16 +8,16 @@ use Rattle.ss_base.specs.declared.layout.Layout.{Layout}
 use Rattle.ss_records_blocks.specs.declared.store.BlockPlace.{BlockPlace}
 use Rattle.ss_records_blocks.specs.Cells.{Cells, word_at}
 use Rattle.ss_world.specs.State.{Members, members_of}
-use Rattle.ss_records_words.specs.Places.{Directory, Lists, entity_at, owner_at, class_at_place}
-use Rattle.ss_records_words.specs.Kept.{Kept}
+use Rattle.ss_records_words.specs.Places.{Directory, IsListedAt, entity_at, owner_at, class_at_place}
+use Rattle.ss_records_words.specs.Kept.{ArePartsKept}
 use Rattle.ss_records_words.specs.Links.{words_of}
-use Rattle.ss_records_words.specs.Slotted.{slots_of, IsEntityOf, MayOwn, NameKept, OfName}
+use Rattle.ss_records_words.specs.Slotted.{slots_of, IsEntityOf, MayOwn, IsNameKept, IsOfName}
 use Rattle.ss_records_entities.proofs.Moved.{shows_moved}
 use Rattle.ss_records_words.proofs.Listing.{listed}
 use Rattle.ss_records_words.proofs.Disjoint.{entry_of, is_of}
 
 -- classes that stay the same
-module _ (cs ds : Cells) (d : Directory) (classes : (j : ℕ) (q : BlockPlace) → Lists d j q → class_at_place ds q ≡ class_at_place cs q) where
+module _ (cs ds : Cells) (d : Directory) (classes : (j : ℕ) (q : BlockPlace) → IsListedAt d j q → class_at_place ds q ≡ class_at_place cs q) where
   pub of_back : (c n : ℕ) → IsEntityOf ds d c n → IsEntityOf cs d c n
   of_back c n h = let a = entry_of ds d c n h in subst (IsEntityOf cs d c) (sym a.2) (is_of cs d c a.0 a.1 a.3 (sym (classes a.0 a.1 (listed d c a.0 a.1 a.3)) ∙ a.4))
 
@@ -32,14 +32,14 @@ module _ (cs ds : Cells) (d : Directory) (classes : (j : ℕ) (q : BlockPlace) �
   own_on System n h = h
   own_on (Class c) n h = of_on c n h
 
-module _ (l : Layout) (cs : Cells) (sys : Ptr) (d : Directory) (ms : List Members) (K : Kept l cs sys d ms) (ds : Cells) (classes : (j : ℕ) (q : BlockPlace) → Lists d j q → class_at_place ds q ≡ class_at_place cs q) (s : ℕ) (t : SetLayout) (g : slice_get l.sets s ≡ Some t) where
+module _ (l : Layout) (cs : Cells) (sys : Ptr) (d : Directory) (ms : List Members) (K : ArePartsKept l cs sys d ms) (ds : Cells) (classes : (j : ℕ) (q : BlockPlace) → IsListedAt d j q → class_at_place ds q ≡ class_at_place cs q) (s : ℕ) (t : SetLayout) (g : slice_get l.sets s ≡ Some t) where
   abbrev at : ℕ → Ptr
   at = entity_at sys d t.member
 
   abbrev home : ℕ → Ptr
   home = owner_at sys d t.owner
 
-  pub names_same : ((q : Ptr) (k : ℕ) → OfName l cs sys d s t q k → word_at ds q k ≡ word_at cs q k) → NameKept l ds sys d ms s t
+  pub names_same : ((q : Ptr) (k : ℕ) → IsOfName l cs sys d s t q k → word_at ds q k ≡ word_at cs q k) → IsNameKept l ds sys d ms s t
   names_same words =
       let n = K.names s t g in
       shows_moved (words_of (slots_of l s t) cs at home) (words_of (slots_of l s t) ds at home) at at home home (IsEntityOf cs d t.member) (IsEntityOf ds d t.member) (MayOwn cs d t.owner) (MayOwn ds d t.owner) (members_of ms s) n refl

@@ -15,11 +15,11 @@ use Rattle.ss_records_blocks.specs.Cells.{number, link, word_at}
 use Rattle.ss_world.specs.State.{State, Record, and_then, entity_of_kind, kind_of, number_in, members_of, contains, owner_of, is_filed}
 use Rattle.ss_world.specs.Sets.{joiner, owner, owner_in, owner_kind, owner_by, next_in, previous_in}
 use Rattle.ss_world.specs.Disciplines.{member_test}
-use Rattle.ss_world.specs.Lists.{In}
-use Rattle.ss_records_blocks.specs.Links.{Leads}
+use Rattle.ss_world.specs.Lists.{IsInList}
+use Rattle.ss_records_blocks.specs.Links.{HasLink}
 use Rattle.ss_records_words.specs.Places.{entity_at}
 use Rattle.ss_records_words.specs.Slotted.{member_base, MayOwn}
-use Rattle.ss_records_entities.specs.Parts.{IsKept, state, places, Joins}
+use Rattle.ss_records_entities.specs.Parts.{IsKept, state, places, CanJoin}
 use Rattle.ss_records_blocks.proofs.Same.{differs, false_is_not_true}
 use Rattle.ss_records_blocks.proofs.Entries.{get_there}
 use Rattle.ss_records_words.proofs.Filed.{contains_in, in_contains}
@@ -52,11 +52,11 @@ its_test : (b : Bool) → (let r : Result Bool FaultKind = Ok b in r ≡ Ok true
 its_test b h = cc
 
 -- the owner of a set that has a member
-owner_with : (st : State) (s : ℕ) (o : ℤ) (n : ℕ) (z : Result ℕ FaultKind) → owner st s o ≡ z → and_then z (λ m. Ok (contains (members_of st.lists s m) n)) ≡ Ok true → (m : ℕ) × (owner st s o ≡ Ok m) × In n (members_of st.lists s m)
+owner_with : (st : State) (s : ℕ) (o : ℤ) (n : ℕ) (z : Result ℕ FaultKind) → owner st s o ≡ z → and_then z (λ m. Ok (contains (members_of st.lists s m) n)) ≡ Ok true → (m : ℕ) × (owner st s o ≡ Ok m) × IsInList n (members_of st.lists s m)
 owner_with st s o n (Ok m) e h = (m, e, contains_in (members_of st.lists s m) n (its_test (contains (members_of st.lists s m) n) h))
 owner_with st s o n (Err f) e h = absurd cc
 
-has_owner : (st : State) (s : ℕ) (o x : ℤ) (n : ℕ) → joiner st s x ≡ Ok n → member_test st s o x ≡ Ok true → (m : ℕ) × (owner st s o ≡ Ok m) × In n (members_of st.lists s m)
+has_owner : (st : State) (s : ℕ) (o x : ℤ) (n : ℕ) → joiner st s x ≡ Ok n → member_test st s o x ≡ Ok true → (m : ℕ) × (owner st s o ≡ Ok m) × IsInList n (members_of st.lists s m)
 has_owner st s o x n j h = owner_with st s o n (owner st s o) refl (sym (ap (λ z. and_then z (λ k. and_then (owner st s o) (λ m. Ok (contains (members_of st.lists s m) k)))) j) ∙ h)
 
 no_member : (st : State) (s : ℕ) (o x : ℤ) (f : FaultKind) (z : Result ℕ FaultKind) → z ≡ Err f → and_then z (λ k. and_then (owner st s o) (λ m. Ok (contains (members_of st.lists s m) k))) ≡ Ok true → ⊥
@@ -69,7 +69,7 @@ not_member st s o x f e h = no_member st s o x f (joiner st s x) e h
 
 module _ (r : Records) (K : IsKept r) (s : ℕ) (inside : s < length r.layout.sets) where
   -- whoever has a member is an owner
-  pub owner_is : (o x : ℕ) → In x (members_of r.notes.lists s o) → owner (state r) s (pos o) ≡ Ok o
+  pub owner_is : (o x : ℕ) → IsInList x (members_of r.notes.lists s o) → owner (state r) s (pos o) ≡ Ok o
   owner_is o x h =
       let y = get_there r.layout.sets s inside in
       ap (λ u. owner_by (state r) u (pos o)) (ap owner_in y.1) ∙ by_owner y.0.owner ((K.names s y.0 y.1).members o x h).2 where
@@ -87,8 +87,8 @@ module _ (r : Records) (K : IsKept r) (s : ℕ) (inside : s < length r.layout.se
   pub in_none : (o x : ℤ) (n : ℕ) → is_filed r.notes.lists s n ≡ false → joiner (state r) s x ≡ Ok n → member_test (state r) s o x ≡ Ok true → ⊥
   in_none o x n free j t = let a = sole_owner o x n j t in false_is_not_true (sym free ∙ ap is_some a.2)
 
-  module _ (e : EntityBlock) (h : Joins r s e) (b : ℕ) (base : (u : SetLayout) → slice_get r.layout.sets s ≡ Some u → b ≡ member_base r.layout s u) where
-    pub beside_leads : (reverse : Bool) → Leads r.blocks.cells e.place.at (if reverse then b + 1 else b)
+  module _ (e : EntityBlock) (h : CanJoin r s e) (b : ℕ) (base : (u : SetLayout) → slice_get r.layout.sets s ≡ Some u → b ≡ member_base r.layout s u) where
+    pub beside_leads : (reverse : Bool) → HasLink r.blocks.cells e.place.at (if reverse then b + 1 else b)
     beside_leads false = next_leads r K s inside e h b base
     beside_leads true = prev_leads r K s inside e h b base
 

@@ -6,7 +6,7 @@ use Rattle.ss_records_blocks.specs.declared.store.BlockPlace.{BlockPlace}
 use Rattle.ss_records_blocks.specs.declared.links.EntityBlock.{EntityBlock}
 use Rattle.ss_records_entities.specs.declared.records.Records.{Records}
 use Rattle.ss_records_blocks.specs.Cells.{number, link, word_at}
-use Rattle.ss_records_blocks.specs.Links.{Leads}
+use Rattle.ss_records_blocks.specs.Links.{HasLink}
 use Rattle.ss_world.specs.State.{is_filed}
 use Rattle.ss_records_words.specs.Places.{entity_at, class_at_place}
 use Rattle.ss_records_words.specs.Slotted.{member_base}
@@ -16,7 +16,7 @@ use Rattle.ss_records_words.proofs.Tied.{its_next, next_word, filed_value}
 
 -- where its links of a set begin at the word k
 module _ (r : Records) (K : IsKept r) (s : ℕ) (t : SetLayout) (g : slice_get r.layout.sets s ≡ Some t) (i : ℕ) (p : BlockPlace) (e : slice_get r.directory.places i ≡ Some (Some p)) (class : class_at_place r.blocks.cells p ≡ t.member) (k : ℕ) (base : k ≡ member_base r.layout s t) where
-  pub leads_on : Leads r.blocks.cells p.at k
+  pub leads_on : HasLink r.blocks.cells p.at k
   leads_on =
       let n = its_next r.layout r.blocks.cells r.system.at (places r) r.notes.lists K s t g i p (inl e) class in
       record {

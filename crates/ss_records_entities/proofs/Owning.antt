@@ -15,12 +15,12 @@ use Rattle.ss_records_words.specs.Reading.{plain}
 use Rattle.ss_records_words.specs.Places.{listing, place_in_record, entity_at, owner_at}
 use Rattle.ss_records_words.specs.Slotted.{IsEntityOf, MayOwn}
 use Rattle.ss_records_words.specs.Plans.{is_system}
-use Rattle.ss_records_entities.specs.Parts.{IsKept, state, places, Found, Owns, Joins}
+use Rattle.ss_records_entities.specs.Parts.{IsKept, state, places, IsEntityPlace, IsOwnerBlock, CanJoin}
 use Rattle.ss_records_words.proofs.Listing.{lists_place}
 use Rattle.ss_records_words.proofs.Disjoint.{is_of}
 use Rattle.ss_records_blocks.proofs.Entries.{get_there}
 
-module _ (r : Records) (K : IsKept r) (c : ℕ) (x : ℤ) (p : BlockPlace) (f : Found r c x p) where
+module _ (r : Records) (K : IsKept r) (c : ℕ) (x : ℤ) (p : BlockPlace) (f : IsEntityPlace r c x p) where
   pub has_number : IsNumber (word_at r.blocks.cells p.at 1)
   has_number = subst IsNumber (sym (K.formed f.index p f.entry).number) tt
 
@@ -41,19 +41,19 @@ module _ (r : Records) (K : IsKept r) (c : ℕ) (x : ℤ) (p : BlockPlace) (f : 
     named = ap number_in f.is ∙ sym number_of
 
     module _ (s : ℕ) where
-      pub joins_found : member_class r.layout s ≡ c → Joins r s (record { place = p; number = n }) × (joiner (state r) s x ≡ Ok n)
+      pub joins_found : member_class r.layout s ≡ c → CanJoin r s (record { place = p; number = n }) × (joiner (state r) s x ≡ Ok n)
       joins_found e = (
         record { lies = subst (λ b. p.at ≡ entity_at r.system.at (places r) b n) (sym e) lies_at; is = subst (λ b. IsEntityOf r.blocks.cells (places r) b n) (sym e) is_it },
         ap (λ b. and_then (entity_in (state r) b x) (λ q. Ok (number_in x))) e ∙ ap (λ z. and_then z (λ q. Ok (number_in x))) f.entity ∙ ap Ok named,
       )
 
-      pub owns_found : owner_kind r.layout s ≡ Class c → Owns r s (record { place = p; number = n }) × (owner (state r) s x ≡ Ok n)
+      pub owns_found : owner_kind r.layout s ≡ Class c → IsOwnerBlock r s (record { place = p; number = n }) × (owner (state r) s x ≡ Ok n)
       owns_found e = (
         record { lies = subst (λ u. p.at ≡ owner_at r.system.at (places r) u n) (sym e) lies_at; may = subst (λ u. MayOwn r.blocks.cells (places r) u n) (sym e) is_it },
         ap (λ u. owner_by (state r) u x) e ∙ ap (λ z. and_then z (λ q. Ok (number_in x))) f.entity ∙ ap Ok named,
       )
 
-pub system_owns : (r : Records) (s : ℕ) (x : ℤ) → owner_kind r.layout s ≡ System → Owns r s (record { place = r.system; number = 0 }) × (owner (state r) s x ≡ Ok 0)
+pub system_owns : (r : Records) (s : ℕ) (x : ℤ) → owner_kind r.layout s ≡ System → IsOwnerBlock r s (record { place = r.system; number = 0 }) × (owner (state r) s x ≡ Ok 0)
 system_owns r s x e = (record { lies = subst (λ u. r.system.at ≡ owner_at r.system.at (places r) u 0) (sym e) refl; may = subst (λ u. MayOwn r.blocks.cells (places r) u 0) (sym e) refl }, ap (λ u. owner_by (state r) u x) e)
 
 pub not_joiner : (st : State) (s : ℕ) (c : ℕ) (x : ℤ) (e : FaultKind) → member_class st.layout s ≡ c → entity_in st c x ≡ Err e → joiner st s x ≡ Err e

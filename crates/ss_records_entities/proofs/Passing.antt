@@ -16,12 +16,12 @@ use Rattle.ss_records_blocks.specs.Cells.{number, link, IsNumber, words_at, word
 use Rattle.ss_world.specs.State.{members_of, modes_of, entity_in, value_in}
 use Rattle.ss_world.specs.Sets.{member_class}
 use Rattle.ss_world.specs.Disciplines.{value_or_zero}
-use Rattle.ss_world.specs.Lists.{head0, succ, In, Distinct}
+use Rattle.ss_world.specs.Lists.{head0, succ, IsInList, AreAllDistinct}
 use Rattle.ss_records_words.specs.Reading.{record_of, value_at}
-use Rattle.ss_records_words.specs.Places.{Lists, place_in_record, entity_at, class_at_place}
-use Rattle.ss_records_blocks.specs.Links.{Leads}
+use Rattle.ss_records_words.specs.Places.{IsListedAt, place_in_record, entity_at, class_at_place}
+use Rattle.ss_records_blocks.specs.Links.{HasLink}
 use Rattle.ss_records_words.specs.Slotted.{member_base}
-use Rattle.ss_records_entities.specs.Parts.{IsKept, state, places, Lies, Joins, Between}
+use Rattle.ss_records_entities.specs.Parts.{IsKept, state, places, IsInPlace, CanJoin, AreNeighbours}
 use Rattle.ss_records_entities.specs.Passing.{ranks_past, first_where, before_where}
 use Rattle.ss_records_blocks.proofs.Entries.{get_there}
 use Rattle.ss_records_words.proofs.Listing.{listed}
@@ -45,16 +45,16 @@ headed : (l : List ℕ) (n : ℕ) → n ≡ head0 l → (n ≡ 0 → ⊥) → (z
 headed [] n e h = absurd (h e)
 headed (z ∷ zs) n e h = (zs, ap (λ y. y ∷ zs) (sym e))
 
-none_first : (t : ℕ → Bool) (l : List ℕ) (n : ℕ) → n ≡ head0 l → n ≡ 0 → ((x : ℕ) → In x l → 0 ≡ x → ⊥) → l ≡ []
+none_first : (t : ℕ → Bool) (l : List ℕ) (n : ℕ) → n ≡ head0 l → n ≡ 0 → ((x : ℕ) → IsInList x l → 0 ≡ x → ⊥) → l ≡ []
 none_first t [] n e h some = refl
 none_first t (z ∷ zs) n e h some = absurd (some z (inl refl) (sym h ∙ e))
 
 -- the value of an attribute of a member
-module _ (r : Records) (K : IsKept r) (s : ℕ) (q : EntityBlock) (j : Joins r s q) (f k : ℕ) (start : k ≡ 2 + 2 * f) (m : Mode) (mode : slice_get (modes_of r.layout (member_class r.layout s)) f ≡ Some m) where
+module _ (r : Records) (K : IsKept r) (s : ℕ) (q : EntityBlock) (j : CanJoin r s q) (f k : ℕ) (start : k ≡ 2 + 2 * f) (m : Mode) (mode : slice_get (modes_of r.layout (member_class r.layout s)) f ≡ Some m) where
   abbrev class : ℕ
   class = member_class r.layout s
 
-  place : (i : ℕ) × (p : BlockPlace) × (q.number ≡ suc i) × (Lists (places r) i p) × (class_at_place r.blocks.cells p ≡ class) × (q.place.at ≡ p.at)
+  place : (i : ℕ) × (p : BlockPlace) × (q.number ≡ suc i) × (IsListedAt (places r) i p) × (class_at_place r.blocks.cells p ≡ class) × (q.place.at ≡ p.at)
   place = let a = entry_of r.blocks.cells (places r) class q.number j.is in
       (a.0, a.1, a.2, listed (places r) class a.0 a.1 a.3, a.4, j.lies ∙ ap (entity_at r.system.at (places r) class) a.2 ∙ ap place_in_record a.3)
 
@@ -73,7 +73,7 @@ module _ (r : Records) (K : IsKept r) (s : ℕ) (q : EntityBlock) (j : Joins r s
   its_value = is_value r.layout r.blocks.cells r.system.at (places r) r.notes.lists K place.0 place.1 place.3 class place.4 (pos q.number) (ap pos place.2) its_entity f k start m mode
       ∙ ap (λ z. Ok (value_at m r.blocks.cells z k)) (sym place.5)
 
-module _ (r : Records) (K : IsKept r) (s : ℕ) (q : EntityBlock) (j : Joins r s q) (f k : ℕ) (start : k ≡ 2 + 2 * f) (mode : slice_get (modes_of r.layout (member_class r.layout s)) f ≡ Some Integer) where
+module _ (r : Records) (K : IsKept r) (s : ℕ) (q : EntityBlock) (j : CanJoin r s q) (f k : ℕ) (start : k ≡ 2 + 2 * f) (mode : slice_get (modes_of r.layout (member_class r.layout s)) f ≡ Some Integer) where
   pub test_is : (its own : ℤ) (high : Bool) → Whole its ≡ value_at Integer r.blocks.cells q.place.at k → match_ordering (int_cmp its own) high false (not high) ≡ ranks_past (state r) (member_class r.layout s) f high (Whole own) q.number
   test_is its own high h = ap (λ (w : Value). match_ordering (value_cmp w (Whole own)) high false (not high)) (h ∙ sym (ap value_or_zero (its_value r K s q j f k start Integer mode)))
 
@@ -83,13 +83,13 @@ pub record WalkState (r : Records) (s o : ℕ) (t : ℕ → Bool) (q : EntityBlo
   pub ys : List ℕ
   pub list : members_of r.notes.lists s o ≡ xs ++ ys
   pub size : length xs + length ys ≡ length (members_of r.notes.lists s o)
-  pub lies : Lies r s q
+  pub lies : IsInPlace r s q
   pub first : q.number ≡ head0 ys
   pub found : first_where t ys ≡ first_where t (members_of r.notes.lists s o)
   pub passed : length xs + before_where t ys ≡ before_where t (members_of r.notes.lists s o)
   pub touched : touches ≡ length xs + 1
 
-pub at_start : (r : Records) (s o : ℕ) (t : ℕ → Bool) (a q : EntityBlock) (touches : ℕ) → Between r s o a q [] (members_of r.notes.lists s o) → touches ≡ 1 → WalkState r s o t q touches
+pub at_start : (r : Records) (s o : ℕ) (t : ℕ → Bool) (a q : EntityBlock) (touches : ℕ) → AreNeighbours r s o a q [] (members_of r.notes.lists s o) → touches ≡ 1 → WalkState r s o t q touches
 at_start r s o t a q touches w e = record { xs = []; ys = members_of r.notes.lists s o; list = refl; size = omega arith; lies = w.after; first = w.first; found = refl; passed = omega arith; touched = omega (arith, e) }
 
 module _ (r : Records) (K : IsKept r) (s : ℕ) (inside : s < length r.layout.sets) (o : ℕ) (t : ℕ → Bool) (q : EntityBlock) (touches : ℕ) (S : WalkState r s o t q touches) where
@@ -105,14 +105,14 @@ module _ (r : Records) (K : IsKept r) (s : ℕ) (inside : s < length r.layout.se
   pub room : touches + 1 < 2 ^ 64
   room = omega (arith, few, S.size, S.touched)
 
-  some : (x : ℕ) → In x f → 0 ≡ x → ⊥
+  some : (x : ℕ) → IsInList x f → 0 ≡ x → ⊥
   some x h = let y = get_there r.layout.sets s inside in ((K.names s y.0 y.1).members o x h).1
 
   -- at the end
   module _ (none : q.number ≡ 0) where
     empty : S.ys ≡ []
-    empty = none_first t S.ys q.number S.first none (λ x h. some x (subst (In x) (sym S.list) (in_right x S.xs S.ys h))) where
-      in_right : (x : ℕ) (xs ys : List ℕ) → In x ys → In x (xs ++ ys)
+    empty = none_first t S.ys q.number S.first none (λ x h. some x (subst (IsInList x) (sym S.list) (in_right x S.xs S.ys h))) where
+      in_right : (x : ℕ) (xs ys : List ℕ) → IsInList x ys → IsInList x (xs ++ ys)
       in_right x [] ys h = h
       in_right x (z ∷ zs) ys h = inr (in_right x zs ys h)
 
@@ -130,10 +130,10 @@ module _ (r : Records) (K : IsKept r) (s : ℕ) (inside : s < length r.layout.se
     list : f ≡ S.xs ++ q.number ∷ shape.0
     list = S.list ∙ ap (λ l. S.xs ++ l) shape.1
 
-    inn : In q.number f
-    inn = subst (In q.number) (sym list) (head_in S.xs q.number shape.0)
+    inn : IsInList q.number f
+    inn = subst (IsInList q.number) (sym list) (head_in S.xs q.number shape.0)
 
-    pub joins : Joins r s q
+    pub joins : CanJoin r s q
     joins = joins_it r K s inside o q S.lies inn
 
     pub small : q.number < 2 ^ 62
@@ -152,7 +152,7 @@ module _ (r : Records) (K : IsKept r) (s : ℕ) (inside : s < length r.layout.se
       next_there : To r.blocks.cells at q.place.at b (succ q.number f)
       next_there = next_to r.layout r.blocks.cells r.system.at (places r) r.notes.lists K s inside q.place.at q.number joins.lies joins.is b base o inn
 
-      pub next_leads : Leads r.blocks.cells q.place.at b
+      pub next_leads : HasLink r.blocks.cells q.place.at b
       next_leads = leads r.blocks.cells at q.place.at b _ next_there
 
       pub next_walk : (e : t q.number ≡ false) (z : EntityBlock) (more : ℕ) → word_at r.blocks.cells q.place.at b ≡ link z.place.at → word_at r.blocks.cells z.place.at 1 ≡ number z.number → more ≡ touches + 1 → WalkState r s o t z more
@@ -160,7 +160,7 @@ module _ (r : Records) (K : IsKept r) (s : ℕ) (inside : s < length r.layout.se
           let l = lies_there r K s inside q.place.at b _ next_there z w v in
           let y = get_there r.layout.sets s inside in
           let p = passes t q.number shape.0 e in
-          let apart = subst Distinct list ((K.names s y.0 y.1).distinct o) in
+          let apart = subst AreAllDistinct list ((K.names s y.0 y.1).distinct o) in
           let longer = length_splice S.xs q.number [] in let same = ap length (append-nil S.xs) in
           record {
             xs = S.xs ++ q.number ∷ [];

@@ -7,11 +7,11 @@ use Rattle.ss_records_blocks.specs.Cells.{counter, link, Cells, put_word}
 use Rattle.ss_world.specs.State.{Members, members_of, with_members}
 use Rattle.ss_world.specs.Sets.{with_list_of}
 use Rattle.ss_records_words.specs.Places.{Directory, entity_at, owner_at}
-use Rattle.ss_records_words.specs.Kept.{Kept, state_of}
-use Rattle.ss_world.specs.Lists.{head0, last_or, In, NotIn, with_list}
+use Rattle.ss_records_words.specs.Kept.{ArePartsKept, state_of}
+use Rattle.ss_world.specs.Lists.{head0, last_or, IsInList, IsNotInList, with_list}
 use Rattle.ss_records_blocks.specs.Links.{Slots, hooked, linked_in, unlinked_in}
-use Rattle.ss_records_words.specs.Links.{Shows, words_of}
-use Rattle.ss_records_words.specs.Slotted.{slots_of, IsEntityOf, MayOwn, OfName, Spares}
+use Rattle.ss_records_words.specs.Links.{AreShowing, words_of}
+use Rattle.ss_records_words.specs.Slotted.{slots_of, IsEntityOf, MayOwn, IsOfName, AreSpared}
 use Rattle.ss_records_blocks.proofs.Same.{by_same}
 use Rattle.ss_records_words.proofs.Splice.{in_mid, before_in, after_in, in_left}
 use Rattle.ss_records_entities.proofs.Listed.{members_with, members_other}
@@ -21,7 +21,7 @@ use Rattle.ss_records_entities.proofs.LinkWrites.{any_linked_is}
 use Rattle.ss_records_entities.proofs.UnlinkWrites.{any_unlinked_is}
 use Rattle.ss_records_entities.proofs.Spared.{with_classes, kept_spared, records_spared, permanents_spared}
 
-module _ (l : Layout) (cs : Cells) (sys : Ptr) (d : Directory) (ms : List Members) (K : Kept l cs sys d ms) (s : ℕ) (t : SetLayout) (g : slice_get l.sets s ≡ Some t) (o x : ℕ) (xs ys : List ℕ) (lo : MayOwn cs d t.owner o) where
+module _ (l : Layout) (cs : Cells) (sys : Ptr) (d : Directory) (ms : List Members) (K : ArePartsKept l cs sys d ms) (s : ℕ) (t : SetLayout) (g : slice_get l.sets s ≡ Some t) (o x : ℕ) (xs ys : List ℕ) (lo : MayOwn cs d t.owner o) where
   abbrev at : ℕ → Ptr
   at = entity_at sys d t.member
 
@@ -41,7 +41,7 @@ module _ (l : Layout) (cs : Cells) (sys : Ptr) (d : Directory) (ms : List Member
   b = head0 ys
 
   abbrev Of : Ptr → ℕ → Type 0
-  Of = OfName l cs sys d s t
+  Of = IsOfName l cs sys d s t
 
   -- the writes of the name
   at_member : (y k : ℕ) → IsEntityOf cs d t.member y → (k ≡ w.next) ⊎ ((k ≡ w.prev) ⊎ (k ≡ w.owner)) → Of (at y) k
@@ -50,30 +50,30 @@ module _ (l : Layout) (cs : Cells) (sys : Ptr) (d : Directory) (ms : List Member
   at_owner : (k : ℕ) → (k ≡ w.first) ⊎ ((k ≡ w.last) ⊎ (k ≡ w.count)) → Of (home o) k
   at_owner k m = inr (o, lo, refl, m)
 
-  hook : (ds : Cells) (e k : ℕ) (j : ℕ) (z : Ptr) → Spares Of cs ds → Of (home o) k → ((e ≡ 0 → ⊥) → Of (at e) j) → Spares Of cs (hooked (e == 0) ds (home o) k (at e) j z)
+  hook : (ds : Cells) (e k : ℕ) (j : ℕ) (z : Ptr) → AreSpared Of cs ds → Of (home o) k → ((e ≡ 0 → ⊥) → Of (at e) j) → AreSpared Of cs (hooked (e == 0) ds (home o) k (at e) j z)
   hook ds e k j z h own near = by_same e 0
       (λ i q. rw i (spares_put Of cs ds (home o) k (link z) h own))
       (λ i n. rw i (spares_put Of cs ds (at e) j (link z) h (near n)))
 
-  shown : (ds : Cells) (us : List ℕ) → Spares Of cs ds → Shows (words_of w ds at home) at home (IsEntityOf cs d t.member) (MayOwn cs d t.owner) (with_list f o us) → Kept l ds sys d (with_members ms s o us)
+  shown : (ds : Cells) (us : List ℕ) → AreSpared Of cs ds → AreShowing (words_of w ds at home) at home (IsEntityOf cs d t.member) (MayOwn cs d t.owner) (with_list f o us) → ArePartsKept l ds sys d (with_members ms s o us)
   shown ds us h n =
       let e : members_of (with_members ms s o us) s ≡ with_list f o us = λ i p. members_with ms s o us p i in
       kept_spared l cs sys d ms K s t g ds h (with_members ms s o us)
-      (subst (λ z. Shows (words_of w ds at home) at home (IsEntityOf ds d t.member) (MayOwn ds d t.owner) z) (sym e) (with_classes l cs sys d ms K s t g ds h s t (words_of w ds at home) (with_list f o us) n))
+      (subst (λ z. AreShowing (words_of w ds at home) at home (IsEntityOf ds d t.member) (MayOwn ds d t.owner) z) (sym e) (with_classes l cs sys d ms K s t g ds h s t (words_of w ds at home) (with_list f o us) n))
       (λ r p n. members_other ms s o us r p n)
 
-  relisted : (ds : Cells) (us : List ℕ) → Spares Of cs ds → state_of l ds d (with_members ms s o us) ≡ with_list_of (state_of l cs d ms) s o us
+  relisted : (ds : Cells) (us : List ℕ) → AreSpared Of cs ds → state_of l ds d (with_members ms s o us) ≡ with_list_of (state_of l cs d ms) s o us
   relisted ds us h =
       let one = records_spared l cs sys d ms K s t g ds h in let two = permanents_spared l cs sys d ms K s t g ds h in
       λ i. record (state_of l cs d ms) { records = one i; permanents = two i; lists = with_members ms s o us }
 
   -- linked in between xs and ys
-  module _ (lx : IsEntityOf cs d t.member x) (some : 0 ≡ x → ⊥) (was : f o ≡ xs ++ ys) (free : (p : ℕ) → NotIn x (f p)) where
+  module _ (lx : IsEntityOf cs d t.member x) (some : 0 ≡ x → ⊥) (was : f o ≡ xs ++ ys) (free : (p : ℕ) → IsNotInList x (f p)) where
     abbrev ds : Cells
     ds = linked_in w cs (home o) (at a) (a == 0) (at x) (at b) (b == 0) (length (f o))
 
-    near : (y : ℕ) → (y ≡ 0 → ⊥) → In y (xs ++ ys) → IsEntityOf cs d t.member y
-    near y n h = ((K.names s t g).members o y (subst (In y) (sym was) h)).0
+    near : (y : ℕ) → (y ≡ 0 → ⊥) → IsInList y (xs ++ ys) → IsEntityOf cs d t.member y
+    near y n h = ((K.names s t g).members o y (subst (IsInList y) (sym was) h)).0
 
     pub la : (a ≡ 0 → ⊥) → IsEntityOf cs d t.member a
     la n = near a n (before_in a xs ys refl (λ e. n (sym e)))
@@ -81,7 +81,7 @@ module _ (l : Layout) (cs : Cells) (sys : Ptr) (d : Directory) (ms : List Member
     pub lb : (b ≡ 0 → ⊥) → IsEntityOf cs d t.member b
     lb n = near b n (after_in b xs ys refl (λ e. n (sym e)))
 
-    spares : Spares Of cs ds
+    spares : AreSpared Of cs ds
     spares =
         let s1 = spares_put Of cs cs (at x) w.next (link (at b)) (spares_none Of cs) (at_member x w.next lx (inl refl)) in
         let c1 = put_word cs (at x) w.next (link (at b)) in
@@ -95,7 +95,7 @@ module _ (l : Layout) (cs : Cells) (sys : Ptr) (d : Directory) (ms : List Member
         let c5 = hooked (b == 0) c4 (home o) w.last (at b) w.prev (at x) in
         spares_put Of cs c5 (home o) w.count (counter (length (f o) + 1)) s5 (at_owner w.count (inr (inr refl)))
 
-    pub kept_linked : Kept l ds sys d (with_members ms s o (xs ++ x ∷ ys))
+    pub kept_linked : ArePartsKept l ds sys d (with_members ms s o (xs ++ x ∷ ys))
     kept_linked = shown ds (xs ++ x ∷ ys) spares
         (any_linked (words_of w cs at home) (words_of w ds at home) at home (IsEntityOf cs d t.member) (MayOwn cs d t.owner) f o x xs ys (K.names s t g) was lx some lo free
         (any_linked_is w cs at home (IsEntityOf cs d t.member) (MayOwn cs d t.owner) (grounds l cs sys d ms K s t g) o a x b (length (f o)) lo lx la lb))
@@ -108,8 +108,8 @@ module _ (l : Layout) (cs : Cells) (sys : Ptr) (d : Directory) (ms : List Member
     abbrev es : Cells
     es = unlinked_in w cs (home o) (at a) (a == 0) (at x) (at b) (b == 0) (length (f o))
 
-    its : (y : ℕ) → In y (xs ++ x ∷ ys) → IsEntityOf cs d t.member y
-    its y h = ((K.names s t g).members o y (subst (In y) (sym was) h)).0
+    its : (y : ℕ) → IsInList y (xs ++ x ∷ ys) → IsEntityOf cs d t.member y
+    its y h = ((K.names s t g).members o y (subst (IsInList y) (sym was) h)).0
 
     pub lx' : IsEntityOf cs d t.member x
     lx' = its x (in_mid xs x ys)
@@ -120,7 +120,7 @@ module _ (l : Layout) (cs : Cells) (sys : Ptr) (d : Directory) (ms : List Member
     pub lb' : (b ≡ 0 → ⊥) → IsEntityOf cs d t.member b
     lb' n = its b (in_left b xs x ys (after_in b xs ys refl (λ e. n (sym e))))
 
-    spares' : Spares Of cs es
+    spares' : AreSpared Of cs es
     spares' =
         let s1 = hook cs a w.first w.next (at b) (spares_none Of cs) (at_owner w.first (inl refl)) (λ n. at_member a w.next (la' n) (inl refl)) in
         let c1 = hooked (a == 0) cs (home o) w.first (at a) w.next (at b) in
@@ -134,7 +134,7 @@ module _ (l : Layout) (cs : Cells) (sys : Ptr) (d : Directory) (ms : List Member
         let c5 = put_word c4 (at x) w.owner (link (at x)) in
         spares_put Of cs c5 (home o) w.count (counter (length (f o) - 1)) s5 (at_owner w.count (inr (inr refl)))
 
-    pub kept_unlinked : Kept l es sys d (with_members ms s o (xs ++ ys))
+    pub kept_unlinked : ArePartsKept l es sys d (with_members ms s o (xs ++ ys))
     kept_unlinked = shown es (xs ++ ys) spares'
         (any_unlinked (words_of w cs at home) (words_of w es at home) at home (IsEntityOf cs d t.member) (MayOwn cs d t.owner) f o x xs ys (K.names s t g) was
         (any_unlinked_is w cs at home (IsEntityOf cs d t.member) (MayOwn cs d t.owner) (grounds l cs sys d ms K s t g) o a x b (length (f o)) lo lx' la' lb'))

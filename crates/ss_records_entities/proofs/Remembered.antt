@@ -12,13 +12,13 @@ use Rattle.ss_records_blocks.specs.declared.links.EntityBlock.{EntityBlock}
 use Rattle.ss_records_blocks.specs.Cells.{number, link, word_at}
 use Rattle.ss_world.specs.State.{entity_in, kind_of, members_of}
 use Rattle.ss_world.specs.Sets.{member_class}
-use Rattle.ss_world.specs.Lists.{In}
+use Rattle.ss_world.specs.Lists.{IsInList}
 use Rattle.ss_records_blocks.specs.Places.{Numbers}
-use Rattle.ss_records_words.specs.Places.{Lists, place_in_record, entity_at, class_at_place}
+use Rattle.ss_records_words.specs.Places.{IsListedAt, place_in_record, entity_at, class_at_place}
 use Rattle.ss_records_words.specs.Kept.{IsPermanent, issued_place, numbered_place}
 use Rattle.ss_records_words.specs.Slotted.{member_base}
 use Rattle.ss_records_words.specs.Plans.{is_permanent_kind}
-use Rattle.ss_records_entities.specs.Parts.{IsKept, state, places, Found, Lies, Joins}
+use Rattle.ss_records_entities.specs.Parts.{IsKept, state, places, IsEntityPlace, IsInPlace, CanJoin}
 use Rattle.ss_records_entities.proofs.Apart.{entity_is}
 use Rattle.ss_records_entities.proofs.Cuts.{lies_there}
 use Rattle.ss_records_words.proofs.Disjoint.{entry_of}
@@ -37,7 +37,7 @@ numbered_at ps few (pos (suc k)) fits i is p h =
 numbered_at ps few (negsuc k) fits i is p h = absurd (omega (arith, ints, few, fits, is, slice_get_within ps _ (Some p) h))
 
 -- whatever the kind of its class is, since one that has a creation number is of no permanent class
-pub found_numbered : (r : Records) (K : IsKept r) (c : ℕ) (x : ℤ) (p : BlockPlace) → numbered_place r.directory.places x ≡ Ok p → class_at_place r.blocks.cells p ≡ c → Found r c x p
+pub found_numbered : (r : Records) (K : IsKept r) (c : ℕ) (x : ℤ) (p : BlockPlace) → numbered_place r.directory.places x ≡ Ok p → class_at_place r.blocks.cells p ≡ c → IsEntityPlace r c x p
 found_numbered r K c x p h k =
     let t = there r.directory.places x p h in
     record { index = t.0; is = t.1; entry = inl t.2; class = k; entity = ap (entity_in (state r) c) t.1 ∙ entity_is r.layout r.blocks.cells r.system.at (places r) r.notes.lists K c (suc t.0) t.0 p refl k (inl t.2) }
@@ -51,29 +51,29 @@ same_place : (p q : BlockPlace) → p.at ≡ q.at → p ≡ q
 same_place p q e = λ i. record { at = e i }
 
 -- one that may be in a set has a number
-pub some_number : (r : Records) (s : ℕ) (e : EntityBlock) → Joins r s e → e.number ≡ 0 → ⊥
+pub some_number : (r : Records) (s : ℕ) (e : EntityBlock) → CanJoin r s e → e.number ≡ 0 → ⊥
 some_number r s e h z = let a = entry_of r.blocks.cells (places r) (member_class r.layout s) e.number h.is in absurd (omega (arith, z, a.2))
 
 -- where its class isn't permanent, one that may be in a set is found by its creation number
-pub numbered_entry : (r : Records) (K : IsKept r) (s : ℕ) (e : EntityBlock) → Joins r s e → (IsPermanent (kind_of r.layout (member_class r.layout s)) → ⊥) → slice_get r.directory.places (e.number - 1) ≡ Some (Some e.place)
+pub numbered_entry : (r : Records) (K : IsKept r) (s : ℕ) (e : EntityBlock) → CanJoin r s e → (IsPermanent (kind_of r.layout (member_class r.layout s)) → ⊥) → slice_get r.directory.places (e.number - 1) ≡ Some (Some e.place)
 numbered_entry r K s e h kind =
     let a = entry_of r.blocks.cells (places r) (member_class r.layout s) e.number h.is in
     let at : e.place.at ≡ a.1.at = h.lies ∙ ap (entity_at r.system.at (places r) (member_class r.layout s)) a.2 ∙ ap place_in_record a.3 in
     let m = by_entry a.0 a.1 a.4 (listed (places r) (member_class r.layout s) a.0 a.1 a.3) in
     let before : e.number - 1 ≡ a.0 = omega (arith, a.2) in
     ap (λ n. slice_get r.directory.places n) before ∙ m ∙ ap (λ (q : BlockPlace). Some (Some q)) (same_place a.1 e.place (sym at)) where
-      by_entry : (i : ℕ) (p : BlockPlace) → class_at_place r.blocks.cells p ≡ member_class r.layout s → Lists (places r) i p → slice_get r.directory.places i ≡ Some (Some p)
+      by_entry : (i : ℕ) (p : BlockPlace) → class_at_place r.blocks.cells p ≡ member_class r.layout s → IsListedAt (places r) i p → slice_get r.directory.places i ≡ Some (Some p)
       by_entry i p c (inl m) = m
       by_entry i p c (inr (b, ps, m, g)) = let y = K.made b ps m in absurd (kind (subst (λ k. IsPermanent (kind_of r.layout k)) (sym (y.class i p g) ∙ c) y.permanent))
 
 -- the neighbour of a member may be in the set as well, if there is one
-module _ (r : Records) (K : IsKept r) (s : ℕ) (inside : s < length r.layout.sets) (e : EntityBlock) (h : Joins r s e) (b : ℕ) (base : (u : SetLayout) → slice_get r.layout.sets s ≡ Some u → b ≡ member_base r.layout s u)
-    (o : ℕ) (i : In e.number (members_of r.notes.lists s o)) (q : EntityBlock) (v : word_at r.blocks.cells q.place.at 1 ≡ number q.number) (some : q.number ≡ 0 → ⊥) where
-  joined : (n : ℕ) → Lies r s q → q.number ≡ n → (n ≡ 0) ⊎ In n (members_of r.notes.lists s o) → Joins r s q
+module _ (r : Records) (K : IsKept r) (s : ℕ) (inside : s < length r.layout.sets) (e : EntityBlock) (h : CanJoin r s e) (b : ℕ) (base : (u : SetLayout) → slice_get r.layout.sets s ≡ Some u → b ≡ member_base r.layout s u)
+    (o : ℕ) (i : IsInList e.number (members_of r.notes.lists s o)) (q : EntityBlock) (v : word_at r.blocks.cells q.place.at 1 ≡ number q.number) (some : q.number ≡ 0 → ⊥) where
+  joined : (n : ℕ) → IsInPlace r s q → q.number ≡ n → (n ≡ 0) ⊎ IsInList n (members_of r.notes.lists s o) → CanJoin r s q
   joined n lies is (inl z) = absurd (some (is ∙ z))
-  joined n lies is (inr m) = joins_it r K s inside o q lies (subst (λ k. In k (members_of r.notes.lists s o)) (sym is) m)
+  joined n lies is (inr m) = joins_it r K s inside o q lies (subst (λ k. IsInList k (members_of r.notes.lists s o)) (sym is) m)
 
-  pub beside_joins : (reverse : Bool) → word_at r.blocks.cells e.place.at (if reverse then b + 1 else b) ≡ link q.place.at → Joins r s q
+  pub beside_joins : (reverse : Bool) → word_at r.blocks.cells e.place.at (if reverse then b + 1 else b) ≡ link q.place.at → CanJoin r s q
   beside_joins false w =
       let l = lies_there r K s inside e.place.at b _ (next_to r.layout r.blocks.cells r.system.at (places r) r.notes.lists K s inside e.place.at e.number h.lies h.is b base o i) q w v in
       joined _ l.0 l.1 (succ_is e.number (members_of r.notes.lists s o) i)

@@ -9,10 +9,10 @@ use Rattle.ss_records_blocks.specs.Cells.{Cells, IsNumber, words_at, word_at}
 use Rattle.ss_world.specs.State.{Members, kind_of, members_of}
 use Rattle.ss_records_words.specs.Shape.{links_start}
 use Rattle.ss_records_words.specs.Reading.{plain, record_of, record_at, records_at}
-use Rattle.ss_records_words.specs.Places.{Directory, Lists, entity_at, owner_at, class_at_place}
-use Rattle.ss_records_words.specs.Kept.{Kept, Formed, MadeOf, IsPermanent}
-use Rattle.ss_records_words.specs.Links.{Words, Shows, words_of}
-use Rattle.ss_records_words.specs.Slotted.{slots_of, NameKept, IsEntityOf, MayOwn, OfName, Spares}
+use Rattle.ss_records_words.specs.Places.{Directory, IsListedAt, entity_at, owner_at, class_at_place}
+use Rattle.ss_records_words.specs.Kept.{ArePartsKept, AreFormed, AreOfClass, IsPermanent}
+use Rattle.ss_records_words.specs.Links.{Words, AreShowing, words_of}
+use Rattle.ss_records_words.specs.Slotted.{slots_of, IsNameKept, IsEntityOf, MayOwn, IsOfName, AreSpared}
 use Rattle.ss_records_blocks.proofs.Same.{by_same}
 use Rattle.ss_records_entities.proofs.ReadWords.{record_same}
 use Rattle.ss_records_entities.proofs.Keeps.{map_same, made_same}
@@ -20,14 +20,14 @@ use Rattle.ss_records_entities.proofs.Moved.{shows_moved}
 use Rattle.ss_records_entities.proofs.NamesKept.{of_back, of_on, own_back, own_on, names_same}
 use Rattle.ss_records_words.proofs.Disjoint.{above_head, above_end, names_apart}
 
-module _ (l : Layout) (cs : Cells) (sys : Ptr) (d : Directory) (ms : List Members) (K : Kept l cs sys d ms) (s : ℕ) (t : SetLayout) (g : slice_get l.sets s ≡ Some t) (ds : Cells) (h : Spares (OfName l cs sys d s t) cs ds) where
-  head_same : (j : ℕ) (q : BlockPlace) → Lists d j q → (k : ℕ) → k < links_start l (class_at_place cs q) → word_at ds q.at k ≡ word_at cs q.at k
+module _ (l : Layout) (cs : Cells) (sys : Ptr) (d : Directory) (ms : List Members) (K : ArePartsKept l cs sys d ms) (s : ℕ) (t : SetLayout) (g : slice_get l.sets s ≡ Some t) (ds : Cells) (h : AreSpared (IsOfName l cs sys d s t) cs ds) where
+  head_same : (j : ℕ) (q : BlockPlace) → IsListedAt d j q → (k : ℕ) → k < links_start l (class_at_place cs q) → word_at ds q.at k ≡ word_at cs q.at k
   head_same j q e k low = h.word q.at k (λ o. above_head l cs sys d ms K s t g j q k e low o)
 
-  pub class_spared : (j : ℕ) (q : BlockPlace) → Lists d j q → class_at_place ds q ≡ class_at_place cs q
+  pub class_spared : (j : ℕ) (q : BlockPlace) → IsListedAt d j q → class_at_place ds q ≡ class_at_place cs q
   class_spared j q e = ap plain (head_same j q e 0 (omega arith))
 
-  formed_spared : (j : ℕ) (q : BlockPlace) → Lists d j q → Formed l (class_at_place cs q) (suc j) (words_at ds q.at)
+  formed_spared : (j : ℕ) (q : BlockPlace) → IsListedAt d j q → AreFormed l (class_at_place cs q) (suc j) (words_at ds q.at)
   formed_spared j q e = let f = K.formed j q e in record {
     size = h.size q.at ∙ f.size;
     class = head_same j q e 0 (omega arith) ∙ f.class;
@@ -36,17 +36,17 @@ module _ (l : Layout) (cs : Cells) (sys : Ptr) (d : Directory) (ms : List Member
   }
 
   -- the links of a name show its lists with the classes read from the new words
-  pub with_classes : (r : ℕ) (u : SetLayout) (m : Words) (f : ℕ → List ℕ) → Shows m (entity_at sys d u.member) (owner_at sys d u.owner) (IsEntityOf cs d u.member) (MayOwn cs d u.owner) f → Shows m (entity_at sys d u.member) (owner_at sys d u.owner) (IsEntityOf ds d u.member) (MayOwn ds d u.owner) f
+  pub with_classes : (r : ℕ) (u : SetLayout) (m : Words) (f : ℕ → List ℕ) → AreShowing m (entity_at sys d u.member) (owner_at sys d u.owner) (IsEntityOf cs d u.member) (MayOwn cs d u.owner) f → AreShowing m (entity_at sys d u.member) (owner_at sys d u.owner) (IsEntityOf ds d u.member) (MayOwn ds d u.owner) f
   with_classes r u m f n =
       shows_moved m m (entity_at sys d u.member) (entity_at sys d u.member) (owner_at sys d u.owner) (owner_at sys d u.owner) (IsEntityOf cs d u.member) (IsEntityOf ds d u.member) (MayOwn cs d u.owner) (MayOwn ds d u.owner) f n refl
       (λ y k. inl (of_back cs ds d class_spared u.member y k, refl, refl, refl, refl))
       (λ o k. inl (own_back cs ds d class_spared u.owner o k, refl, refl, refl, refl))
       (λ o y k. let e = n.members o y k in (of_on cs ds d class_spared u.member y e.0, own_on cs ds d class_spared u.owner o e.2))
 
-  made_spared : (c : ℕ) (ps : List BlockPlace) → slice_get d.classes c ≡ Some (Some ps) → MadeOf l ds c ps
+  made_spared : (c : ℕ) (ps : List BlockPlace) → slice_get d.classes c ≡ Some (Some ps) → AreOfClass l ds c ps
   made_spared c ps e = let m = K.made c ps e in record { permanent = m.permanent; class = λ j q h. class_spared j q (inr (c, ps, e, h)) ∙ m.class j q h; few = m.few }
 
-  pub kept_spared : (ns : List Members) → NameKept l ds sys d ns s t → ((r p : ℕ) → (s ≡ r → ⊥) → members_of ns r p ≡ members_of ms r p) → Kept l ds sys d ns
+  pub kept_spared : (ns : List Members) → IsNameKept l ds sys d ns s t → ((r p : ℕ) → (s ≡ r → ⊥) → members_of ns r p ≡ members_of ms r p) → ArePartsKept l ds sys d ns
   kept_spared ns here others = record {
     small = K.small;
     issued = K.issued;
@@ -56,20 +56,20 @@ module _ (l : Layout) (cs : Cells) (sys : Ptr) (d : Directory) (ms : List Member
     kinds = λ j q e x. K.kinds j q e (subst (λ c. IsPermanent (kind_of l c)) (class_spared j q (inl e)) x);
     made = made_spared;
     classes = λ j q e. subst (λ c. c < length l.classes) (sym (class_spared j q e)) (K.classes j q e);
-    formed = λ j q e. subst (λ c. Formed l c (suc j) (words_at ds q.at)) (sym (class_spared j q e)) (formed_spared j q e);
+    formed = λ j q e. subst (λ c. AreFormed l c (suc j) (words_at ds q.at)) (sym (class_spared j q e)) (formed_spared j q e);
     apart = K.apart;
     off_system = K.off_system;
     counted = h.count ∙ K.counted;
     names = λ r u e. by_same s r
-        (λ z q. subst (λ k. NameKept l ds sys d ns k u) q (subst (λ v. NameKept l ds sys d ns s v) (same_set (sym g ∙ ap (slice_get l.sets) q ∙ e)) here))
+        (λ z q. subst (λ k. IsNameKept l ds sys d ns k u) q (subst (λ v. IsNameKept l ds sys d ns s v) (same_set (sym g ∙ ap (slice_get l.sets) q ∙ e)) here))
         (λ z n. let f : members_of ns r ≡ members_of ms r = λ i p. others r p n i in
-        subst (λ a. Shows (words_of (slots_of l r u) ds (entity_at sys d u.member) (owner_at sys d u.owner)) (entity_at sys d u.member) (owner_at sys d u.owner) (IsEntityOf ds d u.member) (MayOwn ds d u.owner) a) (sym f)
+        subst (λ a. AreShowing (words_of (slots_of l r u) ds (entity_at sys d u.member) (owner_at sys d u.owner)) (entity_at sys d u.member) (owner_at sys d u.owner) (IsEntityOf ds d u.member) (MayOwn ds d u.owner) a) (sym f)
         (names_same l cs sys d ms K ds class_spared r u e (λ q k o. h.word q k (λ here. names_apart l cs sys d ms K s t g r u q k e n here o))));
   } where
     same_set : {v w : SetLayout} → Some v ≡ Some w → v ≡ w
     same_set e = cc
 
-  read_spared : (j : ℕ) (q : BlockPlace) → Lists d j q → record_of l (words_at ds q.at) ≡ record_of l (words_at cs q.at)
+  read_spared : (j : ℕ) (q : BlockPlace) → IsListedAt d j q → record_of l (words_at ds q.at) ≡ record_of l (words_at cs q.at)
   read_spared j q e = record_same l (words_at cs q.at) (words_at ds q.at) (λ k low. head_same j q e k low)
 
   pub records_spared : map (record_at l ds) d.numbers ≡ map (record_at l cs) d.numbers

@@ -7,8 +7,8 @@ use Rattle.ss_records_entities.specs.declared.records.Records.{Records}
 use Rattle.ss_records_blocks.specs.declared.links.EntityBlock.{EntityBlock}
 use Rattle.ss_records_blocks.specs.Cells.{Memory}
 use Rattle.ss_world.specs.State.{modes_of, is_filed, members_of, contains}
-use Rattle.ss_records_words.specs.Kept.{Small}
-use Rattle.ss_records_entities.specs.Parts.{IsKept, uncounted, Owns, Joins}
+use Rattle.ss_records_words.specs.Kept.{IsSmall}
+use Rattle.ss_records_entities.specs.Parts.{IsKept, uncounted, IsOwnerBlock, CanJoin}
 use Rattle.ss_records_blocks.proofs.Same.{false_is_not_true}
 
 -- a read of the blocks changes nothing but counts of touches
@@ -26,16 +26,16 @@ module _ (r q : Records) (h : uncounted q ≡ uncounted r) where
   pub set_still : (s : ℕ) → s < length r.layout.sets → s < length q.layout.sets
   set_still s inside = subst (λ (z : Records). s < length z.layout.sets) (sym h) inside
 
-  pub owns_still : (s : ℕ) (e : EntityBlock) → Owns r s e → Owns q s e
+  pub owns_still : (s : ℕ) (e : EntityBlock) → IsOwnerBlock r s e → IsOwnerBlock q s e
   owns_still s e w =
-      let v : Owns (uncounted r) s e = record { lies = w.lies; may = w.may } in
-      let u : Owns (uncounted q) s e = subst (λ (z : Records). Owns z s e) (sym h) v in
+      let v : IsOwnerBlock (uncounted r) s e = record { lies = w.lies; may = w.may } in
+      let u : IsOwnerBlock (uncounted q) s e = subst (λ (z : Records). IsOwnerBlock z s e) (sym h) v in
       record { lies = u.lies; may = u.may }
 
-  pub joins_still : (s : ℕ) (e : EntityBlock) → Joins r s e → Joins q s e
+  pub joins_still : (s : ℕ) (e : EntityBlock) → CanJoin r s e → CanJoin q s e
   joins_still s e w =
-      let v : Joins (uncounted r) s e = record { lies = w.lies; is = w.is } in
-      let u : Joins (uncounted q) s e = subst (λ (z : Records). Joins z s e) (sym h) v in
+      let v : CanJoin (uncounted r) s e = record { lies = w.lies; is = w.is } in
+      let u : CanJoin (uncounted q) s e = subst (λ (z : Records). CanJoin z s e) (sym h) v in
       record { lies = u.lies; is = u.is }
 
   pub free_still : (s x : ℕ) → is_filed r.notes.lists s x ≡ false → is_filed q.notes.lists s x ≡ false
@@ -45,7 +45,7 @@ module _ (r q : Records) (h : uncounted q ≡ uncounted r) where
   listed_still s o x b there = subst (λ (z : Records). contains (members_of z.notes.lists s o) x ≡ b) (sym h) there
 
 -- there are few attributes
-pub few_fields : (l : Layout) (c f : ℕ) (m : Mode) → Small l → slice_get (modes_of l c) f ≡ Some m → f < 1048576
+pub few_fields : (l : Layout) (c f : ℕ) (m : Mode) → IsSmall l → slice_get (modes_of l c) f ≡ Some m → f < 1048576
 few_fields l c f m h g = omega (arith, h.fields c, slice_get_within (modes_of l c) f m g)
 
 pub base_room : (n : ℕ) → n ≤ 5242883 → Fits w64 (n + 1)

@@ -3,11 +3,11 @@ use Rattle.std.proofs.Common.{◌≡◌, ℕ, ◌-◌, ◌<◌, cond, ◌==◌, 
 use denote.RawPtr.{Ptr}
 use Rattle.ss_records_blocks.specs.Cells.{counter, link, Cells, words_at, word_at, put_word}
 use Rattle.ss_records_blocks.specs.Links.{Slots, hooked, unlinked_in}
-use Rattle.ss_records_words.specs.Links.{words_of, Unlinked, OfMember, OfOwner, Grounds}
+use Rattle.ss_records_words.specs.Links.{words_of, IsUnlinked, IsOfMember, IsOfOwner, AreSlotsApart}
 use Rattle.ss_records_blocks.proofs.Puts.{length_put, put_other}
 use Rattle.ss_records_entities.proofs.Hooks.{put_here, of_next, of_prev, of_owner, of_first, of_last, of_count, Hooked, hooks}
 
-module _ (w : Slots) (cs : Cells) (at home : ℕ → Ptr) (alive owns : ℕ → Type 0) (g : Grounds w cs at home alive owns) (o a x b n : ℕ) (lo : owns o) (lx : alive x) (la : (a ≡ 0 → ⊥) → alive a) (lb : (b ≡ 0 → ⊥) → alive b) where
+module _ (w : Slots) (cs : Cells) (at home : ℕ → Ptr) (alive owns : ℕ → Type 0) (g : AreSlotsApart w cs at home alive owns) (o a x b n : ℕ) (lo : owns o) (lx : alive x) (la : (a ≡ 0 → ⊥) → alive a) (lb : (b ≡ 0 → ⊥) → alive b) where
   abbrev e1 : Cells
   e1 = hooked (a == 0) cs (home o) w.first (at a) w.next (at b)
 
@@ -33,24 +33,24 @@ module _ (w : Slots) (cs : Cells) (at home : ℕ → Ptr) (alive owns : ℕ → 
   len5 q = length_put e4 (at x) w.owner (link (at x)) q ∙ length_put e3 (at x) w.prev (link (at x)) q ∙ length_put e2 (at x) w.next (link (at x)) q ∙ hooks_are.room q
 
   -- words of members
-  m6 : (y k : ℕ) → alive y → OfMember w k → word_at es (at y) k ≡ word_at e5 (at y) k
+  m6 : (y k : ℕ) → alive y → IsOfMember w k → word_at es (at y) k ≡ word_at e5 (at y) k
   m6 y k h m = put_other e5 (home o) w.count (counter (n - 1)) (at y) k (λ e i. g.crossed y o k w.count h lo m (of_count w) (sym e) (sym i))
 
-  room2 : (y k : ℕ) → alive y → OfMember w k → k < length (words_at e2 (at y))
+  room2 : (y k : ℕ) → alive y → IsOfMember w k → k < length (words_at e2 (at y))
   room2 y k h m = subst (λ z. k < z) (sym (hooks_are.room (at y))) (g.member_room y k h m)
 
-  room3 : (y k : ℕ) → alive y → OfMember w k → k < length (words_at e3 (at y))
+  room3 : (y k : ℕ) → alive y → IsOfMember w k → k < length (words_at e3 (at y))
   room3 y k h m = subst (λ z. k < z) (sym (length_put e2 (at x) w.next (link (at x)) (at y))) (room2 y k h m)
 
-  room4 : (y k : ℕ) → alive y → OfMember w k → k < length (words_at e4 (at y))
+  room4 : (y k : ℕ) → alive y → IsOfMember w k → k < length (words_at e4 (at y))
   room4 y k h m = subst (λ z. k < z) (sym (length_put e3 (at x) w.prev (link (at x)) (at y))) (room3 y k h m)
 
   -- words of owners
-  o5 : (p k : ℕ) → owns p → OfOwner w k → word_at e5 (home p) k ≡ word_at e2 (home p) k
+  o5 : (p k : ℕ) → owns p → IsOfOwner w k → word_at e5 (home p) k ≡ word_at e2 (home p) k
   o5 p k h m = put_other e4 (at x) w.owner (link (at x)) (home p) k (λ e i. g.crossed x p w.owner k lx h (of_owner w) m e i)
       ∙ put_other e3 (at x) w.prev (link (at x)) (home p) k (λ e i. g.crossed x p w.prev k lx h (of_prev w) m e i) ∙ put_other e2 (at x) w.next (link (at x)) (home p) k (λ e i. g.crossed x p w.next k lx h (of_next w) m e i)
 
-  pub any_unlinked_is : Unlinked (words_of w cs at home) (words_of w es at home) at home alive owns o a x b n
+  pub any_unlinked_is : IsUnlinked (words_of w cs at home) (words_of w es at home) at home alive owns o a x b n
   any_unlinked_is = record {
     next = λ y h pos. m6 y w.next h (of_next w) ∙ put_other e4 (at x) w.owner (link (at x)) (at y) w.next (λ e i. g.next_owner (sym i)) ∙ put_other e3 (at x) w.prev (link (at x)) (at y) w.next (λ e i. g.next_prev (sym i))
         ∙ put_here at e2 x y w.next (link (at x)) (g.members_apart x y lx h) (room2 y w.next h (of_next w)) ∙ ap (λ v. cond (x == y) (link (at x)) v) (hooks_are.next y h pos);

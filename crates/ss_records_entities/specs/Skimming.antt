@@ -13,9 +13,9 @@ abbrev pub is_passed : Filter → (value : ℤ) → Bool
 is_passed f v = match_ordering (int_cmp v f.number) f.less f.same f.more
 
 -- so many steps lead from one number to another
-abbrev pub LeadsIn : (step : ℤ → ℤ → Type 0) → ℕ → (x y : ℤ) → Type 0
-LeadsIn step zero x y = x ≡ y
-LeadsIn step (suc k) x y = (z : ℤ) × (LeadsIn step k x z × step z y)
+abbrev pub IsReachedIn : (step : ℤ → ℤ → Type 0) → ℕ → (x y : ℤ) → Type 0
+IsReachedIn step zero x y = x ≡ y
+IsReachedIn step (suc k) x y = (z : ℤ) × (IsReachedIn step k x z × step z y)
 
 module _ (st : State) (s : ℕ) (o : ℤ) (reverse : Bool) (f : Filter) where
   -- x is a member of the set s of o, y comes next to it, 0 for none, and the attribute is v
@@ -25,12 +25,12 @@ module _ (st : State) (s : ℕ) (o : ℤ) (reverse : Bool) (f : Filter) where
     pub value : value_in st f.class f.field x ≡ Ok (Whole v)
 
   -- it is one that is passed over
-  pub record PassesOver (x y : ℤ) : Type 0 where
+  pub record IsPassedOver (x y : ℤ) : Type 0 where
     pub v : ℤ
     pub member : IsMember x y v
     pub over : is_passed f v ≡ true
 
   -- how far a walk from the member x on has come
   pub record IsSkimmed (x : ℤ) (k : Skimmed) : Type 0 where
-    pub steps : LeadsIn PassesOver k.passed x k.member
+    pub steps : IsReachedIn IsPassedOver k.passed x k.member
     pub member : IsMember k.member k.next k.value

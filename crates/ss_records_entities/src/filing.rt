@@ -3,7 +3,7 @@ ghost use Rattle.std.specs.Prelude.{◌≡◌, ℕ, ◌+◌, ◌<◌, ◌≤◌,
 ghost use Rattle.ss_world.specs.State.{State, and_then, is_filed, contains, members_of};
 ghost use Rattle.ss_world.specs.Disciplines.{first_removed, last_removed, member_test};
 ghost use Rattle.ss_world.specs.Sets.{joiner, owner, less, with_list_of, put_in, put_beside, taken_out, filed_first, filed_last, filed_before, filed_after, removed};
-ghost use Rattle.ss_records_entities.specs.Parts.{IsKept, state, uncounted, Owns, Joins, Between, HasNeighbours};
+ghost use Rattle.ss_records_entities.specs.Parts.{IsKept, state, uncounted, IsOwnerBlock, CanJoin, AreNeighbours, HasNeighbours};
 
 use crate::records::Records;
 use crate::sets;
@@ -56,7 +56,7 @@ impl Records {
     fn pair(&self, s: usize, o: i64, x: i64) -> Result<OwnerAndMember, FaultKind>
         requires kept { IsKept self.now }
         requires set { s < length self.now.layout.sets }
-        ensures found { MatchResult result (λ p. Owns self.now s p.owner × Joins self.now s p.x × (joiner (state self.now) s x ≡ Ok p.x.number) × (owner (state self.now) s o ≡ Ok p.owner.number)) (λ f. (g : ℕ → ℕ → Result State FaultKind) → and_then (joiner (state self.now) s x) (λ n. and_then (owner (state self.now) s o) (g n)) ≡ Err f) }
+        ensures found { MatchResult result (λ p. IsOwnerBlock self.now s p.owner × CanJoin self.now s p.x × (joiner (state self.now) s x ≡ Ok p.x.number) × (owner (state self.now) s o ≡ Ok p.owner.number)) (λ f. (g : ℕ → ℕ → Result State FaultKind) → and_then (joiner (state self.now) s x) (λ n. and_then (owner (state self.now) s o) (g n)) ≡ Err f) }
     {
         match self.joiner(s, x) {
             Ok(x) => match self.owner(s, o) {
@@ -71,7 +71,7 @@ impl Records {
     fn triple(&self, s: usize, o: i64, x: i64, y: i64) -> Result<Triple, FaultKind>
         requires kept { IsKept self.now }
         requires set { s < length self.now.layout.sets }
-        ensures found { MatchResult result (λ p. Owns self.now s p.owner × Joins self.now s p.x × Joins self.now s p.y × (joiner (state self.now) s x ≡ Ok p.x.number) × (joiner (state self.now) s y ≡ Ok p.y.number) × (owner (state self.now) s o ≡ Ok p.owner.number)) (λ f. (g : ℕ → ℕ → ℕ → Result State FaultKind) → and_then (joiner (state self.now) s x) (λ n. and_then (joiner (state self.now) s y) (λ k. and_then (owner (state self.now) s o) (g n k))) ≡ Err f) }
+        ensures found { MatchResult result (λ p. IsOwnerBlock self.now s p.owner × CanJoin self.now s p.x × CanJoin self.now s p.y × (joiner (state self.now) s x ≡ Ok p.x.number) × (joiner (state self.now) s y ≡ Ok p.y.number) × (owner (state self.now) s o ≡ Ok p.owner.number)) (λ f. (g : ℕ → ℕ → ℕ → Result State FaultKind) → and_then (joiner (state self.now) s x) (λ n. and_then (joiner (state self.now) s y) (λ k. and_then (owner (state self.now) s o) (g n k))) ≡ Err f) }
     {
         match self.joiner(s, x) {
             Ok(x) => match self.pair(s, o, y) {
@@ -90,8 +90,8 @@ impl Records {
     fn is_in(&mut self, s: usize, owner: EntityBlock, x: EntityBlock) -> bool
         requires kept { IsKept self.old }
         requires set { s < length self.old.layout.sets }
-        requires owns { Owns self.old s owner }
-        requires joins { Joins self.old s x }
+        requires owns { IsOwnerBlock self.old s owner }
+        requires joins { CanJoin self.old s x }
         requires touches { self.old.blocks.touches ≤ 8 }
         ensures value { result ≡ contains (members_of self.old.notes.lists s owner.number) x.number }
         ensures same { self.new ≡ record self.old { blocks = self.new.blocks } }
@@ -117,13 +117,13 @@ impl Records {
     )
         requires kept { IsKept self.old }
         requires set { s < length self.old.layout.sets }
-        requires owns { Owns self.old s owner }
-        requires joins { Joins self.old s x }
+        requires owns { IsOwnerBlock self.old s owner }
+        requires joins { CanJoin self.old s x }
         requires free { is_filed self.old.notes.lists s x.number ≡ false }
-        requires between { (xs : List ℕ) × (ys : List ℕ) × Between self.old s owner.number before after xs ys }
+        requires between { (xs : List ℕ) × (ys : List ℕ) × AreNeighbours self.old s owner.number before after xs ys }
         requires touches { self.old.blocks.touches ≤ 16 }
         ensures kept { IsKept self.new }
-        ensures done { (xs : List ℕ) (ys : List ℕ) → Between self.old s owner.number before after xs ys → state self.new ≡ with_list_of (state self.old) s owner.number (xs ++ x.number ∷ ys) }
+        ensures done { (xs : List ℕ) (ys : List ℕ) → AreNeighbours self.old s owner.number before after xs ys → state self.new ≡ with_list_of (state self.old) s owner.number (xs ++ x.number ∷ ys) }
         ensures touches { (self.new.blocks.touches ≡ self.old.blocks.touches + 7) × (self.new.blocks.total ≡ self.old.blocks.total + 7) }
     {
         let member = self.layout.member_base(s);
@@ -153,8 +153,8 @@ impl Records {
     )
         requires kept { IsKept self.old }
         requires set { s < length self.old.layout.sets }
-        requires owns { Owns self.old s owner }
-        requires joins { Joins self.old s x }
+        requires owns { IsOwnerBlock self.old s owner }
+        requires joins { CanJoin self.old s x }
         requires around { (xs : List ℕ) × (ys : List ℕ) × HasNeighbours self.old s owner.number x.number before after xs ys }
         requires touches { self.old.blocks.touches ≤ 16 }
         ensures kept { IsKept self.new }
@@ -281,8 +281,8 @@ impl Records {
     fn cut_out(&mut self, s: usize, owner: EntityBlock, x: EntityBlock)
         requires kept { IsKept self.old }
         requires set { s < length self.old.layout.sets }
-        requires owns { Owns self.old s owner }
-        requires joins { Joins self.old s x }
+        requires owns { IsOwnerBlock self.old s owner }
+        requires joins { CanJoin self.old s x }
         requires there { contains (members_of self.old.notes.lists s owner.number) x.number ≡ true }
         requires touches { self.old.blocks.touches ≤ 8 }
         ensures kept { IsKept self.new }
@@ -343,8 +343,8 @@ impl Records {
     fn put_last(&mut self, s: usize, owner: EntityBlock, x: EntityBlock) -> Result<(), FaultKind>
         requires kept { IsKept self.old }
         requires set { s < length self.old.layout.sets }
-        requires owns { Owns self.old s owner }
-        requires joins { Joins self.old s x }
+        requires owns { IsOwnerBlock self.old s owner }
+        requires joins { CanJoin self.old s x }
         ensures kept { IsKept self.new }
         ensures done { MatchResult result (λ _. (is_filed self.old.notes.lists s x.number ≡ false) × (state self.new ≡ with_list_of (state self.old) s owner.number (members_of self.old.notes.lists s owner.number ++ x.number ∷ []))) (λ e. (e ≡ FaultKind.FiledTwice) × (is_filed self.old.notes.lists s x.number ≡ true) × (state self.new ≡ state self.old)) }
         ensures touches { (self.new.blocks.touches ≤ 12) × (IsOk result → 4 ≤ self.new.blocks.touches) × (self.new.blocks.total ≡ self.old.blocks.total + self.new.blocks.touches) }
@@ -378,7 +378,7 @@ impl Records {
     fn draw_first(&mut self, s: usize, home: EntityBlock) -> Result<i64, FaultKind>
         requires kept { IsKept self.old }
         requires set { s < length self.old.layout.sets }
-        requires owns { Owns self.old s home }
+        requires owns { IsOwnerBlock self.old s home }
         ensures kept { IsKept self.new }
         ensures done { MatchResult result (λ x. (o : ℤ) → owner (state self.old) s o ≡ Ok home.number → first_removed (state self.old) s o ≡ Ok (x, state self.new)) (λ e. ((o : ℤ) → owner (state self.old) s o ≡ Ok home.number → first_removed (state self.old) s o ≡ Err e) × (state self.new ≡ state self.old)) }
         ensures touches { (self.new.blocks.touches ≤ 12) × (self.new.blocks.total ≡ self.old.blocks.total + self.new.blocks.touches) }

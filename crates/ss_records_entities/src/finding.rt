@@ -8,7 +8,7 @@ ghost use Rattle.ss_records_words.specs.Shape.{count_sets, joins, owned_by, set_
 ghost use Rattle.ss_records_blocks.specs.Places.{row_in};
 ghost use Rattle.ss_records_words.specs.Kept.{numbered_place, indexed_place, IsPermanent};
 ghost use Rattle.ss_records_words.specs.Places.{class_at_place};
-ghost use Rattle.ss_records_entities.specs.Parts.{IsKept, state, Found, FoundNotice};
+ghost use Rattle.ss_records_entities.specs.Parts.{IsKept, state, IsEntityPlace, IsNoticePlace};
 ghost use Rattle.ss_records_entities.specs.Classed.{HasClass};
 
 use crate::records::Records;
@@ -66,7 +66,7 @@ impl Records {
     pub fn find(&self, class: usize, r: i64) -> Result<BlockPlace, FaultKind>
         requires kept { IsKept self.now }
         requires class { class < length self.now.layout.classes }
-        ensures found { MatchResult result (λ p. Found self.now class r p) (λ e. entity_in (state self.now) class r ≡ Err e) }
+        ensures found { MatchResult result (λ p. IsEntityPlace self.now class r p) (λ e. entity_in (state self.now) class r ≡ Err e) }
     {
         match self.hinted_of_class(class, r, Hint::Last) {
             Some(place) => Ok(place),
@@ -84,7 +84,7 @@ impl Records {
     #[inline(never)]
     fn search(&self, class: usize, r: i64) -> Option<BlockPlace>
         requires kept { IsKept self.now }
-        ensures { MatchOption result (IsErr (and_then (numbered_record (state self.now) r) (of_class class))) (λ p. Found self.now class r p) }
+        ensures { MatchOption result (IsErr (and_then (numbered_record (state self.now) r) (of_class class))) (λ p. IsEntityPlace self.now class r p) }
     {
         match self.of_class(class, r) {
             Ok(place) => Some(place),
@@ -169,7 +169,7 @@ impl Records {
         requires class { class < length self.old.layout.classes }
         requires kind { IsPermanent (kind_of self.old.layout class) → ⊥ }
         requires touches { self.old.blocks.touches ≡ 0 }
-        ensures found { MatchResult result (λ p. (f : Found self.old class r p) × (in_a_set self.old.layout.sets 0 self.old.notes.lists class (suc f.index) ≡ false) × (owns_members self.old.layout.sets 0 self.old.notes.lists class (suc f.index) ≡ false)) (λ e. destroyed (state self.old) class r ≡ Err e) }
+        ensures found { MatchResult result (λ p. (f : IsEntityPlace self.old class r p) × (in_a_set self.old.layout.sets 0 self.old.notes.lists class (suc f.index) ≡ false) × (owns_members self.old.layout.sets 0 self.old.notes.lists class (suc f.index) ≡ false)) (λ e. destroyed (state self.old) class r ≡ Err e) }
         ensures same { self.new ≡ record self.old { blocks = self.new.blocks } }
         ensures cells { self.new.blocks.cells ≡ self.old.blocks.cells }
         ensures touches { self.new.blocks.total + self.old.blocks.touches ≡ self.old.blocks.total + self.new.blocks.touches }
@@ -256,7 +256,7 @@ impl Records {
     pub fn hinted_of_class(&self, class: usize, r: i64, hint: Hint) -> Option<BlockPlace>
         requires kept { IsKept self.now }
         requires class { class < length self.now.layout.classes }
-        ensures { IfSome result (λ p. Found self.now class r p) }
+        ensures { IfSome result (λ p. IsEntityPlace self.now class r p) }
     {
         match self.hinted(r, hint) {
             Some(place) => {
@@ -296,7 +296,7 @@ impl Records {
     /// The block of a notice of any class.
     pub fn find_notice(&self, r: i64) -> Result<BlockPlace, FaultKind>
         requires kept { IsKept self.now }
-        ensures found { MatchResult result (λ p. FoundNotice self.now r p) (λ e. notice (state self.now) r ≡ Err e) }
+        ensures found { MatchResult result (λ p. IsNoticePlace self.now r p) (λ e. notice (state self.now) r ≡ Err e) }
     {
         match self.numbered(r) {
             Ok(place) => {
@@ -314,7 +314,7 @@ impl Records {
     #[inline(always)]
     pub fn near_notice(&self, r: i64) -> Option<BlockPlace>
         requires kept { IsKept self.now }
-        ensures { IfSome result (λ p. FoundNotice self.now r p) }
+        ensures { IfSome result (λ p. IsNoticePlace self.now r p) }
     {
         match self.hinted(r, Hint::Near) {
             Some(place) => {

@@ -1,13 +1,13 @@
 // The records, and what the block of each says.
 ghost use Rattle.std.specs.Prelude.{◌≡◌, ℕ, List, ◌+◌, ◌-◌, ◌*◌, ◌/◌, ◌^◌, ◌<◌, ◌≤◌, length, MatchResult, IfOk, Ok, Err, Some, None, slice_get, nat_abs, true, false, if◌then◌else◌, ⊤};
-ghost use Rattle.ss_world.specs.State.{Members, kind_of, modes_of, is_notice, first_state, living_numbers, living_records, value_in, time_in, destroyed, created, created_all, is_made, with_made, assigned, timed, no_value, RefusedFor};
+ghost use Rattle.ss_world.specs.State.{Members, kind_of, modes_of, is_notice, first_state, living_numbers, living_records, value_in, time_in, destroyed, created, created_all, is_made, with_made, assigned, timed, no_value, IsRefusalOf};
 ghost use Rattle.ss_world.specs.Sets.{owner_kind};
 ghost use Rattle.ss_records_blocks.specs.Cells.{words_at};
 ghost use Rattle.ss_records_blocks.specs.Pages.{in_page};
 ghost use Rattle.ss_base.specs.Layout.{mode_of};
 ghost use Rattle.ss_base.specs.Arithmetic.{plus_of, minus_of};
 ghost use Rattle.ss_records_words.specs.Shape.{values_end, set_places};
-ghost use Rattle.ss_records_words.specs.Kept.{Kept, Small, IsPermanent, RowsHeld};
+ghost use Rattle.ss_records_words.specs.Kept.{ArePartsKept, IsSmall, IsPermanent, AreRowsHeld};
 ghost use Rattle.ss_records_words.specs.Places.{class_at_place, lying};
 ghost use Rattle.ss_records_entities.specs.Parts.{IsKept, state};
 ghost use Rattle.ss_records_entities.specs.Attributes.{IsAssigned, IsChanged, changed_number};
@@ -355,7 +355,7 @@ impl Records {
         requires kind { IsPermanent (kind_of self.old.layout class) → ⊥ }
         requires touches { self.old.blocks.touches ≡ 0 }
         ensures kept { IsKept self.new }
-        ensures done { MatchResult result (λ n. created (state self.old) class ≡ Ok (n, state self.new)) (λ e. (state self.new ≡ state self.old) × RefusedFor (created (state self.old) class) e) }
+        ensures done { MatchResult result (λ n. created (state self.old) class ≡ Ok (n, state self.new)) (λ e. (state self.new ≡ state self.old) × IsRefusalOf (created (state self.old) class) e) }
         ensures touches { self.new.blocks.total ≡ self.old.blocks.total + self.new.blocks.touches }
         ensures links { MatchResult result (λ _. self.new.blocks.touches ≡ 3 * set_places self.old.layout (Owner.Class class)) (λ _. self.new.blocks.touches ≡ 0) }
     {
@@ -394,7 +394,7 @@ impl Records {
         requires kind { IsPermanent (kind_of self.old.layout class) }
         requires touches { self.old.blocks.touches ≡ 0 }
         ensures kept { IsKept self.new }
-        ensures done { MatchResult result (λ _. created_all (state self.old) class n ≡ Ok (state self.new)) (λ e. (state self.new ≡ state self.old) × RefusedFor (created_all (state self.old) class n) e) }
+        ensures done { MatchResult result (λ _. created_all (state self.old) class n ≡ Ok (state self.new)) (λ e. (state self.new ≡ state self.old) × IsRefusalOf (created_all (state self.old) class n) e) }
         ensures touches { self.new.blocks.total ≡ self.old.blocks.total + self.new.blocks.touches }
         ensures links { MatchResult result (λ _. self.new.blocks.touches ≡ nat_abs n * (3 * set_places self.old.layout (Owner.Class class))) (λ _. self.new.blocks.touches ≡ 0) }
     {
@@ -495,7 +495,7 @@ fn give_all_back(
     permanents: &[Row],
     system: BlockPlace,
 )
-    requires kept { (ms : List Members) × Kept layout.now blocks.old.cells system.at (lying directory.now.places permanents.now) ms }
+    requires kept { (ms : List Members) × ArePartsKept layout.now blocks.old.cells system.at (lying directory.now.places permanents.now) ms }
     ensures system { words_at blocks.new.cells system.at ≡ words_at blocks.old.cells system.at }
     ensures count { length blocks.new.cells ≡ 1 }
 {
@@ -534,8 +534,8 @@ fn give_rows_back(
     permanents: &[Row],
     system: BlockPlace,
 )
-    requires small { Small layout.now }
-    requires held { RowsHeld layout.now blocks.old.cells system.at permanents.now }
+    requires small { IsSmall layout.now }
+    requires held { AreRowsHeld layout.now blocks.old.cells system.at permanents.now }
     ensures system { words_at blocks.new.cells system.at ≡ words_at blocks.old.cells system.at }
     ensures count { length blocks.new.cells ≡ 1 }
 {

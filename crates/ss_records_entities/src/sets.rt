@@ -3,10 +3,10 @@ ghost use Rattle.std.specs.Prelude.{◌≡◌, ℕ, ◌+◌, ◌-◌, ◌^◌, �
 ghost use Rattle.std.specs.Ordering.{match_ordering, int_cmp};
 ghost use Rattle.ss_world.specs.State.{State, is_filed, members_of, kind_of, modes_of, value_in, no_value};
 ghost use Rattle.ss_base.specs.declared.layout.Owner.TheVariants.{System};
-ghost use Rattle.ss_world.specs.Sets.{joiner, owner, owner_kind, member_class, first_in, last_in, count_in, next_in, previous_in, owner_of_member, Apart};
+ghost use Rattle.ss_world.specs.Sets.{joiner, owner, owner_kind, member_class, first_in, last_in, count_in, next_in, previous_in, owner_of_member, AreMembersApart};
 ghost use Rattle.ss_world.specs.Disciplines.{member_test, owned};
 ghost use Rattle.ss_records_words.specs.Kept.{IsPermanent};
-ghost use Rattle.ss_records_entities.specs.Parts.{IsKept, state, Owns, Joins};
+ghost use Rattle.ss_records_entities.specs.Parts.{IsKept, state, IsOwnerBlock, CanJoin};
 ghost use Rattle.ss_records_entities.specs.Passing.{ranks_past, first_where, before_where};
 
 use crate::finding::Hint;
@@ -47,7 +47,7 @@ impl Records {
     /// What holds of the sets.
     pub fn law(&self)
         requires kept { IsKept self.now }
-        ensures { Apart (state self.now) }
+        ensures { AreMembersApart (state self.now) }
     {}
 
     /// The owner of a set that o refers to: the system where the set is one of its own.
@@ -55,7 +55,7 @@ impl Records {
     pub fn owner(&self, s: usize, o: i64) -> Result<EntityBlock, FaultKind>
         requires kept { IsKept self.now }
         requires set { s < length self.now.layout.sets }
-        ensures found { MatchResult result (λ e. Owns self.now s e × (owner (state self.now) s o ≡ Ok e.number)) (λ f. owner (state self.now) s o ≡ Err f) }
+        ensures found { MatchResult result (λ e. IsOwnerBlock self.now s e × (owner (state self.now) s o ≡ Ok e.number)) (λ f. owner (state self.now) s o ≡ Err f) }
     {
         if self.layout.is_of_system(s) {
             return Ok(EntityBlock {
@@ -80,7 +80,7 @@ impl Records {
     pub fn joiner(&self, s: usize, x: i64) -> Result<EntityBlock, FaultKind>
         requires kept { IsKept self.now }
         requires set { s < length self.now.layout.sets }
-        ensures found { MatchResult result (λ e. Joins self.now s e × (joiner (state self.now) s x ≡ Ok e.number)) (λ f. joiner (state self.now) s x ≡ Err f) }
+        ensures found { MatchResult result (λ e. CanJoin self.now s e × (joiner (state self.now) s x ≡ Ok e.number)) (λ f. joiner (state self.now) s x ≡ Err f) }
     {
         match self.find(self.layout.member_class(s), x) {
             Ok(place) => Ok(EntityBlock {
@@ -95,7 +95,7 @@ impl Records {
     pub fn is_filed(&mut self, s: usize, x: EntityBlock) -> bool
         requires kept { IsKept self.old }
         requires set { s < length self.old.layout.sets }
-        requires joins { Joins self.old s x }
+        requires joins { CanJoin self.old s x }
         requires touches { self.old.blocks.touches ≤ 16 }
         ensures value { result ≡ is_filed self.old.notes.lists s x.number }
         ensures same { self.new ≡ record self.old { blocks = self.new.blocks } }
@@ -157,7 +157,7 @@ impl Records {
         requires kept { IsKept self.old }
         requires set { s < length self.old.layout.sets }
         requires touches { self.old.blocks.touches ≡ 0 }
-        ensures found { MatchResult result (λ b. Joins self.old s b.member × (joiner (state self.old) s x ≡ Ok b.member.number) × ((if reverse then previous_in (state self.old) s x else next_in (state self.old) s x) ≡ Ok b.next)) (λ e. (if reverse then previous_in (state self.old) s x else next_in (state self.old) s x) ≡ Err e) }
+        ensures found { MatchResult result (λ b. CanJoin self.old s b.member × (joiner (state self.old) s x ≡ Ok b.member.number) × ((if reverse then previous_in (state self.old) s x else next_in (state self.old) s x) ≡ Ok b.next)) (λ e. (if reverse then previous_in (state self.old) s x else next_in (state self.old) s x) ≡ Err e) }
         ensures same { self.new ≡ record self.old { blocks = self.new.blocks } }
         ensures cells { self.new.blocks.cells ≡ self.old.blocks.cells }
         ensures touches { (self.new.blocks.touches ≤ 1) × (IsOk result → 1 ≤ self.new.blocks.touches) × (self.new.blocks.total ≡ self.old.blocks.total + self.new.blocks.touches) }
@@ -270,7 +270,7 @@ impl Records {
     fn past(&mut self, s: usize, owner: EntityBlock, field: usize, own: i64, high: bool) -> u64
         requires kept { IsKept self.old }
         requires set { s < length self.old.layout.sets }
-        requires owns { Owns self.old s owner }
+        requires owns { IsOwnerBlock self.old s owner }
         requires mode { slice_get (modes_of self.old.layout (member_class self.old.layout s)) field ≡ Some Mode.Integer }
         requires touches { self.old.blocks.touches ≡ 0 }
         ensures value { result ≡ first_where (ranks_past (state self.old) (member_class self.old.layout s) field high (Value.Whole own)) (members_of self.old.notes.lists s owner.number) }
@@ -296,7 +296,7 @@ impl Records {
     fn is_past(&self, s: usize, member: EntityBlock, field: usize, own: i64, high: bool) -> bool
         requires kept { IsKept self.now }
         requires set { s < length self.now.layout.sets }
-        requires joins { Joins self.now s member }
+        requires joins { CanJoin self.now s member }
         requires mode { slice_get (modes_of self.now.layout (member_class self.now.layout s)) field ≡ Some Mode.Integer }
         ensures { result ≡ ranks_past (state self.now) (member_class self.now.layout s) field high (Value.Whole own) member.number }
     {
@@ -346,7 +346,7 @@ impl Records {
     pub fn expected_joiner(&self, s: usize, x: i64) -> Option<EntityBlock>
         requires kept { IsKept self.now }
         requires set { s < length self.now.layout.sets }
-        ensures { IfSome result (λ e. Joins self.now s e × (joiner (state self.now) s x ≡ Ok e.number)) }
+        ensures { IfSome result (λ e. CanJoin self.now s e × (joiner (state self.now) s x ≡ Ok e.number)) }
     {
         match self.hinted_of_class(self.layout.member_class(s), x, Hint::Next) {
             Some(place) => Some(EntityBlock {
@@ -389,7 +389,7 @@ impl Records {
     fn neighbour(&mut self, s: usize, o: i64, member: EntityBlock, reverse: bool) -> Option<i64>
         requires kept { IsKept self.old }
         requires set { s < length self.old.layout.sets }
-        requires joins { Joins self.old s member }
+        requires joins { CanJoin self.old s member }
         requires touches { self.old.blocks.touches ≡ 0 }
         ensures found { IfSome result (λ y. (x : ℤ) → joiner (state self.old) s x ≡ Ok member.number → (member_test (state self.old) s o x ≡ Ok true) × ((if reverse then previous_in (state self.old) s x else next_in (state self.old) s x) ≡ Ok y)) }
         ensures gone { (owner_kind self.old.layout s ≡ System → o ≡ pos 0) → result ≡ None → (x : ℤ) → joiner (state self.old) s x ≡ Ok member.number → member_test (state self.old) s o x ≡ Ok true → ⊥ }
@@ -416,8 +416,8 @@ impl Records {
     pub fn pass(&mut self, s: usize, member: EntityBlock, next: EntityBlock)
         requires kept { IsKept self.old }
         requires set { s < length self.old.layout.sets }
-        requires joins { Joins self.old s member }
-        requires next { (next.number ≡ 0 → ⊥) → Joins self.old s next }
+        requires joins { CanJoin self.old s member }
+        requires next { (next.number ≡ 0 → ⊥) → CanJoin self.old s next }
         ensures { self.new ≡ self.old }
     {
         if self.layout.holds_permanent(s) {
@@ -435,7 +435,7 @@ impl Records {
     pub fn remember(&mut self, s: usize, member: EntityBlock)
         requires kept { IsKept self.old }
         requires set { s < length self.old.layout.sets }
-        requires joins { Joins self.old s member }
+        requires joins { CanJoin self.old s member }
         ensures { self.new ≡ self.old }
     {
         keep(&mut self.directory, &self.layout, s, member);

@@ -13,10 +13,10 @@ use Rattle.ss_records_blocks.specs.Cells.{Word, Cells, words_at, put_word}
 use Rattle.ss_world.specs.State.{Members}
 use Rattle.ss_base.specs.Layout.{same_owner}
 use Rattle.ss_records_words.specs.Shape.{links_start, owned_start, block_words, joins, owned_by, count_before, count_sets}
-use Rattle.ss_records_words.specs.Places.{Directory, listing, Lists, place_in_record, entity_at, owner_at, class_at_place}
-use Rattle.ss_records_words.specs.Kept.{Kept}
-use Rattle.ss_records_words.specs.Links.{Grounds, OfMember, OfOwner}
-use Rattle.ss_records_words.specs.Slotted.{member_base, owner_base, slots_of, is_entry, IsEntityOf, MayOwn, OfName, Spares}
+use Rattle.ss_records_words.specs.Places.{Directory, listing, IsListedAt, place_in_record, entity_at, owner_at, class_at_place}
+use Rattle.ss_records_words.specs.Kept.{ArePartsKept}
+use Rattle.ss_records_words.specs.Links.{AreSlotsApart, IsOfMember, IsOfOwner}
+use Rattle.ss_records_words.specs.Slotted.{member_base, owner_base, slots_of, is_entry, IsEntityOf, MayOwn, IsOfName, AreSpared}
 use Rattle.ss_records_words.specs.Reading.{class_in_words}
 use Rattle.ss_records_blocks.proofs.Same.{same}
 use Rattle.ss_records_words.proofs.Listing.{listed, lists_place}
@@ -44,32 +44,32 @@ same_owner_refl : (o : Owner) → same_owner o o ≡ true
 same_owner_refl System = refl
 same_owner_refl (Class c) = same c
 
-pub member_range : (l : Layout) (s : ℕ) (t : SetLayout) (k : ℕ) → OfMember (slots_of l s t) k → (member_base l s t ≤ k) × (k < member_base l s t + 3)
+pub member_range : (l : Layout) (s : ℕ) (t : SetLayout) (k : ℕ) → IsOfMember (slots_of l s t) k → (member_base l s t ≤ k) × (k < member_base l s t + 3)
 member_range l s t k (inl e) = (omega (arith, e), omega (arith, e))
 member_range l s t k (inr (inl e)) = (omega (arith, e), omega (arith, e))
 member_range l s t k (inr (inr e)) = (omega (arith, e), omega (arith, e))
 
-pub owner_range : (l : Layout) (s : ℕ) (t : SetLayout) (k : ℕ) → OfOwner (slots_of l s t) k → (owner_base l s t ≤ k) × (k < owner_base l s t + 3)
+pub owner_range : (l : Layout) (s : ℕ) (t : SetLayout) (k : ℕ) → IsOfOwner (slots_of l s t) k → (owner_base l s t ≤ k) × (k < owner_base l s t + 3)
 owner_range l s t k (inl e) = (omega (arith, e), omega (arith, e))
 owner_range l s t k (inr (inl e)) = (omega (arith, e), omega (arith, e))
 owner_range l s t k (inr (inr e)) = (omega (arith, e), omega (arith, e))
 
 -- the words of a name within a block
-pub member_inside : (l : Layout) (s : ℕ) (t : SetLayout) (k : ℕ) → slice_get l.sets s ≡ Some t → OfMember (slots_of l s t) k → (links_start l t.member ≤ k) × (k < owned_start l (Class t.member))
+pub member_inside : (l : Layout) (s : ℕ) (t : SetLayout) (k : ℕ) → slice_get l.sets s ≡ Some t → IsOfMember (slots_of l s t) k → (links_start l t.member ≤ k) × (k < owned_start l (Class t.member))
 member_inside l s t k g m = let r = member_range l s t k m in let c = count_inside (joins t.member) l.sets s t g (same t.member) in (omega (arith, r.0), omega (arith, r.1, c))
 
-pub owner_inside : (l : Layout) (s : ℕ) (t : SetLayout) (k : ℕ) → slice_get l.sets s ≡ Some t → OfOwner (slots_of l s t) k → (owned_start l t.owner ≤ k) × (k < block_words l t.owner)
+pub owner_inside : (l : Layout) (s : ℕ) (t : SetLayout) (k : ℕ) → slice_get l.sets s ≡ Some t → IsOfOwner (slots_of l s t) k → (owned_start l t.owner ≤ k) × (k < block_words l t.owner)
 owner_inside l s t k g m = let r = owner_range l s t k m in let c = count_inside (owned_by t.owner) l.sets s t g (same_owner_refl t.owner) in (omega (arith, r.0), omega (arith, r.1, c))
 
 -- two names of one member class, or of one owner, have words of their own
-members_disjoint : (l : Layout) (s r : ℕ) (t u : SetLayout) (k : ℕ) → slice_get l.sets s ≡ Some t → slice_get l.sets r ≡ Some u → t.member ≡ u.member → s < r → OfMember (slots_of l s t) k → OfMember (slots_of l r u) k → ⊥
+members_disjoint : (l : Layout) (s r : ℕ) (t u : SetLayout) (k : ℕ) → slice_get l.sets s ≡ Some t → slice_get l.sets r ≡ Some u → t.member ≡ u.member → s < r → IsOfMember (slots_of l s t) k → IsOfMember (slots_of l r u) k → ⊥
 members_disjoint l s r t u k g h e n a b =
     let x = member_range l s t k a in let y = member_range l r u k b in
     let c = count_later (joins t.member) l.sets s r t g (same t.member) n in
     let z : links_start l t.member + 3 * count_before (joins t.member) l.sets r ≤ k = subst (λ m. links_start l m + 3 * count_before (joins m) l.sets r ≤ k) (sym e) y.0 in
     omega (arith, x.1, z, c)
 
-owners_disjoint : (l : Layout) (s r : ℕ) (t u : SetLayout) (k : ℕ) → slice_get l.sets s ≡ Some t → slice_get l.sets r ≡ Some u → t.owner ≡ u.owner → s < r → OfOwner (slots_of l s t) k → OfOwner (slots_of l r u) k → ⊥
+owners_disjoint : (l : Layout) (s r : ℕ) (t u : SetLayout) (k : ℕ) → slice_get l.sets s ≡ Some t → slice_get l.sets r ≡ Some u → t.owner ≡ u.owner → s < r → IsOfOwner (slots_of l s t) k → IsOfOwner (slots_of l r u) k → ⊥
 owners_disjoint l s r t u k g h e n a b =
     let x = owner_range l s t k a in let y = owner_range l r u k b in
     let c = count_later (owned_by t.owner) l.sets s r t g (same_owner_refl t.owner) n in
@@ -94,7 +94,7 @@ entry_of cs d c (suc i) h = cases (slice_get (listing d c) i) refl h where
 pub is_of : (cs : Cells) (d : Directory) (c i : ℕ) (p : BlockPlace) → slice_get (listing d c) i ≡ Some (Some p) → class_at_place cs p ≡ c → IsEntityOf cs d c (suc i)
 is_of cs d c i p g e = subst (is_entry cs c) (sym g) e
 
-module _ (l : Layout) (cs : Cells) (sys : Ptr) (d : Directory) (ms : List Members) (K : Kept l cs sys d ms) where
+module _ (l : Layout) (cs : Cells) (sys : Ptr) (d : Directory) (ms : List Members) (K : ArePartsKept l cs sys d ms) where
   abbrev at : ℕ → ℕ → Ptr
   at = entity_at sys d
 
@@ -137,7 +137,7 @@ module _ (l : Layout) (cs : Cells) (sys : Ptr) (d : Directory) (ms : List Member
   owners_same (Class c) (Class e) x y h k z = ap Class (apart_of c e x y h k z).1
 
   module _ (s : ℕ) (t : SetLayout) (g : slice_get l.sets s ≡ Some t) where
-    pub grounds : Grounds (slots_of l s t) cs (at t.member) (home t.owner) (IsEntityOf cs d t.member) (MayOwn cs d t.owner)
+    pub grounds : AreSlotsApart (slots_of l s t) cs (at t.member) (home t.owner) (IsEntityOf cs d t.member) (MayOwn cs d t.owner)
     grounds = record {
       members_apart = λ x y h k z. (apart_of t.member t.member x y h k z).0;
       owners_apart = λ x y h k z. own_apart t.owner x y h k z;
@@ -153,7 +153,7 @@ module _ (l : Layout) (cs : Cells) (sys : Ptr) (d : Directory) (ms : List Member
     }
 
     -- no word of the name is in a block's head
-    pub above_head : (i : ℕ) (p : BlockPlace) (k : ℕ) → Lists d i p → k < links_start l (class_at_place cs p) → OfName l cs sys d s t p.at k → ⊥
+    pub above_head : (i : ℕ) (p : BlockPlace) (k : ℕ) → IsListedAt d i p → k < links_start l (class_at_place cs p) → IsOfName l cs sys d s t p.at k → ⊥
     above_head i p k h small (inl m) =
         let q = (apart_of (class_at_place cs p) t.member (suc i) m.0 (is_of cs d (class_at_place cs p) i p (lists_place l cs sys d ms K i p h) refl) m.1 (ap place_in_record (lists_place l cs sys d ms K i p h) ∙ m.2)).1 in
         omega (arith, small, subst (λ c. links_start l c ≤ k) (sym q) (member_inside l s t k g m.3).0)
@@ -163,14 +163,14 @@ module _ (l : Layout) (cs : Cells) (sys : Ptr) (d : Directory) (ms : List Member
       by_owner (Class c) a z b = let q = (apart_of (class_at_place cs p) c (suc i) m.0 (is_of cs d (class_at_place cs p) i p (lists_place l cs sys d ms K i p h) refl) a (ap place_in_record (lists_place l cs sys d ms K i p h) ∙ z)).1 in
           omega (arith, small, subst (λ n. owned_start l (Class n) ≤ k) (sym q) b)
 
-    pub above_end : (k : ℕ) → k < 2 → OfName l cs sys d s t sys k → ⊥
+    pub above_end : (k : ℕ) → k < 2 → IsOfName l cs sys d s t sys k → ⊥
     above_end k small (inl m) = off_end t.member m.0 m.1 (sym m.2)
     above_end k small (inr m) = by_owner t.owner m.1 m.2 (owner_inside l s t k g m.3).0 where
       by_owner : (o : Owner) → MayOwn cs d o m.0 → sys ≡ home o m.0 → owned_start l o ≤ k → ⊥
       by_owner System a z b = omega (arith, small, b)
       by_owner (Class c) a z b = off_end c m.0 a (sym z)
 
-    pub names_apart : (r : ℕ) (u : SetLayout) (q : Ptr) (k : ℕ) → slice_get l.sets r ≡ Some u → (s ≡ r → ⊥) → OfName l cs sys d s t q k → OfName l cs sys d r u q k → ⊥
+    pub names_apart : (r : ℕ) (u : SetLayout) (q : Ptr) (k : ℕ) → slice_get l.sets r ≡ Some u → (s ≡ r → ⊥) → IsOfName l cs sys d s t q k → IsOfName l cs sys d r u q k → ⊥
     names_apart r u q k h n (inl a) (inl b) =
         let e = (apart_of t.member u.member a.0 b.0 a.1 b.1 (sym a.2 ∙ b.2)).1 in
         lower s r n (λ x. members_disjoint l s r t u k g h e x a.3 b.3) (λ x. members_disjoint l r s u t k h g (sym e) x b.3 a.3)
@@ -181,10 +181,10 @@ module _ (l : Layout) (cs : Cells) (sys : Ptr) (d : Directory) (ms : List Member
         lower s r n (λ x. owners_disjoint l s r t u k g h e x a.3 b.3) (λ x. owners_disjoint l r s u t k h g (sym e) x b.3 a.3)
 
 -- writes
-pub spares_none : (Of : Ptr → ℕ → Type 0) (cs : Cells) → Spares Of cs cs
+pub spares_none : (Of : Ptr → ℕ → Type 0) (cs : Cells) → AreSpared Of cs cs
 spares_none Of cs = record { word = λ q j n. refl; size = λ q. refl; count = refl }
 
-pub spares_put : (Of : Ptr → ℕ → Type 0) (cs ds : Cells) (p : Ptr) (k : ℕ) (w : Word) → Spares Of cs ds → Of p k → Spares Of cs (put_word ds p k w)
+pub spares_put : (Of : Ptr → ℕ → Type 0) (cs ds : Cells) (p : Ptr) (k : ℕ) (w : Word) → AreSpared Of cs ds → Of p k → AreSpared Of cs (put_word ds p k w)
 spares_put Of cs ds p k w h o = record {
   word = λ q j n. put_other ds p k w q j (λ e i. n (subst (λ r. Of r j) e (subst (Of p) i o))) ∙ h.word q j n;
   size = λ q. length_put ds p k w q ∙ h.size q;

@@ -9,19 +9,19 @@ use Rattle.ss_base.specs.declared.layout.Layout.{Layout}
 use Rattle.ss_records_blocks.specs.Cells.{number, link, Cells, word_at}
 use Rattle.ss_world.specs.State.{Members, members_of, contains, owner_among, owner_of, is_filed, has_members, in_a_set, owns_members, is_owner_class}
 use Rattle.ss_records_words.specs.Places.{Directory, place_in_record, entity_at, owner_at}
-use Rattle.ss_records_words.specs.Kept.{Kept}
-use Rattle.ss_world.specs.Lists.{succ, In, NotIn}
+use Rattle.ss_records_words.specs.Kept.{ArePartsKept}
+use Rattle.ss_world.specs.Lists.{succ, IsInList, IsNotInList}
 use Rattle.ss_records_words.specs.Slotted.{slots_of, IsEntityOf, MayOwn}
 use Rattle.ss_records_blocks.proofs.Same.{same, differs, by_same}
 use Rattle.ss_records_words.proofs.Splice.{not_and_in, succ_is, succ_differs}
 use Rattle.ss_records_words.proofs.Listing.{listed}
 use Rattle.ss_records_words.proofs.Disjoint.{entry_of}
 
-pub contains_in : (l : List ℕ) (x : ℕ) → contains l x ≡ true → In x l
+pub contains_in : (l : List ℕ) (x : ℕ) → contains l x ≡ true → IsInList x l
 contains_in [] x h = cc
 contains_in (y ∷ ys) x h = by_same y x (λ e q. inl q) (λ e n. inr (contains_in ys x (sym (rw e refl) ∙ h)))
 
-pub contains_not : (l : List ℕ) (x : ℕ) → contains l x ≡ false → NotIn x l
+pub contains_not : (l : List ℕ) (x : ℕ) → contains l x ≡ false → IsNotInList x l
 contains_not [] x h = tt
 contains_not (y ∷ ys) x h = by_same y x
     (λ e q. absurd (clash (sym (left e) ∙ h)))
@@ -35,7 +35,7 @@ contains_not (y ∷ ys) x h = by_same y x
       clash : true ≡ false → ⊥
       clash e = cc
 
-pub in_contains : (l : List ℕ) (x : ℕ) → In x l → contains l x ≡ true
+pub in_contains : (l : List ℕ) (x : ℕ) → IsInList x l → contains l x ≡ true
 in_contains l x h = by_test (contains l x) refl where
   by_test : (b : Bool) → contains l x ≡ b → contains l x ≡ true
   by_test true e = e
@@ -70,13 +70,13 @@ owner_none (m ∷ ms) all s x o h = by_owner (λ k. owner_none ms all s x o k) (
   by_owner k true false false e f g = on (k (sym (rw (e, g) refl) ∙ h)) (skips true false e f refl)
 
 -- x is a member of a list of the name s, or of none
-pub filed_or_not : (ms : List Members) (s x : ℕ) → ((o : ℕ) × (owner_of ms s x ≡ Some o) × (In x (members_of ms s o))) ⊎ ((owner_of ms s x ≡ None) × ((o : ℕ) → NotIn x (members_of ms s o)))
+pub filed_or_not : (ms : List Members) (s x : ℕ) → ((o : ℕ) × (owner_of ms s x ≡ Some o) × (IsInList x (members_of ms s o))) ⊎ ((owner_of ms s x ≡ None) × ((o : ℕ) → IsNotInList x (members_of ms s o)))
 filed_or_not ms s x = by_case (owner_of ms s x) refl where
-  by_case : (r : Option ℕ) → owner_of ms s x ≡ r → ((o : ℕ) × (owner_of ms s x ≡ Some o) × (In x (members_of ms s o))) ⊎ ((owner_of ms s x ≡ None) × ((o : ℕ) → NotIn x (members_of ms s o)))
+  by_case : (r : Option ℕ) → owner_of ms s x ≡ r → ((o : ℕ) × (owner_of ms s x ≡ Some o) × (IsInList x (members_of ms s o))) ⊎ ((owner_of ms s x ≡ None) × ((o : ℕ) → IsNotInList x (members_of ms s o)))
   by_case (Some o) e = inl (o, e, contains_in (members_of ms s o) x (owner_some ms ms s x o e))
-  by_case None e = inr (e, (λ o. elim (owner_none ms ms s x o e) as (λ _. NotIn x (members_of ms s o)) [ inl y ↦ subst (NotIn x) (sym y) tt | inr y ↦ contains_not (members_of ms s o) x y ]))
+  by_case None e = inr (e, (λ o. elim (owner_none ms ms s x o e) as (λ _. IsNotInList x (members_of ms s o)) [ inl y ↦ subst (IsNotInList x) (sym y) tt | inr y ↦ contains_not (members_of ms s o) x y ]))
 
-module _ (l : Layout) (cs : Cells) (sys : Ptr) (d : Directory) (ms : List Members) (K : Kept l cs sys d ms) where
+module _ (l : Layout) (cs : Cells) (sys : Ptr) (d : Directory) (ms : List Members) (K : ArePartsKept l cs sys d ms) where
   -- the number in the block of an entity, or of the end
   pub number_at : (c n : ℕ) → (n ≡ 0) ⊎ IsEntityOf cs d c n → word_at cs (entity_at sys d c n) 1 ≡ number n
   number_at c n (inl e) = (λ z. word_at cs (entity_at sys d c (e z)) 1) ∙ K.end ∙ ap number (sym e)
@@ -105,8 +105,8 @@ module _ (l : Layout) (cs : Cells) (sys : Ptr) (d : Directory) (ms : List Member
       pub to : ℕ
       pub word : word_at cs (at x) (slots_of l s t).next ≡ link (at to)
       pub there : word_at cs (at to) 1 ≡ number to
-      pub out : (to ≡ x) → (owner_of ms s x ≡ None) × ((o : ℕ) → NotIn x (f o))
-      pub in_one : ((to ≡ x) → ⊥) → (o : ℕ) × (owner_of ms s x ≡ Some o) × (In x (f o)) × (to ≡ succ x (f o))
+      pub out : (to ≡ x) → (owner_of ms s x ≡ None) × ((o : ℕ) → IsNotInList x (f o))
+      pub in_one : ((to ≡ x) → ⊥) → (o : ℕ) × (owner_of ms s x ≡ Some o) × (IsInList x (f o)) × (to ≡ succ x (f o))
 
     pub next_of : Next
     next_of = elim (filed_or_not ms s x) as (λ _. Next) [
@@ -206,8 +206,8 @@ owns_none_of (u ∷ us) s c x ms h (suc k) t g e = let z : s + suc k ≡ s + 1 +
     clash z = cc
   rest false r k = k
 
-pub not_filed_in : (ms : List Members) (s x : ℕ) → is_filed ms s x ≡ false → (o : ℕ) → NotIn x (members_of ms s o)
-not_filed_in ms s x h = elim (filed_or_not ms s x) as (λ _. (o : ℕ) → NotIn x (members_of ms s o)) [ inl a ↦ absurd (clash (sym (ap is_some a.1) ∙ h)) | inr a ↦ a.1 ] where
+pub not_filed_in : (ms : List Members) (s x : ℕ) → is_filed ms s x ≡ false → (o : ℕ) → IsNotInList x (members_of ms s o)
+not_filed_in ms s x h = elim (filed_or_not ms s x) as (λ _. (o : ℕ) → IsNotInList x (members_of ms s o)) [ inl a ↦ absurd (clash (sym (ap is_some a.1) ∙ h)) | inr a ↦ a.1 ] where
   clash : true ≡ false → ⊥
   clash z = cc
 

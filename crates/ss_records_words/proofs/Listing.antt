@@ -5,8 +5,8 @@ use Rattle.ss_base.specs.declared.layout.Layout.{Layout}
 use Rattle.ss_records_blocks.specs.declared.store.BlockPlace.{BlockPlace}
 use Rattle.ss_records_blocks.specs.Cells.{Cells}
 use Rattle.ss_world.specs.State.{Members}
-use Rattle.ss_records_words.specs.Places.{Directory, own_or, listing, Lists, class_at_place}
-use Rattle.ss_records_words.specs.Kept.{Kept}
+use Rattle.ss_records_words.specs.Places.{Directory, own_or, listing, IsListedAt, class_at_place}
+use Rattle.ss_records_words.specs.Kept.{ArePartsKept}
 
 pub unmapped : (ps : List BlockPlace) (i : ℕ) (p : BlockPlace) → slice_get (map Some ps) i ≡ Some (Some p) → slice_get ps i ≡ Some p
 unmapped [] i p h = cc
@@ -22,16 +22,16 @@ pub length_mapped : (ps : List BlockPlace) → length (map Some ps) ≡ length p
 length_mapped [] = refl
 length_mapped (p ∷ ps) = ap suc (length_mapped ps)
 
-pub listed : (d : Directory) (c i : ℕ) (p : BlockPlace) → slice_get (listing d c) i ≡ Some (Some p) → Lists d i p
+pub listed : (d : Directory) (c i : ℕ) (p : BlockPlace) → slice_get (listing d c) i ≡ Some (Some p) → IsListedAt d i p
 listed d c i p h = by_class (slice_get d.classes c) refl h where
-  by_class : (o : Option (Option (List BlockPlace))) → slice_get d.classes c ≡ o → slice_get (own_or d.numbers o) i ≡ Some (Some p) → Lists d i p
+  by_class : (o : Option (Option (List BlockPlace))) → slice_get d.classes c ≡ o → slice_get (own_or d.numbers o) i ≡ Some (Some p) → IsListedAt d i p
   by_class None e k = inl k
   by_class (Some None) e k = inl k
   by_class (Some (Some ps)) e k = inr (c, ps, e, unmapped ps i p k)
 
-module _ (l : Layout) (cs : Cells) (sys : Ptr) (d : Directory) (ms : List Members) (K : Kept l cs sys d ms) where
+module _ (l : Layout) (cs : Cells) (sys : Ptr) (d : Directory) (ms : List Members) (K : ArePartsKept l cs sys d ms) where
   -- an entity is listed under its class
-  pub lists_place : (i : ℕ) (p : BlockPlace) → Lists d i p → slice_get (listing d (class_at_place cs p)) i ≡ Some (Some p)
+  pub lists_place : (i : ℕ) (p : BlockPlace) → IsListedAt d i p → slice_get (listing d (class_at_place cs p)) i ≡ Some (Some p)
   lists_place i p (inl g) = by_class (slice_get d.classes (class_at_place cs p)) refl where
     by_class : (o : Option (Option (List BlockPlace))) → slice_get d.classes (class_at_place cs p) ≡ o → slice_get (listing d (class_at_place cs p)) i ≡ Some (Some p)
     by_class None e = ap (λ o. slice_get (own_or d.numbers o) i) e ∙ g

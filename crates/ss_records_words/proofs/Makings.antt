@@ -6,12 +6,12 @@ use Rattle.ss_base.specs.declared.layout.Owner.TheVariants.{Class}
 use Rattle.ss_records_blocks.specs.declared.store.BlockPlace.{BlockPlace}
 use Rattle.ss_records_blocks.specs.Cells.{Cells, words_at, word_of}
 use Rattle.ss_records_words.specs.Shape.{block_words}
-use Rattle.ss_records_words.specs.Laid.{Laid, Born, LaidTo}
+use Rattle.ss_records_words.specs.Laid.{IsLaid, IsBorn, AreLaidTo}
 use Rattle.ss_records_blocks.proofs.Placings.{AreApart}
 use Rattle.ss_records_blocks.proofs.Same.{by_same}
 
 -- a new block that stays as it was
-born_same : (l : Layout) (ds es : Cells) (end p : Ptr) (c n : ℕ) → words_at es p ≡ words_at ds p → Born l ds end p c n → Born l es end p c n
+born_same : (l : Layout) (ds es : Cells) (end p : Ptr) (c n : ℕ) → words_at es p ≡ words_at ds p → IsBorn l ds end p c n → IsBorn l es end p c n
 born_same l ds es end p c n e b = record {
   size = ap length e ∙ b.size;
   its_class = same 0 ∙ b.its_class;
@@ -23,13 +23,13 @@ born_same l ds es end p c n e b = record {
   same : (k : ℕ) → word_of (words_at es p) k ≡ word_of (words_at ds p) k
   same k = ap (λ us. word_of us k) e
 
-pub laid_none : (l : Layout) (cs : Cells) (end : Ptr) (ps : List BlockPlace) (c : ℕ) → LaidTo l cs cs end ps c 0
+pub laid_none : (l : Layout) (cs : Cells) (end : Ptr) (ps : List BlockPlace) (c : ℕ) → AreLaidTo l cs cs end ps c 0
 laid_none l cs end ps c = record { laid = λ i p g h. absurd (omega (arith, h)); rest = λ i p g h. refl; others = λ q h. refl; count = refl }
 
-pub laid_more : (l : Layout) (cs ds es : Cells) (end : Ptr) (ps : List BlockPlace) (c n : ℕ) (p : BlockPlace) → slice_get ps n ≡ Some p → AreApart ps → length (words_at ds p.at) ≡ block_words l (Class c) → LaidTo l cs ds end ps c n → Laid l ds es end p.at c (n + 1) → LaidTo l cs es end ps c (n + 1)
+pub laid_more : (l : Layout) (cs ds es : Cells) (end : Ptr) (ps : List BlockPlace) (c n : ℕ) (p : BlockPlace) → slice_get ps n ≡ Some p → AreApart ps → length (words_at ds p.at) ≡ block_words l (Class c) → AreLaidTo l cs ds end ps c n → IsLaid l ds es end p.at c (n + 1) → AreLaidTo l cs es end ps c (n + 1)
 laid_more l cs ds es end ps c n p g apart size b laid = record {
   laid = λ i q h k. by_same i n
-      (λ t z. let same : q ≡ p = cc_place i q h z in subst (λ (r : BlockPlace). Born l es end r.at c (suc i)) (sym same) (subst (λ j. Born l es end p.at c j) (next i z) born))
+      (λ t z. let same : q ≡ p = cc_place i q h z in subst (λ (r : BlockPlace). IsBorn l es end r.at c (suc i)) (sym same) (subst (λ j. IsBorn l es end p.at c j) (next i z) born))
       (λ t z. born_same l ds es end q.at c (suc i) (laid.written.others q.at (λ y. z (sym (apart n i p q g h y)))) (b.laid i q h (omega (arith, k, z))));
   rest = λ i q h k. laid.written.others q.at (λ y. past n i k (apart n i p q g h y)) ∙ b.rest i q h (omega (arith, k));
   others = λ q h. laid.written.others q (λ z. h n p g z) ∙ b.others q h;
@@ -46,5 +46,5 @@ laid_more l cs ds es end ps c n p g apart size b laid = record {
     some_same : {x y : BlockPlace} → Some x ≡ Some y → x ≡ y
     some_same e = cc
 
-  born : Born l es end p.at c (n + 1)
+  born : IsBorn l es end p.at c (n + 1)
   born = record { size = laid.written.size ∙ size; its_class = laid.its_class; its_number = laid.its_number; values = laid.values; links = laid.links; owned = laid.owned }

@@ -14,7 +14,7 @@ use Rattle.ss_records_words.specs.declared.plan.Extent.{Extent}
 use Rattle.ss_records_words.specs.declared.plan.Bases.{Bases}
 use Rattle.ss_world.specs.State.{kind_of, is_notice, modes_in}
 use Rattle.ss_records_words.specs.Shape.{links_start, owned_start, joins, owned_by, count_before, count_sets}
-use Rattle.ss_records_words.specs.Kept.{Small}
+use Rattle.ss_records_words.specs.Kept.{IsSmall}
 use Rattle.ss_records_words.specs.Slotted.{member_base, owner_base}
 use Rattle.ss_records_words.specs.Plans.{extent_of, bases_of, IsPlan}
 use Rattle.ss_records_blocks.proofs.Entries.{get_there}
@@ -41,7 +41,7 @@ fields_small (x ∷ cs) h zero =
     omega (arith, few)
 fields_small (x ∷ cs) h (suc c) = fields_small cs (and_parts (is_narrow x) (list_all is_narrow cs) h).1 c
 
-pub small_law : (l : Layout) → IsTrue (is_layout l) → Small l
+pub small_law : (l : Layout) → IsTrue (is_layout l) → IsSmall l
 small_law l h =
     let narrow = list_all is_narrow l.classes in
     let sets = nat_le (length l.sets) 1048576 in
@@ -64,17 +64,17 @@ class_named n (u ∷ ts) h (suc s) t g = class_named n ts (and_parts (names_clas
 
 -- ---- how far words reach
 
-pub links_reach : (l : Layout) → Small l → (c : ℕ) → links_start l c ≤ 2097155
+pub links_reach : (l : Layout) → IsSmall l → (c : ℕ) → links_start l c ≤ 2097155
 links_reach l h c = omega (arith, h.fields c, one (is_notice (kind_of l c)))
 
-pub owned_reach : (l : Layout) → Small l → (o : Owner) → owned_start l o ≤ 5242883
+pub owned_reach : (l : Layout) → IsSmall l → (o : Owner) → owned_start l o ≤ 5242883
 owned_reach l h System = omega arith
 owned_reach l h (Class c) = omega (arith, links_reach l h c, few_sets (joins c) l.sets, h.sets)
 
-pub member_reach : (l : Layout) → Small l → (s : ℕ) (t : SetLayout) → member_base l s t ≤ 5242883
+pub member_reach : (l : Layout) → IsSmall l → (s : ℕ) (t : SetLayout) → member_base l s t ≤ 5242883
 member_reach l h s t = omega (arith, links_reach l h t.member, few_before (joins t.member) l.sets s, h.sets)
 
-pub owner_reach : (l : Layout) → Small l → (s : ℕ) (t : SetLayout) → owner_base l s t ≤ 8388614
+pub owner_reach : (l : Layout) → IsSmall l → (s : ℕ) (t : SetLayout) → owner_base l s t ≤ 8388614
 owner_reach l h s t = omega (arith, owned_reach l h t.owner, few_before (owned_by t.owner) l.sets s, h.sets)
 
 pub get_front : {A : Type 0} (xs : List A) (x : A) (k : ℕ) → k < length xs → slice_get (xs ++ x ∷ []) k ≡ slice_get xs k

@@ -10,8 +10,8 @@ use Rattle.ss_records_blocks.specs.Cells.{Word, number, counter, link, Cells, Is
 use Rattle.ss_world.specs.State.{Members, members_of, is_filed, has_members}
 use Rattle.ss_records_words.specs.Shape.{count_before, count_sets}
 use Rattle.ss_records_words.specs.Reading.{plain}
-use Rattle.ss_records_words.specs.Places.{Directory, Lists, listing, place_in_record, entity_at, owner_at, class_at_place}
-use Rattle.ss_records_words.specs.Kept.{Kept}
+use Rattle.ss_records_words.specs.Places.{Directory, IsListedAt, listing, place_in_record, entity_at, owner_at, class_at_place}
+use Rattle.ss_records_words.specs.Kept.{ArePartsKept}
 use Rattle.ss_records_words.specs.Slotted.{member_base, owner_base, IsEntityOf, MayOwn}
 use Rattle.ss_records_blocks.proofs.Same.{differs, by_same}
 use Rattle.ss_records_words.proofs.Listing.{lists_place}
@@ -36,7 +36,7 @@ counter_is {m} {n} e = ap (λ w. counted w) e where
   counted (counter k) = k
   counted w = 0
 
-module _ (l : Layout) (cs : Cells) (sys : Ptr) (d : Directory) (ms : List Members) (K : Kept l cs sys d ms) (s : ℕ) (t : SetLayout) (g : slice_get l.sets s ≡ Some t) (i : ℕ) (p : BlockPlace) (e : Lists d i p) where
+module _ (l : Layout) (cs : Cells) (sys : Ptr) (d : Directory) (ms : List Members) (K : ArePartsKept l cs sys d ms) (s : ℕ) (t : SetLayout) (g : slice_get l.sets s ≡ Some t) (i : ℕ) (p : BlockPlace) (e : IsListedAt d i p) where
   abbrev at : ℕ → Ptr
   at = entity_at sys d t.member
 

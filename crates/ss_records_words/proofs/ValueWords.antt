@@ -9,7 +9,7 @@ use Rattle.ss_base.specs.declared.value.Value.TheVariants.{Whole, Text}
 use Rattle.ss_base.specs.declared.layout.Mode.{Mode}
 use Rattle.ss_base.specs.declared.layout.Mode.TheVariants.{Integer, Alpha}
 use Rattle.ss_records_blocks.specs.Cells.{Word, number, Cells, IsNumber, word_at, put_word}
-use Rattle.ss_records_words.specs.Reading.{plain, value_of_words, value_at, PutsValue}
+use Rattle.ss_records_words.specs.Reading.{plain, value_of_words, value_at, IsValuePut}
 use Rattle.ss_records_blocks.proofs.Numbers.{is_number, put_seen}
 use Rattle.ss_records_blocks.proofs.Puts.{put_other}
 
@@ -21,7 +21,7 @@ pub text_read_at : (cs : Cells) (p : Ptr) (k a b : ℕ) (v : Value) → v ≡ va
 text_read_at cs p k a b v e x y = e ∙ (λ i. value_of_words Alpha (plain (sym x i)) (plain (sym y i)))
 
 -- a whole number leaves the second word
-pub whole_put : (cs ds : Cells) (p : Ptr) (k w : ℕ) (n : ℤ) → cast_signed w64 w ≡ n → IsNumber (word_at cs p (k + 1)) → ds ≡ put_word cs p k (number w) → PutsValue cs ds p k (Whole n)
+pub whole_put : (cs ds : Cells) (p : Ptr) (k w : ℕ) (n : ℤ) → cast_signed w64 w ≡ n → IsNumber (word_at cs p (k + 1)) → ds ≡ put_word cs p k (number w) → IsValuePut cs ds p k (Whole n)
 whole_put cs ds p k w n e second h =
     let s = is_number (word_at cs p (k + 1)) second in
     let es : Cells = put_word cs p k (number w) in
@@ -29,6 +29,6 @@ whole_put cs ds p k w n e second h =
     record { first = w; second = s.0; value = ap (λ (z : ℤ). Whole z) e; cells = h ∙ sym (put_seen es p (k + 1) (number s.0) next) }
 
 -- a text is both
-pub text_put : (cs ds es : Cells) (p : Ptr) (k a b : ℕ) (t : List ℕ) → value_of_words Alpha a b ≡ Text t → ds ≡ put_word cs p k (number a) → es ≡ put_word ds p (k + 1) (number b) → PutsValue cs es p k (Text t)
+pub text_put : (cs ds es : Cells) (p : Ptr) (k a b : ℕ) (t : List ℕ) → value_of_words Alpha a b ≡ Text t → ds ≡ put_word cs p k (number a) → es ≡ put_word ds p (k + 1) (number b) → IsValuePut cs es p k (Text t)
 text_put cs ds es p k a b t e x y =
     record { first = a; second = b; value = e; cells = y ∙ ap (λ (z : Cells). put_word z p (k + 1) (number b)) x }

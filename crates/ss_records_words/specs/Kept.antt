@@ -14,8 +14,8 @@ use Rattle.ss_world.specs.State.{Record, State, Members, entity_in, kind_of, mod
 use Rattle.ss_records_words.specs.Shape.{links_start, block_words}
 use Rattle.ss_records_words.specs.Reading.{record_at, records_at}
 use Rattle.ss_records_blocks.specs.Places.{Numbers, living_count}
-use Rattle.ss_records_words.specs.Places.{Made, Directory, IsMade, Lists, class_at_place, permanent_count}
-use Rattle.ss_records_words.specs.Slotted.{NameKept}
+use Rattle.ss_records_words.specs.Places.{Made, Directory, IsMade, IsListedAt, class_at_place, permanent_count}
+use Rattle.ss_records_words.specs.Slotted.{IsNameKept}
 use Rattle.ss_base.specs.declared.layout.SetLayout.{SetLayout}
 
 abbrev pub is_here : Result Record FaultKind → Type 0
@@ -32,14 +32,14 @@ IsPermanent Temporary = ⊥
 IsPermanent Notice = ⊥
 
 -- the layout is no larger than a heap can serve
-pub record Small (l : Layout) : Type 0 where
+pub record IsSmall (l : Layout) : Type 0 where
   pub sound : IsTrue (is_sound l)
   pub classes : length l.classes ≤ 2 ^ 20
   pub sets : length l.sets ≤ 2 ^ 20
   pub fields : (c : ℕ) → length (modes_of l c) ≤ 2 ^ 20
 
 -- the words of the block of the entity n of the class c
-pub record Formed (l : Layout) (c n : ℕ) (ws : List Word) : Type 0 where
+pub record AreFormed (l : Layout) (c n : ℕ) (ws : List Word) : Type 0 where
   pub size : length ws ≡ block_words l (Class c)
   pub class : word_of ws 0 ≡ number c
   pub number : word_of ws 1 ≡ number n
@@ -50,28 +50,28 @@ abbrev pub state_of : Layout → Cells → Directory → List Members → State
 state_of l cs d ms = record { layout = l; records = map (record_at l cs) d.numbers; permanents = map (records_at l cs) d.classes; lists = ms }
 
 -- the permanent entities of a class are of it
-pub record MadeOf (l : Layout) (cs : Cells) (c : ℕ) (ps : List BlockPlace) : Type 0 where
+pub record AreOfClass (l : Layout) (cs : Cells) (c : ℕ) (ps : List BlockPlace) : Type 0 where
   pub permanent : IsPermanent (kind_of l c)
   pub class : (i : ℕ) (p : BlockPlace) → slice_get ps i ≡ Some p → class_at_place cs p ≡ c
   pub few : length ps ≤ 2 ^ 20
 
-pub record Kept (l : Layout) (cs : Cells) (sys : Ptr) (d : Directory) (ms : List Members) : Type 0 where
-  pub small : Small l
+pub record ArePartsKept (l : Layout) (cs : Cells) (sys : Ptr) (d : Directory) (ms : List Members) : Type 0 where
+  pub small : IsSmall l
   pub issued : length d.numbers < 2 ^ 62
   pub width : length d.classes ≡ length l.classes
   pub system : length (words_at cs sys) ≡ block_words l System
   pub end : word_of (words_at cs sys) 1 ≡ number 0
   pub kinds : (i : ℕ) (p : BlockPlace) → slice_get d.numbers i ≡ Some (Some p) → IsPermanent (kind_of l (class_at_place cs p)) → ⊥
-  pub made : (c : ℕ) (ps : List BlockPlace) → slice_get d.classes c ≡ Some (Some ps) → MadeOf l cs c ps
-  pub classes : (i : ℕ) (p : BlockPlace) → Lists d i p → class_at_place cs p < length l.classes
-  pub formed : (i : ℕ) (p : BlockPlace) → Lists d i p → Formed l (class_at_place cs p) (suc i) (words_at cs p.at)
-  pub apart : (i j : ℕ) (p q : BlockPlace) → Lists d i p → Lists d j q → p.at ≡ q.at → i ≡ j
-  pub off_system : (i : ℕ) (p : BlockPlace) → Lists d i p → p.at ≡ sys → ⊥
+  pub made : (c : ℕ) (ps : List BlockPlace) → slice_get d.classes c ≡ Some (Some ps) → AreOfClass l cs c ps
+  pub classes : (i : ℕ) (p : BlockPlace) → IsListedAt d i p → class_at_place cs p < length l.classes
+  pub formed : (i : ℕ) (p : BlockPlace) → IsListedAt d i p → AreFormed l (class_at_place cs p) (suc i) (words_at cs p.at)
+  pub apart : (i j : ℕ) (p q : BlockPlace) → IsListedAt d i p → IsListedAt d j q → p.at ≡ q.at → i ≡ j
+  pub off_system : (i : ℕ) (p : BlockPlace) → IsListedAt d i p → p.at ≡ sys → ⊥
   pub counted : length cs ≡ living_count d.numbers + permanent_count d.classes + 1
-  pub names : (s : ℕ) (t : SetLayout) → slice_get l.sets s ≡ Some t → NameKept l cs sys d ms s t
+  pub names : (s : ℕ) (t : SetLayout) → slice_get l.sets s ≡ Some t → IsNameKept l cs sys d ms s t
 
 -- the blocks of the permanent entities are apart from one another and from that of the system, and no other is left
-pub record RowsHeld (l : Layout) (cs : Cells) (sys : Ptr) (ms : Made) : Type 0 where
+pub record AreRowsHeld (l : Layout) (cs : Cells) (sys : Ptr) (ms : Made) : Type 0 where
   pub width : length ms ≡ length l.classes
   pub size : (c i : ℕ) (ps : List BlockPlace) (p : BlockPlace) → slice_get ms c ≡ Some (Some ps) → slice_get ps i ≡ Some p → length (words_at cs p.at) ≡ block_words l (Class c)
   pub apart : (c b i j : ℕ) (ps qs : List BlockPlace) (p q : BlockPlace) → slice_get ms c ≡ Some (Some ps) → slice_get ms b ≡ Some (Some qs) → slice_get ps i ≡ Some p → slice_get qs j ≡ Some q → p.at ≡ q.at → (i ≡ j) × (c ≡ b)

@@ -2,7 +2,7 @@
 use Rattle.std.specs.Prelude.{◌≡◌, ℕ, ◌+◌, ◌-◌, ◌<◌, cond, ◌==◌, List, length, ◌⊎◌}
 use denote.RawPtr.{Ptr}
 use Rattle.ss_records_blocks.specs.Cells.{Word, counter, link, Cells, words_at, word_at}
-use Rattle.ss_world.specs.Lists.{head0, last_or, succ, pred_from, In, NotIn, Distinct}
+use Rattle.ss_world.specs.Lists.{head0, last_or, succ, pred_from, IsInList, IsNotInList, AreAllDistinct}
 use Rattle.ss_records_blocks.specs.Links.{Slots}
 
 pub record Words : Type 0 where
@@ -24,20 +24,20 @@ words_of w cs at home = record {
 }
 
 -- the words of the set name show the lists f
-pub record Shows (m : Words) (at home : ℕ → Ptr) (alive owns : ℕ → Type 0) (f : ℕ → List ℕ) : Type 0 where
+pub record AreShowing (m : Words) (at home : ℕ → Ptr) (alive owns : ℕ → Type 0) (f : ℕ → List ℕ) : Type 0 where
   pub first : (o : ℕ) → owns o → m.first o ≡ link (at (head0 (f o)))
   pub last : (o : ℕ) → owns o → m.last o ≡ link (at (last_or 0 (f o)))
   pub count : (o : ℕ) → owns o → m.count o ≡ counter (length (f o))
-  pub next : (o y : ℕ) → In y (f o) → m.next y ≡ link (at (succ y (f o)))
-  pub prev : (o y : ℕ) → In y (f o) → m.prev y ≡ link (at (pred_from 0 y (f o)))
-  pub owner : (o y : ℕ) → In y (f o) → m.owner y ≡ link (home o)
-  pub unfiled : (y : ℕ) → alive y → (0 ≡ y → ⊥) → ((o : ℕ) → NotIn y (f o)) → (m.next y ≡ link (at y)) × (m.prev y ≡ link (at y)) × (m.owner y ≡ link (at y))
-  pub members : (o y : ℕ) → In y (f o) → alive y × (0 ≡ y → ⊥) × owns o
-  pub distinct : (o : ℕ) → Distinct (f o)
-  pub sole : (o p y : ℕ) → In y (f o) → In y (f p) → o ≡ p
+  pub next : (o y : ℕ) → IsInList y (f o) → m.next y ≡ link (at (succ y (f o)))
+  pub prev : (o y : ℕ) → IsInList y (f o) → m.prev y ≡ link (at (pred_from 0 y (f o)))
+  pub owner : (o y : ℕ) → IsInList y (f o) → m.owner y ≡ link (home o)
+  pub unfiled : (y : ℕ) → alive y → (0 ≡ y → ⊥) → ((o : ℕ) → IsNotInList y (f o)) → (m.next y ≡ link (at y)) × (m.prev y ≡ link (at y)) × (m.owner y ≡ link (at y))
+  pub members : (o y : ℕ) → IsInList y (f o) → alive y × (0 ≡ y → ⊥) × owns o
+  pub distinct : (o : ℕ) → AreAllDistinct (f o)
+  pub sole : (o p y : ℕ) → IsInList y (f o) → IsInList y (f p) → o ≡ p
 
 -- m' is m once x is linked in between a and b in the list of o, which had n members
-pub record Linked (m m' : Words) (at home : ℕ → Ptr) (alive owns : ℕ → Type 0) (o a x b n : ℕ) : Type 0 where
+pub record IsLinkedIn (m m' : Words) (at home : ℕ → Ptr) (alive owns : ℕ → Type 0) (o a x b n : ℕ) : Type 0 where
   pub next : (y : ℕ) → alive y → (0 ≡ y → ⊥) → m'.next y ≡ cond (a == y) (link (at x)) (cond (x == y) (link (at b)) (m.next y))
   pub prev : (y : ℕ) → alive y → (0 ≡ y → ⊥) → m'.prev y ≡ cond (b == y) (link (at x)) (cond (x == y) (link (at a)) (m.prev y))
   pub owner : (y : ℕ) → alive y → m'.owner y ≡ cond (x == y) (link (home o)) (m.owner y)
@@ -46,7 +46,7 @@ pub record Linked (m m' : Words) (at home : ℕ → Ptr) (alive owns : ℕ → T
   pub count : (p : ℕ) → owns p → m'.count p ≡ cond (o == p) (counter (n + 1)) (m.count p)
 
 -- m' is m once x is taken out from between a and b
-pub record Unlinked (m m' : Words) (at home : ℕ → Ptr) (alive owns : ℕ → Type 0) (o a x b n : ℕ) : Type 0 where
+pub record IsUnlinked (m m' : Words) (at home : ℕ → Ptr) (alive owns : ℕ → Type 0) (o a x b n : ℕ) : Type 0 where
   pub next : (y : ℕ) → alive y → (0 ≡ y → ⊥) → m'.next y ≡ cond (x == y) (link (at x)) (cond (a == y) (link (at b)) (m.next y))
   pub prev : (y : ℕ) → alive y → (0 ≡ y → ⊥) → m'.prev y ≡ cond (x == y) (link (at x)) (cond (b == y) (link (at a)) (m.prev y))
   pub owner : (y : ℕ) → alive y → m'.owner y ≡ cond (x == y) (link (at x)) (m.owner y)
@@ -55,22 +55,22 @@ pub record Unlinked (m m' : Words) (at home : ℕ → Ptr) (alive owns : ℕ →
   pub count : (p : ℕ) → owns p → m'.count p ≡ cond (o == p) (counter (n - 1)) (m.count p)
 
 -- k is one of the name's words in a member's block, and j one in an owner's
-abbrev pub OfMember : Slots → ℕ → Type 0
-OfMember w k = (k ≡ w.next) ⊎ ((k ≡ w.prev) ⊎ (k ≡ w.owner))
+abbrev pub IsOfMember : Slots → ℕ → Type 0
+IsOfMember w k = (k ≡ w.next) ⊎ ((k ≡ w.prev) ⊎ (k ≡ w.owner))
 
-abbrev pub OfOwner : Slots → ℕ → Type 0
-OfOwner w j = (j ≡ w.first) ⊎ ((j ≡ w.last) ⊎ (j ≡ w.count))
+abbrev pub IsOfOwner : Slots → ℕ → Type 0
+IsOfOwner w j = (j ≡ w.first) ⊎ ((j ≡ w.last) ⊎ (j ≡ w.count))
 
 -- the name's words are there, and no two are one
-pub record Grounds (w : Slots) (cs : Cells) (at home : ℕ → Ptr) (alive owns : ℕ → Type 0) : Type 0 where
+pub record AreSlotsApart (w : Slots) (cs : Cells) (at home : ℕ → Ptr) (alive owns : ℕ → Type 0) : Type 0 where
   pub members_apart : (x y : ℕ) → alive x → alive y → at x ≡ at y → x ≡ y
   pub owners_apart : (o p : ℕ) → owns o → owns p → home o ≡ home p → o ≡ p
-  pub member_room : (y k : ℕ) → alive y → OfMember w k → k < length (words_at cs (at y))
-  pub owner_room : (o k : ℕ) → owns o → OfOwner w k → k < length (words_at cs (home o))
+  pub member_room : (y k : ℕ) → alive y → IsOfMember w k → k < length (words_at cs (at y))
+  pub owner_room : (o k : ℕ) → owns o → IsOfOwner w k → k < length (words_at cs (home o))
   pub next_prev : w.next ≡ w.prev → ⊥
   pub next_owner : w.next ≡ w.owner → ⊥
   pub prev_owner : w.prev ≡ w.owner → ⊥
   pub first_last : w.first ≡ w.last → ⊥
   pub first_count : w.first ≡ w.count → ⊥
   pub last_count : w.last ≡ w.count → ⊥
-  pub crossed : (y o k j : ℕ) → alive y → owns o → OfMember w k → OfOwner w j → at y ≡ home o → k ≡ j → ⊥
+  pub crossed : (y o k j : ℕ) → alive y → owns o → IsOfMember w k → IsOfOwner w j → at y ≡ home o → k ≡ j → ⊥

@@ -34,8 +34,8 @@ abbrev pub IsMade : Made → ℕ → BlockPlace → Type 0
 IsMade ms i p = (c : ℕ) × (ps : List BlockPlace) × (slice_get ms c ≡ Some (Some ps)) × (slice_get ps i ≡ Some p)
 
 -- p is the place of some entity of the number i + 1
-abbrev pub Lists : Directory → ℕ → BlockPlace → Type 0
-Lists d i p = (slice_get d.numbers i ≡ Some (Some p)) ⊎ IsMade d.classes i p
+abbrev pub IsListedAt : Directory → ℕ → BlockPlace → Type 0
+IsListedAt d i p = (slice_get d.numbers i ≡ Some (Some p)) ⊎ IsMade d.classes i p
 
 abbrev pub place_in_record : Option (Option BlockPlace) → Ptr
 place_in_record None = null_ptr

@@ -10,7 +10,7 @@ use Rattle.ss_records_words.specs.declared.plan.Extent.{Extent}
 use Rattle.ss_records_words.specs.declared.plan.Bases.{Bases}
 use Rattle.ss_world.specs.State.{kind_of}
 use Rattle.ss_records_words.specs.Shape.{links_start, owned_start, block_words, joins, owned_by, count_sets}
-use Rattle.ss_records_words.specs.Kept.{Small}
+use Rattle.ss_records_words.specs.Kept.{IsSmall}
 use Rattle.ss_records_words.specs.Slotted.{member_base, owner_base}
 
 -- where the words of a class are
@@ -41,7 +41,7 @@ AreBases l xs = (s : ℕ) (t : SetLayout) → slice_get l.sets s ≡ Some t → 
 
 -- what a plan holds of a layout
 pub record IsPlan (l : Layout) (cs : List Extent) (ss : List Bases) (n : ℕ) : Type 0 where
-  pub small : Small l
+  pub small : IsSmall l
   pub classes : AreExtents l cs
   pub sets : AreBases l ss
   pub system : n ≡ count_sets (owned_by System) l.sets

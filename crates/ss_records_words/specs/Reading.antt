@@ -43,7 +43,7 @@ abbrev pub put_two : Cells → Ptr → ℕ → ℕ → ℕ → Cells
 put_two cs p k a b = put_word (put_word cs p k (number a)) p (k + 1) (number b)
 
 -- only the words k and k + 1 of the block at p have changed: they are of the value v
-pub record PutsValue (cs ds : Cells) (p : Ptr) (k : ℕ) (v : Value) : Type 0 where
+pub record IsValuePut (cs ds : Cells) (p : Ptr) (k : ℕ) (v : Value) : Type 0 where
   pub first : ℕ
   pub second : ℕ
   pub value : value_of_words (mode_of v) first second ≡ v

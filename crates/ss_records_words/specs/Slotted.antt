@@ -11,7 +11,7 @@ use Rattle.ss_world.specs.State.{Members, members_of}
 use Rattle.ss_records_words.specs.Shape.{links_start, owned_start, joins, owned_by, count_before}
 use Rattle.ss_records_words.specs.Places.{Directory, listing, entity_at, owner_at, class_at_place}
 use Rattle.ss_records_blocks.specs.Links.{Slots}
-use Rattle.ss_records_words.specs.Links.{Shows, words_of, OfMember, OfOwner}
+use Rattle.ss_records_words.specs.Links.{AreShowing, words_of, IsOfMember, IsOfOwner}
 
 abbrev pub member_base : Layout → ℕ → SetLayout → ℕ
 member_base l s t = links_start l t.member + 3 * count_before (joins t.member) l.sets s
@@ -46,15 +46,15 @@ MayOwn cs d System n = n ≡ 0
 MayOwn cs d (Class c) n = IsEntityOf cs d c n
 
 -- the links of the name s show its lists
-abbrev pub NameKept : Layout → Cells → Ptr → Directory → List Members → ℕ → SetLayout → Type 0
-NameKept l cs sys d ms s t = Shows (words_of (slots_of l s t) cs (entity_at sys d t.member) (owner_at sys d t.owner)) (entity_at sys d t.member) (owner_at sys d t.owner) (IsEntityOf cs d t.member) (MayOwn cs d t.owner) (members_of ms s)
+abbrev pub IsNameKept : Layout → Cells → Ptr → Directory → List Members → ℕ → SetLayout → Type 0
+IsNameKept l cs sys d ms s t = AreShowing (words_of (slots_of l s t) cs (entity_at sys d t.member) (owner_at sys d t.owner)) (entity_at sys d t.member) (owner_at sys d t.owner) (IsEntityOf cs d t.member) (MayOwn cs d t.owner) (members_of ms s)
 
 -- a word of the name s, in the block of a member or of an owner
-abbrev pub OfName : Layout → Cells → Ptr → Directory → ℕ → SetLayout → Ptr → ℕ → Type 0
-OfName l cs sys d s t p k = ((x : ℕ) × (IsEntityOf cs d t.member x) × (p ≡ entity_at sys d t.member x) × (OfMember (slots_of l s t) k)) ⊎ ((o : ℕ) × (MayOwn cs d t.owner o) × (p ≡ owner_at sys d t.owner o) × (OfOwner (slots_of l s t) k))
+abbrev pub IsOfName : Layout → Cells → Ptr → Directory → ℕ → SetLayout → Ptr → ℕ → Type 0
+IsOfName l cs sys d s t p k = ((x : ℕ) × (IsEntityOf cs d t.member x) × (p ≡ entity_at sys d t.member x) × (IsOfMember (slots_of l s t) k)) ⊎ ((o : ℕ) × (MayOwn cs d t.owner o) × (p ≡ owner_at sys d t.owner o) × (IsOfOwner (slots_of l s t) k))
 
 -- the blocks but for words of one kind are as they were
-pub record Spares (Of : Ptr → ℕ → Type 0) (cs ds : Cells) : Type 0 where
+pub record AreSpared (Of : Ptr → ℕ → Type 0) (cs ds : Cells) : Type 0 where
   pub word : (q : Ptr) (j : ℕ) → (Of q j → ⊥) → word_at ds q j ≡ word_at cs q j
   pub size : (q : Ptr) → length (words_at ds q) ≡ length (words_at cs q)
   pub count : length ds ≡ length cs

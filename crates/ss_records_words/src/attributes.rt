@@ -2,7 +2,7 @@
 // read nor written.
 ghost use Rattle.std.specs.Prelude.{◌≡◌, ◌+◌, ◌^◌, ◌<◌};
 ghost use Rattle.ss_records_blocks.specs.Cells.{IsNumber, word_at};
-ghost use Rattle.ss_records_words.specs.Reading.{value_at, PutsValue};
+ghost use Rattle.ss_records_words.specs.Reading.{value_at, IsValuePut};
 
 use crate::words;
 use ss_base::{Alpha, Mode, Value};
@@ -50,7 +50,7 @@ pub fn set_value(blocks: &mut Blocks, place: BlockPlace, k: usize, value: Value)
     requires first { IsNumber (word_at blocks.old.cells place.at k) }
     requires second { IsNumber (word_at blocks.old.cells place.at (k + 1)) }
     requires room { k + 1 < 2 ^ 64 }
-    ensures written { PutsValue blocks.old.cells blocks.new.cells place.at k value }
+    ensures written { IsValuePut blocks.old.cells blocks.new.cells place.at k value }
     ensures touches { (blocks.new.touches ≡ blocks.old.touches) × (blocks.new.total ≡ blocks.old.total) }
 {
     match value {
@@ -64,7 +64,7 @@ pub fn set_value(blocks: &mut Blocks, place: BlockPlace, k: usize, value: Value)
 pub fn set_whole(blocks: &mut Blocks, place: BlockPlace, k: usize, number: i64)
     requires first { IsNumber (word_at blocks.old.cells place.at k) }
     requires second { IsNumber (word_at blocks.old.cells place.at (k + 1)) }
-    ensures written { PutsValue blocks.old.cells blocks.new.cells place.at k (Value.Whole number) }
+    ensures written { IsValuePut blocks.old.cells blocks.new.cells place.at k (Value.Whole number) }
     ensures touches { (blocks.new.touches ≡ blocks.old.touches) × (blocks.new.total ≡ blocks.old.total) }
 {
     blocks.set_number(place, k, words::whole_word(number));
@@ -76,7 +76,7 @@ fn set_text(blocks: &mut Blocks, place: BlockPlace, k: usize, text: Alpha)
     requires first { IsNumber (word_at blocks.old.cells place.at k) }
     requires second { IsNumber (word_at blocks.old.cells place.at (k + 1)) }
     requires room { k + 1 < 2 ^ 64 }
-    ensures written { PutsValue blocks.old.cells blocks.new.cells place.at k (Value.Text text) }
+    ensures written { IsValuePut blocks.old.cells blocks.new.cells place.at k (Value.Text text) }
     ensures touches { (blocks.new.touches ≡ blocks.old.touches) × (blocks.new.total ≡ blocks.old.total) }
 {
     let both = words::text_words(text);

@@ -1,9 +1,9 @@
 // The words of a new block: its head, links that lead to itself, and empty sets.
 ghost use Rattle.std.specs.Prelude.{◌≡◌, ℕ, ◌+◌, ◌*◌, ◌^◌, ◌<◌, ◌≤◌, length};
 ghost use Rattle.ss_records_blocks.specs.Cells.{blank, word_at, words_at};
-ghost use Rattle.ss_records_words.specs.Laid.{Laid, LaidSystem};
+ghost use Rattle.ss_records_words.specs.Laid.{IsLaid, IsSystemLaid};
 ghost use Rattle.ss_records_words.specs.Shape.{block_words, set_places};
-ghost use Rattle.ss_records_words.specs.Kept.{Small};
+ghost use Rattle.ss_records_words.specs.Kept.{IsSmall};
 
 use crate::plan::LayoutPlan;
 use crate::shape::VALUES;
@@ -21,12 +21,12 @@ pub fn lay(
     number: u64,
     end: BlockPlace,
 )
-    requires small { Small layout.now }
+    requires small { IsSmall layout.now }
     requires class { class < length layout.now.classes }
     requires room { length (words_at blocks.old.cells place.at) ≡ block_words layout.now (Owner.Class class) }
     requires blank { (k : ℕ) → word_at blocks.old.cells place.at k ≡ blank }
     requires touches { blocks.old.touches ≤ 2 ^ 60 }
-    ensures laid { Laid layout.now blocks.old.cells blocks.new.cells end.at place.at class number }
+    ensures laid { IsLaid layout.now blocks.old.cells blocks.new.cells end.at place.at class number }
     ensures touches { blocks.new.total + blocks.old.touches ≡ blocks.old.total + blocks.new.touches }
     ensures links { blocks.new.touches ≡ blocks.old.touches + 3 * set_places layout.now (Owner.Class class) }
     ensures few { blocks.new.touches ≤ blocks.old.touches + 8388608 }
@@ -45,11 +45,11 @@ pub fn lay(
 
 /// Makes a blank block that of the system, without members.
 pub fn lay_system(blocks: &mut Blocks, layout: &LayoutPlan, place: BlockPlace)
-    requires small { Small layout.now }
+    requires small { IsSmall layout.now }
     requires room { length (words_at blocks.old.cells place.at) ≡ block_words layout.now Owner.System }
     requires blank { (k : ℕ) → word_at blocks.old.cells place.at k ≡ blank }
     requires touches { blocks.old.touches ≡ 0 }
-    ensures laid { LaidSystem layout.now blocks.old.cells blocks.new.cells place.at }
+    ensures laid { IsSystemLaid layout.now blocks.old.cells blocks.new.cells place.at }
     ensures touches { blocks.new.total ≡ blocks.old.total + blocks.new.touches }
     ensures links { blocks.new.touches ≡ 3 * set_places layout.now Owner.System }
 {

@@ -3,7 +3,7 @@ ghost use Rattle.std.specs.Prelude.{◌≡◌, ℕ, ◌+◌, ◌*◌, ◌^◌, �
 ghost use Rattle.ss_base.specs.declared.layout.SetLayout.{SetLayout};
 ghost use Rattle.ss_world.specs.State.{kind_of, modes_of, is_owner_class};
 ghost use Rattle.ss_records_words.specs.Shape.{values_end, links_start, owned_start, block_words, joins, owned_by, count_sets};
-ghost use Rattle.ss_records_words.specs.Kept.{Small};
+ghost use Rattle.ss_records_words.specs.Kept.{IsSmall};
 ghost use Rattle.ss_records_words.specs.Slotted.{member_base, owner_base};
 ghost use Rattle.ss_world.specs.Sets.{member_class, owner_kind};
 ghost use Rattle.ss_records_words.specs.Plans.{AreExtents, AreBases, is_permanent_kind, is_system};
@@ -59,7 +59,7 @@ impl Model for LayoutPlan {
 impl LayoutPlan {
     /// The plan of a layout. The error comes where memory was refused.
     pub fn new(alloc: Global, layout: Layout) -> Result<LayoutPlan, AllocError>
-        ensures { MatchResult result (λ plan. (plan ≡ layout) × Small layout) (λ _. ⊤) }
+        ensures { MatchResult result (λ plan. (plan ≡ layout) × IsSmall layout) (λ _. ⊤) }
     {
         shape::law(&layout);
         let classes = all_extents(alloc, &layout)?;
@@ -245,7 +245,7 @@ impl LayoutPlan {
 
 // The places of the words of each class.
 fn all_extents(alloc: Global, layout: &Layout) -> Result<Vec<Extent>, AllocError>
-    requires { Small layout.now }
+    requires { IsSmall layout.now }
     ensures { MatchResult result (λ xs. AreExtents layout.now xs.items) (λ _. ⊤) }
 {
     let mut extents = Vec::with_capacity(alloc, layout.classes.len())?;
@@ -266,7 +266,7 @@ fn all_extents(alloc: Global, layout: &Layout) -> Result<Vec<Extent>, AllocError
 
 // The places of the words of each set.
 fn all_bases(alloc: Global, layout: &Layout) -> Result<Vec<Bases>, AllocError>
-    requires { Small layout.now }
+    requires { IsSmall layout.now }
     ensures { MatchResult result (λ xs. AreBases layout.now xs.items) (λ _. ⊤) }
 {
     let mut bases = Vec::with_capacity(alloc, layout.sets.len())?;

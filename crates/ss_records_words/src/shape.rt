@@ -2,7 +2,7 @@
 ghost use Rattle.std.specs.Prelude.{◌≡◌, ℕ, ◌+◌, ◌*◌, ◌<◌, ◌≤◌, length, slice_get, Some};
 ghost use Rattle.ss_world.specs.State.{kind_of, modes_of};
 ghost use Rattle.ss_records_words.specs.Shape.{values_end, links_start, owned_start, joins, owned_by, count_sets};
-ghost use Rattle.ss_records_words.specs.Kept.{Small};
+ghost use Rattle.ss_records_words.specs.Kept.{IsSmall};
 ghost use Rattle.ss_records_words.specs.Slotted.{member_base, owner_base};
 ghost use Rattle.ss_records_words.specs.Plans.{is_permanent_kind, is_system};
 
@@ -23,7 +23,7 @@ pub fn value_start(field: usize) -> usize
 
 /// What a heap relies on of every layout.
 pub fn law(layout: &Layout)
-    ensures { Small layout.now }
+    ensures { IsSmall layout.now }
 {
     layout.law();
 }
@@ -49,7 +49,7 @@ pub fn mode(layout: &Layout, class: usize, field: usize) -> Mode
 
 /// Where the values of a class end: there is the time of a notice.
 pub fn values_end(layout: &Layout, class: usize) -> usize
-    requires small { Small layout.now }
+    requires small { IsSmall layout.now }
     requires class { class < length layout.now.classes }
     ensures at { result ≡ values_end layout.now class }
     ensures bound { result ≤ 2097154 }
@@ -60,7 +60,7 @@ pub fn values_end(layout: &Layout, class: usize) -> usize
 
 /// Where the links of a class begin.
 pub fn links_start(layout: &Layout, class: usize) -> usize
-    requires small { Small layout.now }
+    requires small { IsSmall layout.now }
     requires class { class < length layout.now.classes }
     ensures at { result ≡ links_start layout.now class }
     ensures bound { result ≤ 2097155 }
@@ -74,7 +74,7 @@ pub fn links_start(layout: &Layout, class: usize) -> usize
 
 /// Where the words of the sets that a class owns begin.
 pub fn owned_start(layout: &Layout, owner: Owner) -> usize
-    requires small { Small layout.now }
+    requires small { IsSmall layout.now }
     requires class { (c : ℕ) → owner ≡ Owner.Class c → c < length layout.now.classes }
     ensures at { result ≡ owned_start layout.now owner }
     ensures bound { result ≤ 5242883 }
@@ -87,7 +87,7 @@ pub fn owned_start(layout: &Layout, owner: Owner) -> usize
 
 /// How many sets a class joins.
 pub fn joined_count(layout: &Layout, class: usize) -> usize
-    requires small { Small layout.now }
+    requires small { IsSmall layout.now }
     ensures value { result ≡ count_sets (joins class) layout.now.sets }
     ensures bound { result ≤ 1048576 }
 {
@@ -96,7 +96,7 @@ pub fn joined_count(layout: &Layout, class: usize) -> usize
 
 /// How many sets an owner has.
 pub fn owned_count(layout: &Layout, owner: Owner) -> usize
-    requires small { Small layout.now }
+    requires small { IsSmall layout.now }
     ensures value { result ≡ count_sets (owned_by owner) layout.now.sets }
     ensures bound { result ≤ 1048576 }
 {
@@ -133,7 +133,7 @@ fn owned(sets: &[SetLayout], owner: Owner) -> usize
 
 /// Where the words of a set are in a member.
 pub fn member_base(layout: &Layout, s: usize) -> usize
-    requires small { Small layout.now }
+    requires small { IsSmall layout.now }
     requires set { s < length layout.now.sets }
     ensures at { (t : SetLayout) → slice_get layout.now.sets s ≡ Some t → result ≡ member_base layout.now s t }
     ensures bound { result ≤ 5242883 }
@@ -144,7 +144,7 @@ pub fn member_base(layout: &Layout, s: usize) -> usize
 
 /// Where the words of a set are in an owner.
 pub fn owner_base(layout: &Layout, s: usize) -> usize
-    requires small { Small layout.now }
+    requires small { IsSmall layout.now }
     requires set { s < length layout.now.sets }
     ensures at { (t : SetLayout) → slice_get layout.now.sets s ≡ Some t → result ≡ owner_base layout.now s t }
     ensures bound { result ≤ 8388614 }
@@ -155,7 +155,7 @@ pub fn owner_base(layout: &Layout, s: usize) -> usize
 
 /// The class of the members of a set.
 pub fn member_class(layout: &Layout, s: usize) -> usize
-    requires small { Small layout.now }
+    requires small { IsSmall layout.now }
     requires set { s < length layout.now.sets }
     ensures is { (t : SetLayout) → slice_get layout.now.sets s ≡ Some t → result ≡ t.member }
     ensures class { result < length layout.now.classes }
@@ -165,7 +165,7 @@ pub fn member_class(layout: &Layout, s: usize) -> usize
 
 /// The owner of a set.
 pub fn owner_class(layout: &Layout, s: usize) -> Owner
-    requires small { Small layout.now }
+    requires small { IsSmall layout.now }
     requires set { s < length layout.now.sets }
     ensures is { (t : SetLayout) → slice_get layout.now.sets s ≡ Some t → result ≡ t.owner }
     ensures class { (c : ℕ) → result ≡ Owner.Class c → c < length layout.now.classes }
@@ -175,7 +175,7 @@ pub fn owner_class(layout: &Layout, s: usize) -> Owner
 
 /// Whether the class of the members of a set is permanent.
 pub fn holds_permanent(layout: &Layout, s: usize) -> bool
-    requires small { Small layout.now }
+    requires small { IsSmall layout.now }
     requires set { s < length layout.now.sets }
     ensures { (t : SetLayout) → slice_get layout.now.sets s ≡ Some t → result ≡ is_permanent_kind (kind_of layout.now t.member) }
 {
@@ -187,7 +187,7 @@ pub fn holds_permanent(layout: &Layout, s: usize) -> bool
 
 /// Whether a set is one of the system.
 pub fn is_of_system(layout: &Layout, s: usize) -> bool
-    requires small { Small layout.now }
+    requires small { IsSmall layout.now }
     requires set { s < length layout.now.sets }
     ensures { (t : SetLayout) → slice_get layout.now.sets s ≡ Some t → result ≡ is_system t.owner }
 {

@@ -6,8 +6,8 @@ use Rattle.ss_base.specs.Order.{value_cmp}
 use Rattle.ss_base.specs.declared.value.Value.{Value}
 use Rattle.ss_base.specs.declared.layout.RankKey.{RankKey}
 use Rattle.ss_world.specs.State.{State}
-use Rattle.ss_world.specs.Lists.{In}
-use Rattle.ss_world.specs.Sets.{owner, member_class, Apart}
+use Rattle.ss_world.specs.Lists.{IsInList}
+use Rattle.ss_world.specs.Sets.{owner, member_class, AreMembersApart}
 use Rattle.ss_world.specs.Disciplines.{value_of, ranks_after, members_passed, owned}
 use Rattle.ss_records.specs.Passing.{ranks_past, first_where, before_where}
 use Rattle.ss_sets.specs.Walks.{first_after, as_member}
@@ -27,7 +27,7 @@ some_member zero h = absurd (h refl)
 some_member (suc n) h = refl
 
 module _ (st : State) (c : ℕ) (ks : List RankKey) (x : ℤ) (t : ℕ → Bool) (same : (y : ℕ) → ranks_after st c ks (pos y) x ≡ t y) where
-  first_is : (l : List ℕ) → ((y : ℕ) → In y l → 0 ≡ y → ⊥) → as_member (pos (first_where t l)) ≡ first_after st c ks x l
+  first_is : (l : List ℕ) → ((y : ℕ) → IsInList y l → 0 ≡ y → ⊥) → as_member (pos (first_where t l)) ≡ first_after st c ks x l
   first_is [] some = refl
   first_is (y ∷ ys) some = by_test (t y)
       (λ e. rw (e, same y ∙ e) (some_member y (some y (inl refl))))
@@ -38,7 +38,7 @@ module _ (st : State) (c : ℕ) (ks : List RankKey) (x : ℤ) (t : ℕ → Bool)
   before_is (y ∷ ys) = by_test (t y) (λ e. rw (e, same y ∙ e) refl) (λ e. rw (e, same y ∙ e) (ap suc (before_is ys)))
 
 -- by one key, where v is the value of x
-module _ (st : State) (A : Apart st) (s : ℕ) (inside : s < length st.layout.sets) (k : RankKey) (o x : ℤ) (v : Value) (own : value_of st (member_class st.layout s) k.field x ≡ v) where
+module _ (st : State) (A : AreMembersApart st) (s : ℕ) (inside : s < length st.layout.sets) (k : RankKey) (o x : ℤ) (v : Value) (own : value_of st (member_class st.layout s) k.field x ≡ v) where
   abbrev class : ℕ
   class = member_class st.layout s
 

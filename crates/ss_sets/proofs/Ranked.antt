@@ -7,8 +7,8 @@ use Rattle.ss_base.specs.declared.layout.ClassKind.{ClassKind}
 use Rattle.ss_base.specs.declared.layout.ClassKind.TheVariants.{Permanent, Temporary, Notice}
 use Rattle.ss_base.specs.declared.layout.RankKey.{RankKey}
 use Rattle.ss_world.specs.State.{State, Record, and_then, entity_in, entity_of_kind, kind_of, number_in, members_of, contains, owner_of, is_filed}
-use Rattle.ss_world.specs.Lists.{In}
-use Rattle.ss_world.specs.Sets.{joiner, owner, member_class, as_number, owner_of_member, put_before, put_in, put_beside, with_list_of, filed_last, filed_before, Apart}
+use Rattle.ss_world.specs.Lists.{IsInList}
+use Rattle.ss_world.specs.Sets.{joiner, owner, member_class, as_number, owner_of_member, put_before, put_in, put_beside, with_list_of, filed_last, filed_before, AreMembersApart}
 use Rattle.ss_world.specs.Disciplines.{ranks_after, put_ranked, members_owned_by, owned, filed_ranked}
 use Rattle.ss_sets.specs.Walks.{first_after, filed_at}
 use Rattle.ss_records.proofs.Same.{same, differs, false_is_not_true}
@@ -32,7 +32,7 @@ module _ (st : State) (c : ℕ) (ks : List RankKey) (x : ℕ) where
     ranks : ranks_after st c ks (pos y) (pos x) ≡ true
     put : put_ranked st c ks x l ≡ put_before y x l
     has : contains l y ≡ true
-    in_it : In y l
+    in_it : IsInList y l
 
   put_on : (z : ℕ) (zs : List ℕ) (y : ℕ) → ranks_after st c ks (pos z) (pos x) ≡ false → (z == y) ≡ false → put_ranked st c ks x zs ≡ put_before y x zs → put_ranked st c ks x (z ∷ zs) ≡ put_before y x (z ∷ zs)
   put_on z zs y e d h = rw (e, d) (ap (λ l. z ∷ l) h)
@@ -63,7 +63,7 @@ joined st s (negsuc k) n h =
     let w = went_on (entity_in st (member_class st.layout s) (negsuc k)) (λ r. Ok (number_in (negsuc k))) n (sym h) in
     absurd (no_negative st (kind_of st.layout (member_class st.layout s)) (member_class st.layout s) k w.0 w.1)
 
-module _ (st : State) (A : Apart st) (ks : List RankKey) (s : ℕ) (inside : s < length st.layout.sets) (o x : ℤ) where
+module _ (st : State) (A : AreMembersApart st) (ks : List RankKey) (s : ℕ) (inside : s < length st.layout.sets) (o x : ℤ) where
   abbrev class : ℕ
   class = member_class st.layout s
 

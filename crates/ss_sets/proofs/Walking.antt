@@ -8,8 +8,8 @@ use Rattle.std.specs.Ordering.{match_ordering}
 use Rattle.ss_base.specs.Order.{value_cmp}
 use Rattle.ss_base.specs.declared.value.Value.{Value}
 use Rattle.ss_world.specs.State.{State, and_then, members_of, number_in, value_in, modes_of}
-use Rattle.ss_world.specs.Lists.{head0, In, NotIn, Distinct}
-use Rattle.ss_world.specs.Sets.{joiner, owner, member_class, follower, members_by, companions, first_in, next_in, Apart}
+use Rattle.ss_world.specs.Lists.{head0, IsInList, IsNotInList, AreAllDistinct}
+use Rattle.ss_world.specs.Sets.{joiner, owner, member_class, follower, members_by, companions, first_in, next_in, AreMembersApart}
 use Rattle.std.proofs.lemmas.List.Elements.{All-head, All-tail}
 use Rattle.ss_base.specs.declared.layout.Layout.{Layout}
 use Rattle.ss_world.specs.Disciplines.{AreFields, value_of, value_or_zero, ranks_after, members_passed, members_owned_by, owned}
@@ -31,12 +31,12 @@ abbrev pub leader : List ℕ → Option ℤ
 leader [] = None
 leader (z ∷ zs) = Some (pos z)
 
-out_of : (y : ℕ) (l : List ℕ) → NotIn y l → In y l → ⊥
+out_of : (y : ℕ) (l : List ℕ) → IsNotInList y l → IsInList y l → ⊥
 out_of y [] n h = absurd h
 out_of y (z ∷ zs) n (inl e) = n.0 e
 out_of y (z ∷ zs) n (inr h) = out_of y zs n.1 h
 
-leader_is : (l : List ℕ) → ((x : ℕ) → In x l → 0 ≡ x → ⊥) → as_member (pos (head0 l)) ≡ leader l
+leader_is : (l : List ℕ) → ((x : ℕ) → IsInList x l → 0 ≡ x → ⊥) → as_member (pos (head0 l)) ≡ leader l
 leader_is [] h = refl
 leader_is (zero ∷ zs) h = absurd (h 0 (inl refl) refl)
 leader_is (suc n ∷ zs) h = refl
@@ -46,10 +46,10 @@ onward_all [] = refl
 onward_all (z ∷ zs) = rw (same z) refl
 
 -- the members from y on are in the list
-from_in : (l : List ℕ) (y z : ℕ) (zs : List ℕ) → from_number y l ≡ z ∷ zs → (x : ℕ) → In x (z ∷ zs) → In x l
+from_in : (l : List ℕ) (y z : ℕ) (zs : List ℕ) → from_number y l ≡ z ∷ zs → (x : ℕ) → IsInList x (z ∷ zs) → IsInList x l
 from_in [] y z zs h x i = cc
 from_in (v ∷ vs) y z zs h x i = by_same v y
-    (λ e q. let r : v ∷ vs ≡ z ∷ zs = sym (rw e refl) ∙ h in subst (In x) (sym r) i)
+    (λ e q. let r : v ∷ vs ≡ z ∷ zs = sym (rw e refl) ∙ h in subst (IsInList x) (sym r) i)
     (λ e n. inr (from_in vs y z zs (sym (rw e refl) ∙ h) x i))
 
 follower_from : (l : List ℕ) (z : ℕ) (zs : List ℕ) → from_number z l ≡ z ∷ zs → follower z l ≡ head0 zs
@@ -58,33 +58,33 @@ follower_from (v ∷ vs) z zs h = by_same v z
     (λ e q. let r : v ∷ vs ≡ z ∷ zs = sym (rw e refl) ∙ h in let k : vs ≡ zs = cc in rw e (ap head0 k))
     (λ e n. rw e (follower_from vs z zs (sym (rw e refl) ∙ h)))
 
-from_follower : (l : List ℕ) (z w : ℕ) (ws : List ℕ) → Distinct l → from_number z l ≡ z ∷ w ∷ ws → from_number w l ≡ w ∷ ws
+from_follower : (l : List ℕ) (z w : ℕ) (ws : List ℕ) → AreAllDistinct l → from_number z l ≡ z ∷ w ∷ ws → from_number w l ≡ w ∷ ws
 from_follower [] z w ws d h = cc
 from_follower (v ∷ vs) z w ws d h = by_same v z
     (λ e q. let r : v ∷ vs ≡ z ∷ w ∷ ws = sym (rw e refl) ∙ h in let k : vs ≡ w ∷ ws = cc in
-    rw (differs v w (λ u. out_of v vs d.0 (subst (λ n. In n vs) (sym u) (subst (In w) (sym k) (inl refl))))) (ap (from_number w) k ∙ rw (same w) refl))
+    rw (differs v w (λ u. out_of v vs d.0 (subst (λ n. IsInList n vs) (sym u) (subst (IsInList w) (sym k) (inl refl))))) (ap (from_number w) k ∙ rw (same w) refl))
     (λ e n. let i = sym (rw e refl) ∙ h in
-    rw (differs v w (λ u. out_of v vs d.0 (subst (λ n. In n vs) (sym u) (from_in vs z z (w ∷ ws) i w (inr (inl refl)))))) (from_follower vs z w ws d.1 i))
+    rw (differs v w (λ u. out_of v vs d.0 (subst (λ n. IsInList n vs) (sym u) (from_in vs z z (w ∷ ws) i w (inr (inl refl)))))) (from_follower vs z w ws d.1 i))
 
-onward_follower : (l : List ℕ) (z : ℕ) (zs : List ℕ) → Distinct l → from_number z l ≡ z ∷ zs → onward (leader zs) l ≡ zs
+onward_follower : (l : List ℕ) (z : ℕ) (zs : List ℕ) → AreAllDistinct l → from_number z l ≡ z ∷ zs → onward (leader zs) l ≡ zs
 onward_follower l z [] d h = refl
 onward_follower l z (w ∷ ws) d h = from_follower l z w ws d h
 
-module _ (st : State) (A : Apart st) (s : ℕ) (inside : s < length st.layout.sets) where
+module _ (st : State) (A : AreMembersApart st) (s : ℕ) (inside : s < length st.layout.sets) where
   -- a member's set is the owner's
-  own_list : (r : Result ℕ FaultKind) (z : ℕ) → In z (members_owned_by st s r) → (m : ℕ) × (members_owned_by st s r ≡ members_of st.lists s m)
+  own_list : (r : Result ℕ FaultKind) (z : ℕ) → IsInList z (members_owned_by st s r) → (m : ℕ) × (members_owned_by st s r ≡ members_of st.lists s m)
   own_list (Ok m) z h = (m, refl)
   own_list (Err e) z h = absurd h
 
-  distinct_by : (r : Result ℕ FaultKind) → Distinct (members_owned_by st s r)
+  distinct_by : (r : Result ℕ FaultKind) → AreAllDistinct (members_owned_by st s r)
   distinct_by (Ok m) = A.distinct s m inside
   distinct_by (Err e) = tt
 
-  pub member_by : (r : Result ℕ FaultKind) (x : ℕ) → In x (members_owned_by st s r) → (0 ≡ x → ⊥) × (joiner st s (pos x) ≡ Ok x)
+  pub member_by : (r : Result ℕ FaultKind) (x : ℕ) → IsInList x (members_owned_by st s r) → (0 ≡ x → ⊥) × (joiner st s (pos x) ≡ Ok x)
   member_by (Ok m) x h = A.members s m x inside h
   member_by (Err e) x h = absurd h
 
-  companions_by : (r : Result ℕ FaultKind) (x : ℕ) → In x (members_owned_by st s r) → companions st.lists s x ≡ members_owned_by st s r
+  companions_by : (r : Result ℕ FaultKind) (x : ℕ) → IsInList x (members_owned_by st s r) → companions st.lists s x ≡ members_owned_by st s r
   companions_by (Ok m) x h = ap (members_by st.lists s) (A.sole s m x inside h)
   companions_by (Err e) x h = absurd h
 
@@ -93,7 +93,7 @@ module _ (st : State) (A : Apart st) (s : ℕ) (inside : s < length st.layout.se
     first_leads = leader_is (owned st s o) (λ x h. (member_by (owner st s o) x h).0)
 
     module _ (z : ℕ) (zs : List ℕ) (h : from_number z (owned st s o) ≡ z ∷ zs) where
-      here : In z (owned st s o)
+      here : IsInList z (owned st s o)
       here = from_in (owned st s o) z z zs h z (inl refl)
 
       pub next_is : next_in st s (pos z) ≡ Ok (pos (head0 zs))
@@ -188,7 +188,7 @@ pub record Looked (st : State) (set : ℕ) (o x : ℤ) (ks : List RankKey) (memb
   pub following : onward (as_member next) (owned st set o) ≡ zs
   pub ranks : ranks_after st (member_class st.layout set) ks (pos z) x ≡ b
 
-pub looked : (st : State) (A : Apart st) (set : ℕ) (inside : set < length st.layout.sets) (o x : ℤ) (k : RankKey) (ks : List RankKey) (member : Option ℤ) (y v : ℤ) → member ≡ Some y → member ≡ leader (onward member (owned st set o)) → v ≡ y
+pub looked : (st : State) (A : AreMembersApart st) (set : ℕ) (inside : set < length st.layout.sets) (o x : ℤ) (k : RankKey) (ks : List RankKey) (member : Option ℤ) (y v : ℤ) → member ≡ Some y → member ≡ leader (onward member (owned st set o)) → v ≡ y
     → (s t : State) → s ≡ st → t ≡ s → (n : ℕ) → n ≡ member_class st.layout set → (its own : Value) (next : ℤ) → value_in s (member_class s.layout set) k.field v ≡ Ok its → next_in s set v ≡ Ok next → own ≡ value_of st n k.field x
     → (order : Ordering) (b : Bool) → order ≡ value_cmp its own → b ≡ match_ordering order k.high (ranks_after t n ks v x) (not k.high) → Looked st set o x (k ∷ ks) member y next b
 looked st A set inside o x k ks member y v is here hand s t same kept n class its own next value following own_is order b ordered ordered_so =

@@ -1,13 +1,13 @@
 // Whether a discipline fits a set.
 ghost use Rattle.std.specs.Prelude.{◌↔◌, ◌<◌, length, IsTrue};
-ghost use Rattle.ss_world.specs.Disciplines.{FitsMembers};
+ghost use Rattle.ss_world.specs.Disciplines.{HasMemberKeys};
 
 use ss_base::{Discipline, Layout};
 
 /// Whether the keys of a discipline are fields of the class of a set's members, which `file` asks of its caller.
 pub fn fits(layout: &Layout, set: usize, discipline: &Discipline) -> bool
     requires set { set < length layout.now.sets }
-    ensures { IsTrue result ↔ FitsMembers layout.now set discipline.now }
+    ensures { IsTrue result ↔ HasMemberKeys layout.now set discipline.now }
 {
     match discipline {
         Discipline::Fifo | Discipline::Lifo => true,

@@ -5,7 +5,7 @@ ghost use Rattle.std.specs.Cmp.Lexicographic.{slice_cmp};
 ghost use Rattle.ss_base.specs.Order.{value_cmp};
 ghost use Rattle.ss_world.specs.State.{and_then, modes_of};
 ghost use Rattle.ss_world.specs.Sets.{owner, member_class, first_in};
-ghost use Rattle.ss_world.specs.Disciplines.{value_of, ranks_after, members_passed, passed_by, owned, filed_ranked, filed, AreFields, FitsMembers};
+ghost use Rattle.ss_world.specs.Disciplines.{value_of, ranks_after, members_passed, passed_by, owned, filed_ranked, filed, AreFields, HasMemberKeys};
 ghost use Rattle.ss_sets.specs.Walks.{first_after, as_member, filed_at};
 
 use ss_base::{Alpha, Discipline, FaultKind, Mode, RankKey, Value};
@@ -39,7 +39,7 @@ pub fn file(
     x: i64,
 ) -> Result<(), FaultKind>
     requires set { set < length heap.old.state.layout.sets }
-    requires keys { FitsMembers heap.old.state.layout set discipline.now }
+    requires keys { HasMemberKeys heap.old.state.layout set discipline.now }
     ensures done { MatchResult result (λ _. filed heap.old.state discipline.now set o x ≡ Ok heap.new.state) (λ e. (filed heap.old.state discipline.now set o x ≡ Err e) × (heap.new.state ≡ heap.old.state)) }
     ensures touches { (heap.old.total ≤ heap.new.total) × (heap.new.total ≤ heap.old.total + 16 + passed_by heap.old.state discipline.now set o x) }
     ensures least { IsOk result → heap.old.total + 4 ≤ heap.new.total }

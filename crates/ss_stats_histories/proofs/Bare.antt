@@ -5,10 +5,10 @@ use Rattle.ss_stats.specs.History.{History}
 use Rattle.ss_program.specs.declared.sections.Statistic.{Statistic}
 use Rattle.ss_meaning.specs.Histories.{no_histories}
 use Rattle.ss_stats_histories.specs.Records.{Recorded, Rows, column_of, columns_of, IsUntil, rows_of, none_yet, none_in}
-use Rattle.ss_stats_histories.specs.Each.{StatisticHistories, shown, bare, KeptUntil}
+use Rattle.ss_stats_histories.specs.Each.{StatisticHistories, shown, bare, IsKeptUntil}
 use Rattle.ss_stats_histories.proofs.Columns.{head_of, tail_of, not_none, joined, none_is}
 
-pub until_bare : (latest : ℤ) (ks ns : List Recorded) → map bare ns ≡ map bare ks → All (KeptUntil latest) ks → All (KeptUntil latest) ns
+pub until_bare : (latest : ℤ) (ks ns : List Recorded) → map bare ns ≡ map bare ks → All (IsKeptUntil latest) ks → All (IsKeptUntil latest) ns
 until_bare latest ks [] e u k d h = absurd (omega (arith, h))
 until_bare latest [] (n ∷ ns) e u k d h = absurd (not_none _ _ e)
 until_bare latest (k ∷ ks) (n ∷ ns) e u zero d h =
@@ -37,7 +37,7 @@ none_there x = by (int_eq (pos 0) x) None where
 empty_until : (latest : ℤ) (rows : Rows) → rows ≡ none_yet → IsUntil latest (column_of rows)
 empty_until latest rows e = subst (λ (r : Rows). IsUntil latest (column_of r)) (sym e) (λ x h p. absurd (none_is h (sym (none_there x) ∙ p)))
 
-pub fresh_until : (latest : ℤ) (ss : List Statistic) (ks : List Recorded) → rows_of ks ≡ map none_in ss → All (KeptUntil latest) ks
+pub fresh_until : (latest : ℤ) (ss : List Statistic) (ks : List Recorded) → rows_of ks ≡ map none_in ss → All (IsKeptUntil latest) ks
 fresh_until latest ss [] e k d h = absurd (omega (arith, h))
 fresh_until latest [] (n ∷ ns) e k d h = absurd (not_none _ _ e)
 fresh_until latest (s ∷ ss) (n ∷ ns) e zero d h = empty_until latest n.rows (ap (head_of n.rows) e)

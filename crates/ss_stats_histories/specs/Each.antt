@@ -21,8 +21,8 @@ abbrev pub shown : Recorded → StatisticHistories
 shown k = (k.statistic, column_of k.rows)
 
 -- no history of the statistic has a moment after this one
-abbrev pub KeptUntil : (latest : ℤ) → Recorded → Type 0
-KeptUntil latest k = IsUntil latest (column_of k.rows)
+abbrev pub IsKeptUntil : (latest : ℤ) → Recorded → Type 0
+IsKeptUntil latest k = IsUntil latest (column_of k.rows)
 
 -- there is room for so many histories in each statistic that is kept of what an owner has
 abbrev pub HasRoom : Layout → Owner → (count : ℤ) → Recorded → Type 0

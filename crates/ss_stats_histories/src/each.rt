@@ -6,7 +6,7 @@ ghost use Rattle.std.specs.Ordering.{int_eq};
 ghost use Rattle.ss_base.specs.declared.value.Value.TheVariants.{Whole};
 ghost use Rattle.ss_base.specs.Layout.{same_owner};
 ghost use Rattle.ss_meaning.specs.Histories.{home};
-ghost use Rattle.ss_stats_histories.specs.Each.{shown, bare, KeptUntil, HasRoom, begun_shown, ended_shown, noted_one, noted_by, renewed_one, changed_at, refused_at, stops_at, first_at, has_at};
+ghost use Rattle.ss_stats_histories.specs.Each.{shown, bare, IsKeptUntil, HasRoom, begun_shown, ended_shown, noted_one, noted_by, renewed_one, changed_at, refused_at, stops_at, first_at, has_at};
 ghost use Rattle.ss_stats_histories.specs.Places.{has_some};
 ghost use Rattle.ss_stats_histories.specs.Records.{statistics_of, rows_of, none_in, is_home, is_up_to};
 
@@ -24,7 +24,7 @@ pub(crate) fn first_refused(
     now: i64,
 ) -> Option<Unnoted>
     requires within { All (λ j. j < length kept.now) places.now }
-    requires until { All (KeptUntil now) kept.now }
+    requires until { All (IsKeptUntil now) kept.now }
     ensures { result ≡ first_at (refused_at entity (map shown kept.now)) places.now }
 {
     let mut found = None;
@@ -47,9 +47,9 @@ pub(crate) fn has_at(kept: &[Kept], place: usize, entity: i64) -> bool
 /// Starts the history of an entity afresh in the statistic at a place, if it has one there, with the present value.
 pub(crate) fn renew_at(kept: &mut [Kept], place: usize, entity: i64, now: i64, present: i64)
     requires there { IsTrue (has_at entity (map shown kept.old) place) }
-    requires until { All (KeptUntil now) kept.old }
+    requires until { All (IsKeptUntil now) kept.old }
     ensures shown { map shown kept.new ≡ changed_at (renewed_one entity now present) (map shown kept.old) place }
-    ensures until { All (KeptUntil now) kept.new }
+    ensures until { All (IsKeptUntil now) kept.new }
 {
     kept[place].renew(entity, now, present);
 }
@@ -57,9 +57,9 @@ pub(crate) fn renew_at(kept: &mut [Kept], place: usize, entity: i64, now: i64, p
 /// Notes a value in the histories of an entity that aren't full in the statistics at some places.
 pub(crate) fn note_each(kept: &mut [Kept], places: &[usize], entity: i64, now: i64, value: i64)
     requires within { All (λ j. j < length kept.old) places.now }
-    requires until { All (KeptUntil now) kept.old }
+    requires until { All (IsKeptUntil now) kept.old }
     ensures shown { map shown kept.new ≡ fold (changed_at (noted_one entity now value)) (map shown kept.old) places.now }
-    ensures until { All (KeptUntil now) kept.new }
+    ensures until { All (IsKeptUntil now) kept.new }
 {
     for place in places {
         kept[*place].note(entity, now, value);
@@ -99,11 +99,11 @@ pub(crate) fn note_here(
     number: i64,
 ) -> Option<Unnoted>
     requires within { place < length kept.old }
-    requires until { All (KeptUntil now) kept.old }
+    requires until { All (IsKeptUntil now) kept.old }
     ensures refused { result ≡ refused_at entity (map shown kept.old) place }
     ensures same { IfSome result (λ _. kept.new ≡ kept.old) }
     ensures shown { map shown kept.new ≡ changed_at (noted_one entity now number) (map shown kept.old) place }
-    ensures until { All (KeptUntil now) kept.new }
+    ensures until { All (IsKeptUntil now) kept.new }
 {
     kept[place].note_or_refuse(entity, now, number)
 }
@@ -118,9 +118,9 @@ fn note_refusable(
     number: i64,
 ) -> Result<(), Unnoted>
     requires within { All (λ j. j < length kept.old) places.now }
-    requires until { All (KeptUntil now) kept.old }
+    requires until { All (IsKeptUntil now) kept.old }
     ensures noted { MatchResult result (λ _. (first_at (stops_at (Whole number) entity (map shown kept.old)) places.now ≡ None) × (map shown kept.new ≡ fold (changed_at (noted_by entity now (Whole number))) (map shown kept.old) places.now)) (λ e. (first_at (stops_at (Whole number) entity (map shown kept.old)) places.now ≡ Some e) × (kept.new ≡ kept.old)) }
-    ensures until { All (KeptUntil now) kept.new }
+    ensures until { All (IsKeptUntil now) kept.new }
 {
     match first_refused(kept, places, entity, now) {
         Some(refused) => Err(refused),
@@ -141,9 +141,9 @@ fn note_number(
     number: i64,
 ) -> Result<(), Unnoted>
     requires within { All (λ j. j < length kept.old) places.now }
-    requires until { All (KeptUntil now) kept.old }
+    requires until { All (IsKeptUntil now) kept.old }
     ensures noted { MatchResult result (λ _. (first_at (stops_at (Whole number) entity (map shown kept.old)) places.now ≡ None) × (map shown kept.new ≡ fold (changed_at (noted_by entity now (Whole number))) (map shown kept.old) places.now)) (λ e. (first_at (stops_at (Whole number) entity (map shown kept.old)) places.now ≡ Some e) × (kept.new ≡ kept.old)) }
-    ensures until { All (KeptUntil now) kept.new }
+    ensures until { All (IsKeptUntil now) kept.new }
 {
     match places {
         [] => Ok(()),
@@ -166,9 +166,9 @@ pub(crate) fn note_all(
     value: Value,
 ) -> Result<(), Unnoted>
     requires within { All (λ j. j < length kept.old) places.now }
-    requires until { All (KeptUntil now) kept.old }
+    requires until { All (IsKeptUntil now) kept.old }
     ensures noted { MatchResult result (λ _. (first_at (stops_at value entity (map shown kept.old)) places.now ≡ None) × (map shown kept.new ≡ fold (changed_at (noted_by entity now value)) (map shown kept.old) places.now)) (λ e. (first_at (stops_at value entity (map shown kept.old)) places.now ≡ Some e) × (kept.new ≡ kept.old)) }
-    ensures until { All (KeptUntil now) kept.new }
+    ensures until { All (IsKeptUntil now) kept.new }
 {
     match value {
         Value::Whole(number) => note_number(kept, places, entity, now, number),
@@ -248,9 +248,9 @@ fn reserve_one(kept: &mut Kept, layout: &Layout, whose: Owner, count: i64) -> Re
 pub(crate) fn begin_each(kept: &mut [Kept], layout: &Layout, whose: Owner, entity: i64, now: i64)
     requires now { pos 0 ≤ℤ now }
     requires room { All (HasRoom layout.now whose (pos 1)) kept.old }
-    requires until { All (KeptUntil now) kept.old }
+    requires until { All (IsKeptUntil now) kept.old }
     ensures shown { map shown kept.new ≡ map (begun_shown layout.now whose (int_eq entity) now) (map shown kept.old) }
-    ensures until { All (KeptUntil now) kept.new }
+    ensures until { All (IsKeptUntil now) kept.new }
 {
     for place in 0..kept.len() {
         begin_one(&mut kept[place], layout, whose, entity, now);
@@ -261,9 +261,9 @@ pub(crate) fn begin_each(kept: &mut [Kept], layout: &Layout, whose: Owner, entit
 fn begin_one(kept: &mut Kept, layout: &Layout, whose: Owner, entity: i64, now: i64)
     requires now { pos 0 ≤ℤ now }
     requires room { HasRoom layout.now whose (pos 1) kept.old }
-    requires until { KeptUntil now kept.old }
+    requires until { IsKeptUntil now kept.old }
     ensures shown { shown kept.new ≡ begun_shown layout.now whose (int_eq entity) now (shown kept.old) }
-    ensures until { KeptUntil now kept.new }
+    ensures until { IsKeptUntil now kept.new }
 {
     if is_home(layout, whose, kept.statistic()) {
         kept.begin(entity, now);
@@ -274,9 +274,9 @@ fn begin_one(kept: &mut Kept, layout: &Layout, whose: Owner, entity: i64, now: i
 pub(crate) fn begin_all_each(kept: &mut [Kept], layout: &Layout, whose: Owner, count: i64, now: i64)
     requires now { pos 0 ≤ℤ now }
     requires room { All (HasRoom layout.now whose count) kept.old }
-    requires until { All (KeptUntil now) kept.old }
+    requires until { All (IsKeptUntil now) kept.old }
     ensures shown { map shown kept.new ≡ map (begun_shown layout.now whose (is_up_to count) now) (map shown kept.old) }
-    ensures until { All (KeptUntil now) kept.new }
+    ensures until { All (IsKeptUntil now) kept.new }
 {
     for place in 0..kept.len() {
         begin_all_one(&mut kept[place], layout, whose, count, now);
@@ -286,9 +286,9 @@ pub(crate) fn begin_all_each(kept: &mut [Kept], layout: &Layout, whose: Owner, c
 fn begin_all_one(kept: &mut Kept, layout: &Layout, whose: Owner, count: i64, now: i64)
     requires now { pos 0 ≤ℤ now }
     requires room { HasRoom layout.now whose count kept.old }
-    requires until { KeptUntil now kept.old }
+    requires until { IsKeptUntil now kept.old }
     ensures shown { shown kept.new ≡ begun_shown layout.now whose (is_up_to count) now (shown kept.old) }
-    ensures until { KeptUntil now kept.new }
+    ensures until { IsKeptUntil now kept.new }
 {
     if is_home(layout, whose, kept.statistic()) {
         kept.begin_all(count, now);
@@ -298,9 +298,9 @@ fn begin_all_one(kept: &mut Kept, layout: &Layout, whose: Owner, count: i64, now
 /// Gives back what is kept of an entity in each statistic that is kept of what its class has.
 #[inline(always)]
 pub(crate) fn end_each(kept: &mut [Kept], layout: &Layout, whose: Owner, entity: i64, latest: i64)
-    requires until { All (KeptUntil latest) kept.old }
+    requires until { All (IsKeptUntil latest) kept.old }
     ensures shown { map shown kept.new ≡ map (ended_shown layout.now whose entity) (map shown kept.old) }
-    ensures until { All (KeptUntil latest) kept.new }
+    ensures until { All (IsKeptUntil latest) kept.new }
 {
     for place in 0..kept.len() {
         end_one(&mut kept[place], layout, whose, entity, latest);
@@ -309,9 +309,9 @@ pub(crate) fn end_each(kept: &mut [Kept], layout: &Layout, whose: Owner, entity:
 
 #[inline(always)]
 fn end_one(kept: &mut Kept, layout: &Layout, whose: Owner, entity: i64, latest: i64)
-    requires until { KeptUntil latest kept.old }
+    requires until { IsKeptUntil latest kept.old }
     ensures shown { shown kept.new ≡ ended_shown layout.now whose entity (shown kept.old) }
-    ensures until { KeptUntil latest kept.new }
+    ensures until { IsKeptUntil latest kept.new }
 {
     if is_home(layout, whose, kept.statistic()) {
         kept.end(entity);

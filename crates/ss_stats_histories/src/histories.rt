@@ -14,7 +14,7 @@ ghost use Rattle.ss_picture.specs.Suited.{IsMean};
 ghost use Rattle.ss_meaning.specs.Values.{if_ok, sure};
 ghost use Rattle.ss_meaning.specs.Histories.{no_histories, starting, ending, all_noting, history_of_subject, folded, renewed};
 ghost use Rattle.ss_stats_histories.specs.Records.{columns_of, statistics_of, rows_of, figured, mean_in, HasRooms, is_up_to, why, renewed_where};
-ghost use Rattle.ss_stats_histories.specs.Each.{KeptUntil};
+ghost use Rattle.ss_stats_histories.specs.Each.{IsKeptUntil};
 ghost use Rattle.ss_stats_histories.specs.Places.{is_about, places_where as places_of};
 
 use crate::about::About;
@@ -44,13 +44,13 @@ impl Model for Histories {
     ghost use Rattle.std.specs.Prelude.{◌≡◌, ◌≤ℤ◌, pos, map};
     ghost use Rattle.std.specs.List.{All};
     ghost use Rattle.ss_stats_histories.specs.Records.{Records, statistics_of, rows_of, rooms_of};
-    ghost use Rattle.ss_stats_histories.specs.Each.{KeptUntil};
+    ghost use Rattle.ss_stats_histories.specs.Each.{IsKeptUntil};
 
     ghost Value = { Records };
 
     ghost view = { λ h. record { statistics = statistics_of h.kept.items; rows = rows_of h.kept.items; latest = h.latest; room = rooms_of h.kept.items } };
 
-    ghost invariant = { λ h. (h.about ≡ statistics_of h.kept.items) × (pos 0 ≤ℤ h.latest) × All (KeptUntil h.latest) h.kept.items };
+    ghost invariant = { λ h. (h.about ≡ statistics_of h.kept.items) × (pos 0 ≤ℤ h.latest) × All (IsKeptUntil h.latest) h.kept.items };
 }
 
 impl Histories {
@@ -243,12 +243,12 @@ fn note_at(
     value: Value,
 ) -> Result<(), Unnoted>
     requires within { All (λ j. j < length kept.old) places.now }
-    requires until { All (KeptUntil latest.old) kept.old }
+    requires until { All (IsKeptUntil latest.old) kept.old }
     requires start { pos 0 ≤ℤ latest.old }
     requires now { latest.old ≤ℤ now }
     ensures noted { (s : TheSubject) → places.now ≡ places_of (is_about s) (statistics_of kept.old) → MatchResult result (λ _. all_noting s entity now value (statistics_of kept.old) (columns_of (rows_of kept.old)) ≡ Ok (columns_of (rows_of kept.new))) (λ e. (all_noting s entity now value (statistics_of kept.old) (columns_of (rows_of kept.old)) ≡ Err (why e)) × (kept.new ≡ kept.old) × (latest.new ≡ latest.old)) }
     ensures statistics { (s : TheSubject) → places.now ≡ places_of (is_about s) (statistics_of kept.old) → statistics_of kept.new ≡ statistics_of kept.old }
-    ensures until { All (KeptUntil latest.new) kept.new }
+    ensures until { All (IsKeptUntil latest.new) kept.new }
     ensures start { pos 0 ≤ℤ latest.new }
     ensures latest { latest.new ≤ℤ now }
 {

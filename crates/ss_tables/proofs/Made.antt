@@ -11,22 +11,22 @@ use Rattle.ss_base.specs.Plain.{PlainLayout}
 use Rattle.ss_names.specs.Table.{Table, declared}
 use Rattle.ss_names_meaning.specs.Layouts.{layout}
 use Rattle.ss_names_laws.specs.Laws.{LayoutsAreThere}
-use Rattle.ss_tables.specs.Tables.{AreTablesOf, NamesUnless, ReportsTableError}
+use Rattle.ss_tables.specs.Tables.{AreTablesOf, AreNamesUnless, IsReportedError}
 
 -- a breach that is found is reported
-reports : (e : TableError) (found : Option TableError) → found ≡ Some e → ReportsTableError e found
+reports : (e : TableError) (found : Option TableError) → found ≡ Some e → IsReportedError e found
 reports errors.Memory found h = tt
 reports e found h = h
 
 pub unless_refused : {E : Type 0} (names : Table) (b : Result (Option TableError) E) (wanted : Option TableError) (r : Result Table TableError) →
-    NamesUnless names b r → IfOk b (λ found. found ≡ wanted) → IfErr r (λ e. ReportsTableError e wanted)
-unless_refused names (Ok None) wanted r h k = subst (λ z. IfErr z (λ e. ReportsTableError e wanted)) (sym h) tt
-unless_refused names (Ok (Some e)) wanted r h k = subst (λ z. IfErr z (λ f. ReportsTableError f wanted)) (sym h) (reports e wanted (sym k))
-unless_refused names (Err e) wanted r h k = subst (λ z. IfErr z (λ f. ReportsTableError f wanted)) (sym h) tt
+    AreNamesUnless names b r → IfOk b (λ found. found ≡ wanted) → IfErr r (λ e. IsReportedError e wanted)
+unless_refused names (Ok None) wanted r h k = subst (λ z. IfErr z (λ e. IsReportedError e wanted)) (sym h) tt
+unless_refused names (Ok (Some e)) wanted r h k = subst (λ z. IfErr z (λ f. IsReportedError f wanted)) (sym h) (reports e wanted (sym k))
+unless_refused names (Err e) wanted r h k = subst (λ z. IfErr z (λ f. IsReportedError f wanted)) (sym h) tt
 
 -- the names are the tables, if no rule is broken
 pub unless_made : {E : Type 0} (p : ProgramTree) (ds : List Declaration) (names : Table) (b : Result (Option TableError) E) (r : Result Table TableError) →
-    ds ≡ declarations p → names ≡ declared ds → NamesUnless names b r → IfOk b (λ found. found ≡ refusal_of_declarations p) → IfOk r (λ made. AreTablesOf p made)
+    ds ≡ declarations p → names ≡ declared ds → AreNamesUnless names b r → IfOk b (λ found. found ≡ refusal_of_declarations p) → IfOk r (λ made. AreTablesOf p made)
 unless_made p ds names (Ok None) r d e h k =
     let tables : AreTablesOf p names = record { kept = sym k; is_of_program = e ∙ ap declared d } in
     subst (λ z. IfOk z (λ made. AreTablesOf p made)) (sym h) tables

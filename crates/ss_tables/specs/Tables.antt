@@ -18,15 +18,15 @@ abbrev pub AreTables : Table → Type 0
 AreTables t = (p : ProgramTree) × AreTablesOf p t
 
 -- the error is the first breach, unless memory was refused
-abbrev pub ReportsTableError : TableError → Option TableError → Type 0
-ReportsTableError errors.Memory found = Unit {0}
-ReportsTableError e found = found ≡ Some e
+abbrev pub IsReportedError : TableError → Option TableError → Type 0
+IsReportedError errors.Memory found = Unit {0}
+IsReportedError e found = found ≡ Some e
 
 -- the names, unless a rule is broken or memory was refused
-abbrev pub NamesUnless : {E : Type 0} → Table → Result (Option TableError) E → Result Table TableError → Type 0
-NamesUnless names (Ok None) result = result ≡ Ok names
-NamesUnless names (Ok (Some error)) result = result ≡ Err error
-NamesUnless names (Err e) result = result ≡ Err errors.Memory
+abbrev pub AreNamesUnless : {E : Type 0} → Table → Result (Option TableError) E → Result Table TableError → Type 0
+AreNamesUnless names (Ok None) result = result ≡ Ok names
+AreNamesUnless names (Ok (Some error)) result = result ≡ Err error
+AreNamesUnless names (Err e) result = result ≡ Err errors.Memory
 
 -- which global and derived names a program has
 abbrev pub is_declared : ProgramTree → NameBytes → Bool

@@ -8,7 +8,7 @@ ghost use Rattle.ss_names_declarations.specs.Declarations.{declarations as decla
 ghost use Rattle.ss_names_declarations.specs.NameTable.{place_in};
 ghost use Rattle.ss_tables_rules.specs.Broken.{refusal_of_declarations};
 ghost use Rattle.ss_names_meaning.specs.Layouts.{layout};
-ghost use Rattle.ss_tables.specs.Tables.{AreTablesOf, NamesUnless, ReportsTableError, is_declared};
+ghost use Rattle.ss_tables.specs.Tables.{AreTablesOf, AreNamesUnless, IsReportedError, is_declared};
 
 use ss_base::Layout;
 use ss_names::{NameId, Names};
@@ -44,7 +44,7 @@ fn names_unless(
     names: Names,
     broken: Result<Option<TableError>, AllocError>,
 ) -> Result<Names, TableError>
-    ensures { NamesUnless names broken result }
+    ensures { AreNamesUnless names broken result }
 {
     match broken {
         Ok(None) => Ok(names),
@@ -67,7 +67,7 @@ fn names_of(
 ) -> Result<Names, TableError>
     requires { declarations.now ≡ declarations_seen (view_program_tree program.now) }
     ensures made { IfOk result (λ names. AreTablesOf (view_program_tree program.now) names) }
-    ensures refused { IfErr result (λ e. ReportsTableError e (refusal_of_declarations (view_program_tree program.now))) }
+    ensures refused { IfErr result (λ e. IsReportedError e (refusal_of_declarations (view_program_tree program.now))) }
 {
     let seed = seed_of(declarations);
     let (names, clash) = Names::of(alloc, seed, declarations)?;
@@ -83,7 +83,7 @@ impl Tables {
     /// with the line of the first place where it does; `Memory` where memory is refused.
     pub fn of(alloc: Global, program: &Program) -> Result<Tables, TableError>
         ensures made { IfOk result (λ t. AreTablesOf (view_program_tree program.now) t) }
-        ensures refused { IfErr result (λ e. ReportsTableError e (refusal_of_declarations (view_program_tree program.now))) }
+        ensures refused { IfErr result (λ e. IsReportedError e (refusal_of_declarations (view_program_tree program.now))) }
     {
         let declarations = declarations_of(alloc, program)?;
         let names = names_of(alloc, program, &declarations)?;

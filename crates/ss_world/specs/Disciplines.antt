@@ -69,10 +69,10 @@ abbrev pub AreFields : Layout → ℕ → List RankKey → Type 0
 AreFields l c ks = All (λ (k : RankKey). k.field < length (modes_of l c)) ks
 
 -- the keys of a discipline are fields of the class of the set's members
-abbrev pub FitsMembers : Layout → ℕ → Discipline → Type 0
-FitsMembers l s Fifo = Unit {0}
-FitsMembers l s Lifo = Unit {0}
-FitsMembers l s (Ranked ks) = AreFields l (member_class l s) ks
+abbrev pub HasMemberKeys : Layout → ℕ → Discipline → Type 0
+HasMemberKeys l s Fifo = Unit {0}
+HasMemberKeys l s Lifo = Unit {0}
+HasMemberKeys l s (Ranked ks) = AreFields l (member_class l s) ks
 
 -- how many members x passes
 abbrev pub members_passed : State → ℕ → List RankKey → ℤ → List ℕ → ℕ

@@ -20,17 +20,17 @@ abbrev pub pred_from : ℕ → ℕ → List ℕ → ℕ
 pred_from p y [] = y
 pred_from p y (z ∷ zs) = cond (z == y) p (pred_from z y zs)
 
-abbrev pub In : ℕ → List ℕ → Type 0
-In y [] = ⊥
-In y (z ∷ zs) = (z ≡ y) ⊎ In y zs
+abbrev pub IsInList : ℕ → List ℕ → Type 0
+IsInList y [] = ⊥
+IsInList y (z ∷ zs) = (z ≡ y) ⊎ IsInList y zs
 
-abbrev pub NotIn : ℕ → List ℕ → Type 0
-NotIn y [] = Unit {0}
-NotIn y (z ∷ zs) = (z ≡ y → ⊥) × NotIn y zs
+abbrev pub IsNotInList : ℕ → List ℕ → Type 0
+IsNotInList y [] = Unit {0}
+IsNotInList y (z ∷ zs) = (z ≡ y → ⊥) × IsNotInList y zs
 
-abbrev pub Distinct : List ℕ → Type 0
-Distinct [] = Unit {0}
-Distinct (z ∷ zs) = NotIn z zs × Distinct zs
+abbrev pub AreAllDistinct : List ℕ → Type 0
+AreAllDistinct [] = Unit {0}
+AreAllDistinct (z ∷ zs) = IsNotInList z zs × AreAllDistinct zs
 
 -- where f has the list l for o
 abbrev pub with_list : (ℕ → List ℕ) → ℕ → List ℕ → ℕ → List ℕ

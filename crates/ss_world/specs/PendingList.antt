@@ -24,8 +24,8 @@ abbrev pub none_pending : List (List TieShape) → PendingList
 none_pending classes = record { entries = []; schedulings = 0; classes = classes }
 
 -- a key fits: its rank is that of a class, and its ties have the shapes of that class
-abbrev pub FitsClass : List (List TieShape) → SortKey → Type 0
-FitsClass classes key = slice_get classes key.rank ≡ Some (map shape_of key.ties)
+abbrev pub IsFittingKey : List (List TieShape) → SortKey → Type 0
+IsFittingKey classes key = slice_get classes key.rank ≡ Some (map shape_of key.ties)
 
 -- whether a notice is pending
 abbrev pub is_pending : ℤ → List PendingNotice → Bool

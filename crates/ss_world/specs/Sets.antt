@@ -6,7 +6,7 @@ use Rattle.ss_base.specs.declared.layout.Owner.{Owner}
 use Rattle.ss_base.specs.declared.layout.Owner.TheVariants.{System, Class}
 use Rattle.ss_base.specs.declared.layout.SetLayout.{SetLayout}
 use Rattle.ss_base.specs.declared.layout.Layout.{Layout}
-use Rattle.ss_world.specs.Lists.{head0, last_or, In, Distinct}
+use Rattle.ss_world.specs.Lists.{head0, last_or, IsInList, AreAllDistinct}
 use Rattle.ss_world.specs.State.{State, Members, and_then, entity_in, number_in, members_of, contains, owner_of, is_filed, with_members}
 
 -- ## Owners and members
@@ -136,7 +136,7 @@ removed st s o x = and_then (joiner st s x) (λ n. and_then (owner st s o) (λ m
 -- ## What holds of every heap
 
 -- members are entities of their class; none is twice in a set, or in two sets of a name
-pub record Apart (st : State) : Type 0 where
-  pub distinct : (s o : ℕ) → s < length st.layout.sets → Distinct (members_of st.lists s o)
-  pub members : (s o x : ℕ) → s < length st.layout.sets → In x (members_of st.lists s o) → (0 ≡ x → ⊥) × (joiner st s (pos x) ≡ Ok x)
-  pub sole : (s o x : ℕ) → s < length st.layout.sets → In x (members_of st.lists s o) → owner_of st.lists s x ≡ Some o
+pub record AreMembersApart (st : State) : Type 0 where
+  pub distinct : (s o : ℕ) → s < length st.layout.sets → AreAllDistinct (members_of st.lists s o)
+  pub members : (s o x : ℕ) → s < length st.layout.sets → IsInList x (members_of st.lists s o) → (0 ≡ x → ⊥) × (joiner st s (pos x) ≡ Ok x)
+  pub sole : (s o x : ℕ) → s < length st.layout.sets → IsInList x (members_of st.lists s o) → owner_of st.lists s x ≡ Some o

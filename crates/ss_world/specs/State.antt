@@ -167,9 +167,9 @@ timed s x t = and_then (notice s x) (λ r. Ok (record s { records = slice_set s.
 -- ## Creating
 
 -- why a call is refused: for the fault that is due, and out of memory only where none is due
-abbrev pub RefusedFor : {A : Type 0} → Result A FaultKind → Refused → Type 0
-RefusedFor r (Fault f) = r ≡ Err f
-RefusedFor r Memory = IsOk r
+abbrev pub IsRefusalOf : {A : Type 0} → Result A FaultKind → Refused → Type 0
+IsRefusalOf r (Fault f) = r ≡ Err f
+IsRefusalOf r Memory = IsOk r
 
 -- how many creation numbers there are at most
 abbrev pub LAST_NUMBER : ℕ

@@ -22,13 +22,13 @@ pub struct WorkCounter {
 }
 
 impl Model for WorkCounter {
-    ghost use Rattle.ss_events_entries.specs.CallWork.{CallWork, FitCounters, rise};
+    ghost use Rattle.ss_events_entries.specs.CallWork.{CallWork, AreCounters, rise};
 
     ghost Value = { CallWork };
 
     ghost view = { λ w. record { comparisons = rise w.before.comparisons w.total.comparisons; moves = rise w.before.moves w.total.moves; before = record { comparisons = w.before.comparisons; moves = w.before.moves } } };
 
-    ghost invariant = { λ w. FitCounters w.total.comparisons w.total.moves w.before.comparisons w.before.moves };
+    ghost invariant = { λ w. AreCounters w.total.comparisons w.total.moves w.before.comparisons w.before.moves };
 }
 
 impl WorkCounter {

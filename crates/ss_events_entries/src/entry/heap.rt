@@ -4,9 +4,9 @@ ghost use Rattle.std.specs.Ordering.{int_eq};
 ghost use Rattle.std.specs.List.{list_any};
 ghost use Rattle.std.specs.List.Sorted.{IsPermutation};
 ghost use Rattle.ss_events_entries.specs.declared.entry.Entry.{Entry};
-ghost use Rattle.ss_events_entries.specs.CallWork.{ComparesOnce, Moves};
+ghost use Rattle.ss_events_entries.specs.CallWork.{HasComparedOnce, HasMoved};
 ghost use Rattle.ss_events_entries.specs.CountedList.{no_work, with_work};
-ghost use Rattle.ss_events_entries.specs.HeapEntries.{heap_lines, call_work_of, notices_of, event_of, RemovesEntry, Leaves, AreAfterHeads};
+ghost use Rattle.ss_events_entries.specs.HeapEntries.{heap_lines, call_work_of, notices_of, event_of, HasRemovedEntry, HasLostFollower, AreAfterHeads};
 ghost use Rattle.ss_events_entries.specs.HeapOrder.{IsFirstOf, IsFirstAmong};
 ghost use Rattle.ss_world.specs.Order.{comes_before};
 ghost use Rattle.ss_events_entries.specs.Slots.{mark_of, plain_ranks, plain_numbers};
@@ -219,7 +219,7 @@ impl EntryHeap {
         ensures compared { result ≡ true → self.new.comparisons ≡ self.old.comparisons + 1 }
         ensures before { self.new.before ≡ self.old.before }
         ensures kept { result ≡ false → self.new.followers ≡ self.old.followers }
-        ensures tried { result ≡ false → ComparesOnce (call_work_of self.old) (call_work_of self.new) }
+        ensures tried { result ≡ false → HasComparedOnce (call_work_of self.old) (call_work_of self.new) }
     {
         let mark = plain_mark(time, rank, number);
         let before = self.entries.hint(mark);
@@ -235,8 +235,8 @@ impl EntryHeap {
     pub fn remove(&mut self, at: usize) -> (i64, i64)
         requires within { at < length self.old.entries }
         requires countable { self.old.moves + 2 < 2 ^ 64 }
-        ensures removed { RemovesEntry (heap_lines self.old) (heap_lines self.new) at result }
-        ensures moved { Moves 1 2 (call_work_of self.old) (call_work_of self.new) }
+        ensures removed { HasRemovedEntry (heap_lines self.old) (heap_lines self.new) at result }
+        ensures moved { HasMoved 1 2 (call_work_of self.old) (call_work_of self.new) }
     {
         self.entries.remove(at, &mut self.counter)
     }
@@ -246,8 +246,8 @@ impl EntryHeap {
     pub fn remove_follower(&mut self, notice: i64) -> bool
         requires countable { self.old.moves + 1 < 2 ^ 64 }
         ensures found { result ≡ list_any (int_eq notice) (notices_of self.old.followers) }
-        ensures left { result ≡ true → Leaves (heap_lines self.old) (heap_lines self.new) notice }
-        ensures moved { Moves 0 1 (call_work_of self.old) (call_work_of self.new) }
+        ensures left { result ≡ true → HasLostFollower (heap_lines self.old) (heap_lines self.new) notice }
+        ensures moved { HasMoved 0 1 (call_work_of self.old) (call_work_of self.new) }
         ensures kept { result ≡ false → self.new ≡ self.old }
     {
         self.entries.remove_follower(notice, &mut self.counter)

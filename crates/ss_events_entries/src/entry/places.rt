@@ -5,8 +5,8 @@ ghost use Rattle.std.specs.List.{list_any};
 ghost use Rattle.std.specs.List.Sorted.{IsPermutation};
 ghost use Rattle.ss_events_entries.specs.declared.entry.Entry.{Entry};
 ghost use Rattle.ss_events_entries.specs.declared.entry.slots.HeapNode.{HeapNode as HeapNodeSeen};
-ghost use Rattle.ss_events_entries.specs.CallWork.{ComparesOnce, Moves};
-ghost use Rattle.ss_events_entries.specs.HeapEntries.{notices_of, event_of, RemovesEntry, Leaves, AreAfterHeads};
+ghost use Rattle.ss_events_entries.specs.CallWork.{HasComparedOnce, HasMoved};
+ghost use Rattle.ss_events_entries.specs.HeapEntries.{notices_of, event_of, HasRemovedEntry, HasLostFollower, AreAfterHeads};
 ghost use Rattle.ss_events_entries.specs.Slots.{mark_of, not_plain, order_of, IsBut, plain_entry, plain_ranks, plain_numbers, AreDistinct, AreLed};
 
 use super::counter::WorkCounter;
@@ -274,7 +274,7 @@ impl Places {
         ensures fresh { result ≡ true → list_any (int_eq notice) (notices_of self.old.followers) ≡ false }
         ensures kept { result ≡ false → self.new ≡ self.old }
         ensures counted { result ≡ true → counter.new ≡ record counter.old { comparisons = counter.old.comparisons + 1; moves = counter.old.moves + 1 } }
-        ensures tried { result ≡ false → ComparesOnce counter.old counter.new }
+        ensures tried { result ≡ false → HasComparedOnce counter.old counter.new }
     {
         if self.free == 0 || self.slots.len() - self.free >= self.directory.cells() / 4 {
             return false;
@@ -310,8 +310,8 @@ impl Places {
     pub(crate) fn remove(&mut self, at: usize, counter: &mut WorkCounter) -> (i64, i64)
         requires within { at < length self.old.heads }
         requires countable { counter.old.moves + 2 < 2 ^ 64 }
-        ensures removed { RemovesEntry self.old self.new at result }
-        ensures moved { Moves 1 2 counter.old counter.new }
+        ensures removed { HasRemovedEntry self.old self.new at result }
+        ensures moved { HasMoved 1 2 counter.old counter.new }
     {
         let node = self.nodes[at];
         let Slot { notice, next, .. } = self.slots[node.slot];
@@ -339,9 +339,9 @@ impl Places {
     pub(crate) fn remove_follower(&mut self, notice: i64, counter: &mut WorkCounter) -> bool
         requires countable { counter.old.moves + 1 < 2 ^ 64 }
         ensures found { result ≡ list_any (int_eq notice) (notices_of self.old.followers) }
-        ensures left { result ≡ true → Leaves self.old self.new notice }
+        ensures left { result ≡ true → HasLostFollower self.old self.new notice }
         ensures kept { result ≡ false → self.new ≡ self.old }
-        ensures moved { Moves 0 1 counter.old counter.new }
+        ensures moved { HasMoved 0 1 counter.old counter.new }
         ensures unmoved { result ≡ false → counter.new ≡ counter.old }
     {
         let Some(slot) = slot_of(&self.directory, &self.slots, self.count, notice) else {

@@ -1,6 +1,6 @@
 // Slots, each with what is known of its entry; the nodes of places, which name slots; and the entries that are stored whole.
 ghost use Rattle.std.specs.Prelude.{true, false, ℕ, ◌+◌, ◌^◌, ◌≢◌, ◌==◌, slice_set, ◌≡◌, ◌<◌, ◌≤◌, ◌++◌, ◌∷◌, [], length, swap, slice_index_or, vec_len, if◌then◌else◌, IfOk, OnOk, OnErr, MatchOption};
-ghost use Rattle.ss_events_entries.specs.CallWork.{ComparesOnce};
+ghost use Rattle.ss_events_entries.specs.CallWork.{HasComparedOnce};
 ghost use Rattle.ss_events_entries.specs.Slots.{no_entry, blank_slot, no_slot, no_node, following, not_plain, slot_at, node, IsTaken, AreLed, at_put, next_put, exchanged};
 
 use super::counter::WorkCounter;
@@ -97,7 +97,7 @@ pub(super) fn is_last_before(
     ensures time { result ≡ true → (slot_at slots.now slot).mark.time ≡ mark.time }
     ensures order { result ≡ true → (slot_at slots.now slot).mark.order < mark.order }
     ensures counted { result ≡ true → counter.new ≡ record counter.old { comparisons = counter.old.comparisons + 1 } }
-    ensures tried { ComparesOnce counter.old counter.new }
+    ensures tried { HasComparedOnce counter.old counter.new }
 {
     if slot >= slots.len() {
         return false;

@@ -2,7 +2,7 @@
 
 ghost use Rattle.std.specs.Prelude.{◌≡◌, None, map};
 ghost use Rattle.ss_tree.specs.View.{view_clause, view_order, view_preamble};
-ghost use Rattle.ss_parse_expressions.specs.Reading.{GivesReading, word, begins, expect, after_dropped, closed, maybe_list, begins_more, taken, in_table};
+ghost use Rattle.ss_parse_expressions.specs.Reading.{HasGivenReading, word, begins, expect, after_dropped, closed, maybe_list, begins_more, taken, in_table};
 ghost use Rattle.ss_lex.specs.declared.word.Word.TheVariants.{Include, Variable};
 ghost use Rattle.ss_parse_expressions.specs.ReadWords.{begins_name, names};
 ghost use Rattle.ss_parse.specs.SpelledPreambles.{group_after};
@@ -29,14 +29,14 @@ use std::alloc::Global;
 
 /// A mode.
 fn mode(tokens: &[Token]) -> Result<(ModeWord, &[Token]), ParseFailure>
-    ensures { GivesReading (λ x. (x.0, x.1.now)) result (taken (in_table mode_of_word) tokens.now) }
+    ensures { HasGivenReading (λ x. (x.0, x.1.now)) result (taken (in_table mode_of_word) tokens.now) }
 {
     take_word_of::<ModeWords>(tokens)
 }
 
 /// The end of a DEFINE of variables: a mode.
 pub fn variable_mode(tokens: &[Token]) -> Result<(ModeWord, &[Token]), ParseFailure>
-    ensures { GivesReading (λ x. (x.0, x.1.now)) result (closed (taken (in_table mode_of_word)) (expect (word Variable)) tokens.now) }
+    ensures { HasGivenReading (λ x. (x.0, x.1.now)) result (closed (taken (in_table mode_of_word)) (expect (word Variable)) tokens.now) }
 {
     let (mode, rest) = mode(tokens)?;
     let rest = expect_word(rest, Word::Variable)?;
@@ -45,7 +45,7 @@ pub fn variable_mode(tokens: &[Token]) -> Result<(ModeWord, &[Token]), ParseFail
 
 /// HIGH or LOW.
 fn rank(tokens: &[Token]) -> Result<(bool, &[Token]), ParseFailure>
-    ensures { GivesReading (λ x. (x.0, x.1.now)) result (taken (in_table rank_of) tokens.now) }
+    ensures { HasGivenReading (λ x. (x.0, x.1.now)) result (taken (in_table rank_of) tokens.now) }
 {
     take_word_of::<RankWords>(tokens)
 }
@@ -53,7 +53,7 @@ fn rank(tokens: &[Token]) -> Result<(bool, &[Token]), ParseFailure>
 /// A clause of an EVERY.
 #[tactic(auto, unfolding(crate::specs::ReadPreambles::clause))]
 fn clause(alloc: Global, tokens: &[Token]) -> Result<(Clause, &[Token]), ParseFailure>
-    ensures { GivesReading (λ x. (view_clause x.0, x.1.now)) result (clause tokens.now) }
+    ensures { HasGivenReading (λ x. (view_clause x.0, x.1.now)) result (clause tokens.now) }
 {
     if begins_word(tokens, Word::Has) {
         let (names, rest) = items(alloc, skip_word(tokens, Word::Has))?;
@@ -72,7 +72,7 @@ fn clause(alloc: Global, tokens: &[Token]) -> Result<(Clause, &[Token]), ParseFa
 
 /// THEN BY, and HIGH or LOW.
 fn then_rank(tokens: &[Token]) -> Result<(bool, &[Token]), ParseFailure>
-    ensures { GivesReading (λ x. (x.0, x.1.now)) result (then_rank tokens.now) }
+    ensures { HasGivenReading (λ x. (x.0, x.1.now)) result (then_rank tokens.now) }
 {
     let rest = expect_noisy(tokens, Word::Then)?;
     let rest = expect_word(rest, Word::By)?;
@@ -82,7 +82,7 @@ fn then_rank(tokens: &[Token]) -> Result<(bool, &[Token]), ParseFailure>
 /// Keys, the further ones after THEN BY.
 #[tactic(auto, unfolding(crate::specs::ReadPreambles::key))]
 fn keys(alloc: Global, tokens: &[Token]) -> Result<(Vec<NamedKey>, &[Token]), ParseFailure>
-    ensures { GivesReading (λ x. (x.0.items, x.1.now)) result (keys tokens.now) }
+    ensures { HasGivenReading (λ x. (x.0.items, x.1.now)) result (keys tokens.now) }
 {
     let (high, from) = rank(tokens)?;
     let first = name(from)?;
@@ -102,7 +102,7 @@ fn keys(alloc: Global, tokens: &[Token]) -> Result<(Vec<NamedKey>, &[Token]), Pa
 
 /// AS and the kind of a statistic.
 fn statistic_kind(tokens: &[Token]) -> Result<(StatisticKind, &[Token]), ParseFailure>
-    ensures { GivesReading (λ x. (x.0, x.1.now)) result (statistic_kind tokens.now) }
+    ensures { HasGivenReading (λ x. (x.0, x.1.now)) result (statistic_kind tokens.now) }
 {
     let rest = expect_word(tokens, Word::As)?;
     take_word_of::<StatisticWords>(skip_word(rest, Word::The))
@@ -119,7 +119,7 @@ fn begins_more_statistics(tokens: &[Token]) -> bool
 /// Statistics with separators between.
 #[tactic(auto, unfolding(crate::specs::ReadPreambles::statistic))]
 fn found(alloc: Global, tokens: &[Token]) -> Result<(Vec<NamedStatistic>, &[Token]), ParseFailure>
-    ensures { GivesReading (λ x. (x.0.items, x.1.now)) result (found tokens.now) }
+    ensures { HasGivenReading (λ x. (x.0.items, x.1.now)) result (found tokens.now) }
 {
     let first = name(tokens)?;
     let (kind, mut rest) = statistic_kind(after_first(tokens))?;
@@ -160,7 +160,7 @@ fn begins_more_clauses(tokens: &[Token]) -> bool
 
 /// Clauses with separators between.
 fn clause_list(alloc: Global, tokens: &[Token]) -> Result<(Vec<Clause>, &[Token]), ParseFailure>
-    ensures { GivesReading (λ x. (map view_clause x.0.items, x.1.now)) result (clause_list tokens.now) }
+    ensures { HasGivenReading (λ x. (map view_clause x.0.items, x.1.now)) result (clause_list tokens.now) }
 {
     let (first, mut rest) = clause(alloc, tokens)?;
     let mut all = alone(alloc, first)?;
@@ -174,7 +174,7 @@ fn clause_list(alloc: Global, tokens: &[Token]) -> Result<(Vec<Clause>, &[Token]
 
 /// The clauses of an EVERY, if there are any.
 fn clauses(alloc: Global, tokens: &[Token]) -> Result<(Vec<Clause>, &[Token]), ParseFailure>
-    ensures { GivesReading (λ x. (map view_clause x.0.items, x.1.now)) result (clauses tokens.now) }
+    ensures { HasGivenReading (λ x. (map view_clause x.0.items, x.1.now)) result (clauses tokens.now) }
 {
     if begins_clause(tokens) {
         clause_list(alloc, tokens)
@@ -185,7 +185,7 @@ fn clauses(alloc: Global, tokens: &[Token]) -> Result<(Vec<Clause>, &[Token]), P
 
 /// The ranking of a set, after SET.
 fn ranking(alloc: Global, tokens: &[Token]) -> Result<(SetOrder, &[Token]), ParseFailure>
-    ensures { GivesReading (λ x. (view_order x.0, x.1.now)) result (ranking tokens.now) }
+    ensures { HasGivenReading (λ x. (view_order x.0, x.1.now)) result (ranking tokens.now) }
 {
     if !begins_word(tokens, Word::Ranked) {
         return Ok((SetOrder::Fifo, tokens));
@@ -198,7 +198,7 @@ fn ranking(alloc: Global, tokens: &[Token]) -> Result<(SetOrder, &[Token]), Pars
 /// How a set is ordered.
 #[tactic(auto, unfolding(crate::specs::ReadPreambles::order))]
 fn order(alloc: Global, tokens: &[Token]) -> Result<(SetOrder, &[Token]), ParseFailure>
-    ensures { GivesReading (λ x. (view_order x.0, x.1.now)) result (order tokens.now) }
+    ensures { HasGivenReading (λ x. (view_order x.0, x.1.now)) result (order tokens.now) }
 {
     if begins_word(tokens, Word::Fifo) {
         let rest = expect_word(skip_word(tokens, Word::Fifo), Word::Set)?;
@@ -215,7 +215,7 @@ fn order(alloc: Global, tokens: &[Token]) -> Result<(SetOrder, &[Token]), ParseF
 /// The rest of PERMANENT ENTITIES, after its first word.
 #[tactic(auto, unfolding(crate::specs::ReadPreambles::permanent_at))]
 fn permanent(line: Line, tokens: &[Token]) -> Result<(PreambleStatement, &[Token]), ParseFailure>
-    ensures { GivesReading (λ x. (view_preamble x.0, x.1.now)) result (permanent_at line tokens.now) }
+    ensures { HasGivenReading (λ x. (view_preamble x.0, x.1.now)) result (permanent_at line tokens.now) }
 {
     let rest = expect_word(tokens, Word::Entities)?;
     Ok((PreambleStatement::PermanentEntities { line }, rest))
@@ -224,7 +224,7 @@ fn permanent(line: Line, tokens: &[Token]) -> Result<(PreambleStatement, &[Token
 /// The rest of TEMPORARY ENTITIES, after its first word.
 #[tactic(auto, unfolding(crate::specs::ReadPreambles::temporary_at))]
 fn temporary(line: Line, tokens: &[Token]) -> Result<(PreambleStatement, &[Token]), ParseFailure>
-    ensures { GivesReading (λ x. (view_preamble x.0, x.1.now)) result (temporary_at line tokens.now) }
+    ensures { HasGivenReading (λ x. (view_preamble x.0, x.1.now)) result (temporary_at line tokens.now) }
 {
     let rest = expect_word(tokens, Word::Entities)?;
     Ok((PreambleStatement::TemporaryEntities { line }, rest))
@@ -232,7 +232,7 @@ fn temporary(line: Line, tokens: &[Token]) -> Result<(PreambleStatement, &[Token
 
 /// The classes that EVENT NOTICES includes, if there are any.
 fn included(alloc: Global, tokens: &[Token]) -> Result<(Vec<Name>, &[Token]), ParseFailure>
-    ensures { GivesReading (λ x. (x.0.items, x.1.now)) result (maybe_list (begins (word Include)) (after_dropped (expect (word Include)) names) tokens.now) }
+    ensures { HasGivenReading (λ x. (x.0.items, x.1.now)) result (maybe_list (begins (word Include)) (after_dropped (expect (word Include)) names) tokens.now) }
 {
     if !begins_word(tokens, Word::Include) {
         return Ok((Vec::new(alloc), tokens));
@@ -247,7 +247,7 @@ fn notices(
     line: Line,
     tokens: &[Token],
 ) -> Result<(PreambleStatement, &[Token]), ParseFailure>
-    ensures { GivesReading (λ x. (view_preamble x.0, x.1.now)) result (notices_at line tokens.now) }
+    ensures { HasGivenReading (λ x. (view_preamble x.0, x.1.now)) result (notices_at line tokens.now) }
 {
     let rest = expect_word(tokens, Word::Notices)?;
     let (included, rest) = included(alloc, rest)?;
@@ -262,7 +262,7 @@ fn every(
     line: Line,
     tokens: &[Token],
 ) -> Result<(PreambleStatement, &[Token]), ParseFailure>
-    ensures { GivesReading (λ x. (view_preamble x.0, x.1.now)) result (every_at group line tokens.now) }
+    ensures { HasGivenReading (λ x. (view_preamble x.0, x.1.now)) result (every_at group line tokens.now) }
 {
     match group {
         None => Err(syntax(tokens)),
@@ -283,7 +283,7 @@ fn every(
 /// The rest of NORMALLY, after its first word.
 #[tactic(auto, unfolding(crate::specs::ReadPreambles::normally_at))]
 fn normally(line: Line, tokens: &[Token]) -> Result<(PreambleStatement, &[Token]), ParseFailure>
-    ensures { GivesReading (λ x. (view_preamble x.0, x.1.now)) result (normally_at line tokens.now) }
+    ensures { HasGivenReading (λ x. (view_preamble x.0, x.1.now)) result (normally_at line tokens.now) }
 {
     let rest = expect_noisy(tokens, Word::Mode)?;
     let rest = expect_word(rest, Word::Is)?;
@@ -298,7 +298,7 @@ fn system(
     line: Line,
     tokens: &[Token],
 ) -> Result<(PreambleStatement, &[Token]), ParseFailure>
-    ensures { GivesReading (λ x. (view_preamble x.0, x.1.now)) result (system_at line tokens.now) }
+    ensures { HasGivenReading (λ x. (view_preamble x.0, x.1.now)) result (system_at line tokens.now) }
 {
     let rest = expect_word(tokens, Word::System)?;
     let rest = expect_word(rest, Word::Owns)?;
@@ -313,7 +313,7 @@ fn define_end(
     names: Vec<Name>,
     tokens: &[Token],
 ) -> Result<(PreambleStatement, &[Token]), ParseFailure>
-    ensures { GivesReading (λ x. (view_preamble x.0, x.1.now)) result (define_end line names.items tokens.now) }
+    ensures { HasGivenReading (λ x. (view_preamble x.0, x.1.now)) result (define_end line names.items tokens.now) }
 {
     if begins_word_of::<ModeWords>(tokens) {
         let (names, (mode, rest)) = beside(names, variable_mode(tokens))?;
@@ -334,7 +334,7 @@ fn define(
     line: Line,
     tokens: &[Token],
 ) -> Result<(PreambleStatement, &[Token]), ParseFailure>
-    ensures { GivesReading (λ x. (view_preamble x.0, x.1.now)) result (define_at line tokens.now) }
+    ensures { HasGivenReading (λ x. (view_preamble x.0, x.1.now)) result (define_at line tokens.now) }
 {
     let (names, rest) = names(alloc, tokens)?;
     let (names, rest) = beside(names, expect_word(rest, Word::As))?;
@@ -348,7 +348,7 @@ fn priority(
     line: Line,
     tokens: &[Token],
 ) -> Result<(PreambleStatement, &[Token]), ParseFailure>
-    ensures { GivesReading (λ x. (view_preamble x.0, x.1.now)) result (priority_at line tokens.now) }
+    ensures { HasGivenReading (λ x. (view_preamble x.0, x.1.now)) result (priority_at line tokens.now) }
 {
     let rest = expect_word(tokens, Word::Order)?;
     let rest = expect_word(rest, Word::Is)?;
@@ -363,7 +363,7 @@ fn break_form(
     line: Line,
     tokens: &[Token],
 ) -> Result<(PreambleStatement, &[Token]), ParseFailure>
-    ensures { GivesReading (λ x. (view_preamble x.0, x.1.now)) result (break_at line tokens.now) }
+    ensures { HasGivenReading (λ x. (view_preamble x.0, x.1.now)) result (break_at line tokens.now) }
 {
     let class = name(tokens)?;
     let rest = expect_word(after_first(tokens), Word::Ties)?;
@@ -380,7 +380,7 @@ fn statistics(
     weighting: Weighting,
     tokens: &[Token],
 ) -> Result<(PreambleStatement, &[Token]), ParseFailure>
-    ensures { GivesReading (λ x. (view_preamble x.0, x.1.now)) result (statistics_at line weighting tokens.now) }
+    ensures { HasGivenReading (λ x. (view_preamble x.0, x.1.now)) result (statistics_at line weighting tokens.now) }
 {
     let (statistics, rest) = found(alloc, tokens)?;
     let (statistics, rest) = beside(statistics, expect_word(rest, Word::Of))?;
@@ -403,7 +403,7 @@ fn statement_rest(
     word: Word,
     tokens: &[Token],
 ) -> Result<(PreambleStatement, &[Token]), ParseFailure>
-    ensures { GivesReading (λ x. (view_preamble x.0, x.1.now)) result (preamble_at group line word tokens.now) }
+    ensures { HasGivenReading (λ x. (view_preamble x.0, x.1.now)) result (preamble_at group line word tokens.now) }
 {
     match word {
         Word::Permanent => permanent(line, tokens),
@@ -453,7 +453,7 @@ fn preamble_statement(
     group: Option<ClassKind>,
     tokens: &[Token],
 ) -> Result<(PreambleStatement, &[Token]), ParseFailure>
-    ensures { GivesReading (λ x. (view_preamble x.0, x.1.now)) result (preamble_in group tokens.now) }
+    ensures { HasGivenReading (λ x. (view_preamble x.0, x.1.now)) result (preamble_in group tokens.now) }
 {
     match tokens {
         [] => Err(syntax(tokens)),
@@ -481,7 +481,7 @@ fn preamble_statements(
     alloc: Global,
     tokens: &[Token],
 ) -> Result<(Vec<PreambleStatement>, &[Token]), ParseFailure>
-    ensures { GivesReading (λ x. (map view_preamble x.0.items, x.1.now)) result (preambles None tokens.now) }
+    ensures { HasGivenReading (λ x. (map view_preamble x.0.items, x.1.now)) result (preambles None tokens.now) }
 {
     let mut all = Vec::new(alloc);
     let mut group: Option<ClassKind> = None;
@@ -501,7 +501,7 @@ pub fn preamble(
     alloc: Global,
     tokens: &[Token],
 ) -> Result<(Vec<PreambleStatement>, &[Token]), ParseFailure>
-    ensures { GivesReading (λ x. (map view_preamble x.0.items, x.1.now)) result (whole_preamble tokens.now) }
+    ensures { HasGivenReading (λ x. (map view_preamble x.0.items, x.1.now)) result (whole_preamble tokens.now) }
 {
     if !begins_word(tokens, Word::Preamble) {
         return Ok((Vec::new(alloc), tokens));

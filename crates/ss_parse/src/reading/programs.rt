@@ -4,7 +4,7 @@ ghost use Rattle.std.specs.Prelude.{◌≡◌, map};
 ghost use Rattle.ss_parse_expressions.specs.Openers.{nesting_limit};
 ghost use Rattle.ss_parse_expressions.specs.Shapes.{first_token_line};
 ghost use Rattle.ss_tree.specs.View.{view_definition, view_kind, view_statement_tree, view_section, view_program_tree};
-ghost use Rattle.ss_parse_expressions.specs.Reading.{GivesReading, word, begins, expect, after_dropped, maybe_list, rows};
+ghost use Rattle.ss_parse_expressions.specs.Reading.{HasGivenReading, word, begins, expect, after_dropped, maybe_list, rows};
 ghost use Rattle.ss_parse_expressions.specs.ReadWords.{names};
 ghost use Rattle.ss_parse.specs.ReadPrograms.{begins_section, saving, routine_kind, event_kind, kind_after, variables, definition, definitions, body_in, section_at, section_in, program_in, program_of};
 
@@ -39,7 +39,7 @@ fn names_after(
     tokens: &[Token],
     wanted: Word,
 ) -> Result<(Vec<Name>, &[Token]), ParseFailure>
-    ensures { GivesReading (λ x. (x.0.items, x.1.now)) result (maybe_list (begins (word wanted)) (after_dropped (expect (word wanted)) names) tokens.now) }
+    ensures { HasGivenReading (λ x. (x.0.items, x.1.now)) result (maybe_list (begins (word wanted)) (after_dropped (expect (word wanted)) names) tokens.now) }
 {
     if !begins_word(tokens, wanted) {
         return Ok((Vec::new(alloc), tokens));
@@ -50,7 +50,7 @@ fn names_after(
 /// Whether SAVING THE EVENT NOTICE is first.
 #[tactic(auto, unfolding(crate::specs::ReadPrograms::saving))]
 fn saving(tokens: &[Token]) -> Result<(bool, &[Token]), ParseFailure>
-    ensures { GivesReading (λ x. (x.0, x.1.now)) result (saving tokens.now) }
+    ensures { HasGivenReading (λ x. (x.0, x.1.now)) result (saving tokens.now) }
 {
     if !begins_word(tokens, Word::Saving) {
         return Ok((false, tokens));
@@ -64,7 +64,7 @@ fn saving(tokens: &[Token]) -> Result<(bool, &[Token]), ParseFailure>
 /// The rest of the header of a routine, after its first word.
 #[tactic(auto, unfolding(crate::specs::ReadPrograms::routine_kind))]
 fn routine(alloc: Global, tokens: &[Token]) -> Result<(SectionKind, &[Token]), ParseFailure>
-    ensures { GivesReading (λ x. (view_kind x.0, x.1.now)) result (routine_kind tokens.now) }
+    ensures { HasGivenReading (λ x. (view_kind x.0, x.1.now)) result (routine_kind tokens.now) }
 {
     let rest = skip_class(tokens, WordClass::Towards);
     let name = name(rest)?;
@@ -82,7 +82,7 @@ fn routine(alloc: Global, tokens: &[Token]) -> Result<(SectionKind, &[Token]), P
 /// The rest of the header of an event routine, after its first word.
 #[tactic(auto, unfolding(crate::specs::ReadPrograms::event_kind))]
 fn event(alloc: Global, tokens: &[Token]) -> Result<(SectionKind, &[Token]), ParseFailure>
-    ensures { GivesReading (λ x. (view_kind x.0, x.1.now)) result (event_kind tokens.now) }
+    ensures { HasGivenReading (λ x. (view_kind x.0, x.1.now)) result (event_kind tokens.now) }
 {
     let name = name(tokens)?;
     let (given, rest) = names_after(alloc, after_first(tokens), Word::Given)?;
@@ -101,7 +101,7 @@ fn section_kind(
     word: Word,
     tokens: &[Token],
 ) -> Result<(SectionKind, &[Token]), ParseFailure>
-    ensures { GivesReading (λ x. (view_kind x.0, x.1.now)) result (kind_after word tokens.now) }
+    ensures { HasGivenReading (λ x. (view_kind x.0, x.1.now)) result (kind_after word tokens.now) }
 {
     match word {
         Word::Main => Ok((SectionKind::Main, tokens)),
@@ -114,7 +114,7 @@ fn section_kind(
 /// Names and their mode, after DEFINE.
 #[tactic(auto, unfolding(crate::specs::ReadPrograms::variables))]
 fn variables(alloc: Global, tokens: &[Token]) -> Result<(Vec<Name>, ModeWord, &[Token]), ParseFailure>
-    ensures { GivesReading (λ x. ((x.0.items, x.1), x.2.now)) result (variables tokens.now) }
+    ensures { HasGivenReading (λ x. ((x.0.items, x.1), x.2.now)) result (variables tokens.now) }
 {
     let (names, rest) = names(alloc, tokens)?;
     let (names, rest) = beside(names, expect_word(rest, Word::As))?;
@@ -126,7 +126,7 @@ fn variables(alloc: Global, tokens: &[Token]) -> Result<(Vec<Name>, ModeWord, &[
 /// A DEFINE at the head of a section's body.
 #[tactic(auto, unfolding(crate::specs::ReadPrograms::definition_at))]
 fn definition(alloc: Global, tokens: &[Token]) -> Result<(LocalDefinition, &[Token]), ParseFailure>
-    ensures { GivesReading (λ x. (view_definition x.0, x.1.now)) result (definition tokens.now) }
+    ensures { HasGivenReading (λ x. (view_definition x.0, x.1.now)) result (definition tokens.now) }
 {
     let line = line_at(tokens);
     let rest = expect_word(tokens, Word::Define)?;
@@ -136,7 +136,7 @@ fn definition(alloc: Global, tokens: &[Token]) -> Result<(LocalDefinition, &[Tok
 
 /// The DEFINEs at the head of a section's body.
 fn definitions(alloc: Global, tokens: &[Token]) -> Result<(Vec<LocalDefinition>, &[Token]), ParseFailure>
-    ensures { GivesReading (λ x. (map view_definition x.0.items, x.1.now)) result (definitions tokens.now) }
+    ensures { HasGivenReading (λ x. (map view_definition x.0.items, x.1.now)) result (definitions tokens.now) }
 {
     let mut all = Vec::new(alloc);
     let mut rest = tokens;
@@ -154,7 +154,7 @@ fn body(
     tokens: &[Token],
     room: u8,
 ) -> Result<(Vec<LocalDefinition>, Vec<Statement>, &[Token]), ParseFailure>
-    ensures { GivesReading (λ x. ((map view_definition x.0.items, map view_statement_tree x.1.items), x.2.now)) result (body_in room tokens.now) }
+    ensures { HasGivenReading (λ x. ((map view_definition x.0.items, map view_statement_tree x.1.items), x.2.now)) result (body_in room tokens.now) }
 {
     let (definitions, rest) = definitions(alloc, tokens)?;
     let (definitions, (body, rest)) = beside(definitions, statements(alloc, rest, room))?;
@@ -171,7 +171,7 @@ fn section_rest(
     tokens: &[Token],
     room: u8,
 ) -> Result<(Section, &[Token]), ParseFailure>
-    ensures { GivesReading (λ x. (view_section x.0, x.1.now)) result (section_at room line word tokens.now) }
+    ensures { HasGivenReading (λ x. (view_section x.0, x.1.now)) result (section_at room line word tokens.now) }
 {
     let (kind, rest) = section_kind(alloc, word, tokens)?;
     let (kind, (definitions, body, rest)) = beside(kind, body(alloc, rest, room))?;
@@ -186,7 +186,7 @@ fn section_rest(
 
 /// A section.
 fn section(alloc: Global, tokens: &[Token], room: u8) -> Result<(Section, &[Token]), ParseFailure>
-    ensures { GivesReading (λ x. (view_section x.0, x.1.now)) result (section_in room tokens.now) }
+    ensures { HasGivenReading (λ x. (view_section x.0, x.1.now)) result (section_in room tokens.now) }
 {
     match tokens {
         [] => Err(syntax(tokens)),
@@ -212,7 +212,7 @@ fn begins_section(tokens: &[Token]) -> bool
 
 /// The sections of a program.
 fn sections(alloc: Global, tokens: &[Token], room: u8) -> Result<(Vec<Section>, &[Token]), ParseFailure>
-    ensures { GivesReading (λ x. (map view_section x.0.items, x.1.now)) result (rows begins_section (section_in room) tokens.now) }
+    ensures { HasGivenReading (λ x. (map view_section x.0.items, x.1.now)) result (rows begins_section (section_in room) tokens.now) }
 {
     let mut all = Vec::new(alloc);
     let mut rest = tokens;
@@ -227,7 +227,7 @@ fn sections(alloc: Global, tokens: &[Token], room: u8) -> Result<(Vec<Section>, 
 /// A program, where this many levels of nesting, a statement's own among them, may be opened.
 #[tactic(auto, unfolding(crate::specs::ReadPrograms::program_in))]
 fn parts(alloc: Global, tokens: &[Token], room: u8) -> Result<(Program, &[Token]), ParseFailure>
-    ensures { GivesReading (λ x. (view_program_tree x.0, x.1.now)) result (program_in room tokens.now) }
+    ensures { HasGivenReading (λ x. (view_program_tree x.0, x.1.now)) result (program_in room tokens.now) }
 {
     let (preamble, rest) = preamble(alloc, tokens)?;
     let (preamble, (sections, rest)) = beside(preamble, sections(alloc, rest, room))?;
@@ -237,7 +237,7 @@ fn parts(alloc: Global, tokens: &[Token], room: u8) -> Result<(Program, &[Token]
 /// A program to the end of the tokens.
 #[tactic(auto, unfolding(crate::specs::ReadPrograms::program_of))]
 pub fn program(alloc: Global, tokens: &[Token]) -> Result<Program, ParseFailure>
-    ensures { GivesReading view_program_tree result (program_of nesting_limit tokens.now) }
+    ensures { HasGivenReading view_program_tree result (program_of nesting_limit tokens.now) }
 {
     let (program, rest) = parts(alloc, tokens, levels() + 1)?;
     match rest {

@@ -1,13 +1,13 @@
 use Rattle.std.proofs.Common.{refl, ◌∙◌}
 use Rattle.ss_tree.specs.View.{view_program_tree}
 use Rattle.ss_tables.proofs.Refused.{refused_so}
-use Rattle.ss_check.specs.Checking.{ReportsCheckError}
+use Rattle.ss_check.specs.Checking.{IsReportedBreach}
 use Rattle.ss_check.proofs.Kept.{becomes, found_so, not_missing, small, typed}
 use Rattle.ss_check.proofs.checking.checked.Goals as goal
 
 pub returns-in_err-locals-clause-refused : goal.returns-in_err-locals-clause-refused
 returns-in_err-locals-clause-refused c =
-    refused_so ReportsCheckError c.from_residual.result c.in_err-locals.field-0.0 _ _ c.from_residual.ensures.1 c.in_err-locals.ensures.refused refl
+    refused_so IsReportedBreach c.from_residual.result c.in_err-locals.field-0.0 _ _ c.from_residual.ensures.1 c.in_err-locals.ensures.refused refl
 
 pub new-requires : goal.new-requires
 new-requires c =

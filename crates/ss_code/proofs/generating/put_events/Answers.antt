@@ -1,13 +1,13 @@
 use Rattle.std.proofs.Common.{◌≡◌, ◌+◌, ◌<◌, length, get_or, [], ◌∷◌, ◌++◌, map, take, ap, sym, ◌∙◌, subst}
 use Rattle.std.proofs.lemmas.List.{take_more, map-append}
 use Rattle.ss_program.specs.View.{view_event}
-use Rattle.ss_code.specs.Sections.{PutsEvents}
+use Rattle.ss_code.specs.Sections.{HasPutEvents}
 use Rattle.ss_code.proofs.Sections.{no_events_put, events_put}
 use Rattle.ss_code.proofs.generating.put_events.Goals as goal
 
 pub loop-event-init : goal.loop-event-init
 loop-event-init c =
-    subst (λ es. PutsEvents c.args.generator.now c.args.generator.now c.args.code.now c.args.code.now c.args.prints.now.items c.args.prints.now.items [] es) (sym c.new-entries.ensures.items) (no_events_put c.args.generator.now c.args.code.now c.args.prints.now.items)
+    subst (λ es. HasPutEvents c.args.generator.now c.args.generator.now c.args.code.now c.args.code.now c.args.prints.now.items c.args.prints.now.items [] es) (sym c.new-entries.ensures.items) (no_events_put c.args.generator.now c.args.code.now c.args.prints.now.items)
 
 pub loop-event-preserved : goal.loop-event-preserved
 loop-event-preserved c =
@@ -23,5 +23,5 @@ loop-event-preserved c =
     let c2 = c.put_event.new.code in
     let p2 = c.put_event.new.prints.items in
     let put = events_put c.args.generator.now l.generator g2 c.args.code.now l.code c2 c.args.prints.now.items l.prints.items p2 (map view_event (take l.event-index xs)) (view_event item) l.entries.items c.in_ok-entry.entry l.invariant c.in_ok-entry.ensures in
-    let one = subst (λ rs. PutsEvents c.args.generator.now g2 c.args.code.now c2 c.args.prints.now.items p2 rs (l.entries.items ++ c.in_ok-entry.entry ∷ [])) (sym seen) put in
-    subst (λ es. PutsEvents c.args.generator.now g2 c.args.code.now c2 c.args.prints.now.items p2 (map view_event (take (l.event-index + 1) xs)) es) (sym c.in_ok-put_entry.ensures) one
+    let one = subst (λ rs. HasPutEvents c.args.generator.now g2 c.args.code.now c2 c.args.prints.now.items p2 rs (l.entries.items ++ c.in_ok-entry.entry ∷ [])) (sym seen) put in
+    subst (λ es. HasPutEvents c.args.generator.now g2 c.args.code.now c2 c.args.prints.now.items p2 (map view_event (take (l.event-index + 1) xs)) es) (sym c.in_ok-put_entry.ensures) one

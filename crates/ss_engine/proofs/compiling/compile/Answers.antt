@@ -3,10 +3,10 @@ use Rattle.std.specs.Prelude.{IfOk}
 use Rattle.ss_tree.specs.View.{view_program_tree as tree_seen}
 use Rattle.ss_program.specs.View.{view_program}
 use Rattle.ss_code.specs.Running.{IsFor}
-use Rattle.ss_code_instructions.specs.Running.{Behaves}
+use Rattle.ss_code_instructions.specs.Running.{IsFaithful}
 use Rattle.ss_code_instructions.specs.Translation.{code_of}
 use Rattle.ss_engine.specs.Refusals.{coded, lexed, parsed, used}
-use Rattle.ss_engine.specs.Accepting.{IsTreeOf, IsKeptBy, IsProgramOf, Compiles, IsRefusedWith}
+use Rattle.ss_engine.specs.Accepting.{IsTreeOf, IsKeptBy, IsProgramOf, IsCompiledTo, IsRefusedWith}
 use Rattle.ss_engine.proofs.Fronts.{lexer_refused, parser_refused, tables_refused, checker_refused, generator_refused, refused_so}
 use Rattle.ss_engine.proofs.compiling.compile.Goals as goal
 
@@ -56,5 +56,5 @@ returns-clause-accepted c =
     let keeps : IsKeptBy c.args.text.now tree = record { read = read; declared = c.in-Ok.ensures.made.kept; kept = becomes.kept } in
     let meant : IsProgramOf c.args.text.now p = record { tree = tree; keeps = keeps; resolved = becomes.resolved } in
     let code_is : IsFor p c.in_ok-code.code = subst (λ r. IfOk r (λ code. IsFor p code)) c.in_ok-code.was c.generate-made.ensures.code in
-    let behaves : Behaves p (code_of p) = subst (λ r. IfOk r (λ code. Behaves p (code_of p))) c.in_ok-code.was c.generate-made.ensures.behaves in
-    subst (Compiles c.args.text.now) (sym c.new.ensures) (record { program = p; meant = meant; code_is = code_is; behaves = behaves })
+    let behaves : IsFaithful p (code_of p) = subst (λ r. IfOk r (λ code. IsFaithful p (code_of p))) c.in_ok-code.was c.generate-made.ensures.behaves in
+    subst (IsCompiledTo c.args.text.now) (sym c.new.ensures) (record { program = p; meant = meant; code_is = code_is; behaves = behaves })

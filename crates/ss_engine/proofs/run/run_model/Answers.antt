@@ -2,8 +2,8 @@ use Rattle.std.proofs.Common.{◌≡◌, sym, ap, subst, ◌∙◌}
 use Rattle.ss_base.specs.Failures.{HasRisen}
 use Rattle.ss_machine.specs.declared.stop.Stop.TheVariants.{Memory, Output, Input}
 use Rattle.ss_engine.specs.Sessions.{session_machine, session_reader, session_writer}
-use Rattle.ss_engine.specs.Headline.{Simulated}
-use Rattle.ss_engine.specs.Cuts.{WasCut}
+use Rattle.ss_engine.specs.Headline.{IsSimulated}
+use Rattle.ss_engine.specs.Cuts.{HasBeenCut}
 use Rattle.ss_engine.proofs.Headline.{nothing_simulated}
 use Rattle.ss_engine.proofs.Cuts.{nothing_cut}
 use Rattle.ss_engine.proofs.LastRun.{last_run}
@@ -15,8 +15,8 @@ returns-in-Err-clause-simulated g c text compiled =
     let given = c.start.ensures.err (c.in-Err.reader, c.in-Err.writer) c.in-Err.is in
     let same_reader : c.args.reader ≡ c.in-Err.reader = sym (ap (λ (x : g.row.R.Denot × g.row.W.Denot). x.0) given) in
     let same_writer : c.args.writer ≡ c.in-Err.writer = sym (ap (λ (x : g.row.R.Denot × g.row.W.Denot). x.1) given) in
-    subst (λ r. Simulated g.R.FaultyRead.remaining g.W.FaultyWrite.contents text Memory 0 c.args.reader r c.args.writer c.in-Err.writer) same_reader
-    (subst (λ w. Simulated g.R.FaultyRead.remaining g.W.FaultyWrite.contents text Memory 0 c.args.reader c.args.reader c.args.writer w) same_writer
+    subst (λ r. IsSimulated g.R.FaultyRead.remaining g.W.FaultyWrite.contents text Memory 0 c.args.reader r c.args.writer c.in-Err.writer) same_reader
+    (subst (λ w. IsSimulated g.R.FaultyRead.remaining g.W.FaultyWrite.contents text Memory 0 c.args.reader c.args.reader c.args.writer w) same_writer
     (nothing_simulated g.R.FaultyRead.remaining g.W.FaultyWrite.contents text compiled.program compiled.meant c.args.reader c.args.writer))
 
 pub returns-clause-simulated : goal.returns-clause-simulated
@@ -30,18 +30,18 @@ returns-clause-simulated g c text compiled =
     let last_writer : session_writer now ≡ out.1 = sym (ap (λ (x : g.row.R.Denot × g.row.W.Denot). x.1) closed) in
     let was = c.run_pieces-stop.ensures.was_run c.args.model c.args.reader c.args.writer c.in-Ok.ensures.ok c.in-Ok.ensures.has_run in
     let meant = c.sessions_are_meant.ensures now text c.args.model c.args.reader c.args.writer was.0 compiled was.3.some was.3.run in
-    let stopped = subst (λ s. Simulated remaining contents text s (session_machine now).used c.args.reader (session_reader now) c.args.writer (session_writer now)) (sym c.run_pieces-stop.ensures.stopped) meant in
-    let read = subst (λ r. Simulated remaining contents text c.run_pieces-stop.result (session_machine now).used c.args.reader r c.args.writer (session_writer now)) last_reader stopped in
-    let written = subst (λ w. Simulated remaining contents text c.run_pieces-stop.result (session_machine now).used c.args.reader out.0 c.args.writer w) last_writer read in
-    subst (λ u. Simulated remaining contents text c.run_pieces-stop.result u c.args.reader out.0 c.args.writer out.1) (sym c.used-used.ensures) written
+    let stopped = subst (λ s. IsSimulated remaining contents text s (session_machine now).used c.args.reader (session_reader now) c.args.writer (session_writer now)) (sym c.run_pieces-stop.ensures.stopped) meant in
+    let read = subst (λ r. IsSimulated remaining contents text c.run_pieces-stop.result (session_machine now).used c.args.reader r c.args.writer (session_writer now)) last_reader stopped in
+    let written = subst (λ w. IsSimulated remaining contents text c.run_pieces-stop.result (session_machine now).used c.args.reader out.0 c.args.writer w) last_writer read in
+    subst (λ u. IsSimulated remaining contents text c.run_pieces-stop.result u c.args.reader out.0 c.args.writer out.1) (sym c.used-used.ensures) written
 
 pub returns-in-Err-clause-where_cut : goal.returns-in-Err-clause-where_cut
 returns-in-Err-clause-where_cut g c text compiled =
     let given = c.start.ensures.err (c.in-Err.reader, c.in-Err.writer) c.in-Err.is in
     let same_reader : c.args.reader ≡ c.in-Err.reader = sym (ap (λ (x : g.row.R.Denot × g.row.W.Denot). x.0) given) in
     let same_writer : c.args.writer ≡ c.in-Err.writer = sym (ap (λ (x : g.row.R.Denot × g.row.W.Denot). x.1) given) in
-    subst (λ r. WasCut g.R.FaultyRead.remaining g.W.FaultyWrite.contents text Memory 0 c.args.reader r c.args.writer c.in-Err.writer) same_reader
-    (subst (λ w. WasCut g.R.FaultyRead.remaining g.W.FaultyWrite.contents text Memory 0 c.args.reader c.args.reader c.args.writer w) same_writer
+    subst (λ r. HasBeenCut g.R.FaultyRead.remaining g.W.FaultyWrite.contents text Memory 0 c.args.reader r c.args.writer c.in-Err.writer) same_reader
+    (subst (λ w. HasBeenCut g.R.FaultyRead.remaining g.W.FaultyWrite.contents text Memory 0 c.args.reader c.args.reader c.args.writer w) same_writer
     (nothing_cut g.R.FaultyRead.remaining g.W.FaultyWrite.contents text compiled.program compiled.meant c.args.reader c.args.writer))
 
 pub returns-clause-where_cut : goal.returns-clause-where_cut
@@ -56,10 +56,10 @@ returns-clause-where_cut g c text compiled =
     let last_writer : session_writer now ≡ out.1 = sym (ap (λ (x : g.row.R.Denot × g.row.W.Denot). x.1) closed) in
     let was = c.run_pieces-stop.ensures.was_run code c.args.reader c.args.writer c.in-Ok.ensures.ok c.in-Ok.ensures.has_run in
     let where_cut = c.sessions_are_cut.ensures now text code c.args.reader c.args.writer was.0 compiled was.3.run in
-    let stopped = subst (λ s. WasCut remaining contents text s (session_machine now).used c.args.reader (session_reader now) c.args.writer (session_writer now)) (sym c.run_pieces-stop.ensures.stopped) where_cut in
-    let read = subst (λ r. WasCut remaining contents text c.run_pieces-stop.result (session_machine now).used c.args.reader r c.args.writer (session_writer now)) last_reader stopped in
-    let written = subst (λ w. WasCut remaining contents text c.run_pieces-stop.result (session_machine now).used c.args.reader out.0 c.args.writer w) last_writer read in
-    subst (λ u. WasCut remaining contents text c.run_pieces-stop.result u c.args.reader out.0 c.args.writer out.1) (sym c.used-used.ensures) written
+    let stopped = subst (λ s. HasBeenCut remaining contents text s (session_machine now).used c.args.reader (session_reader now) c.args.writer (session_writer now)) (sym c.run_pieces-stop.ensures.stopped) where_cut in
+    let read = subst (λ r. HasBeenCut remaining contents text c.run_pieces-stop.result (session_machine now).used c.args.reader r c.args.writer (session_writer now)) last_reader stopped in
+    let written = subst (λ w. HasBeenCut remaining contents text c.run_pieces-stop.result (session_machine now).used c.args.reader out.0 c.args.writer w) last_writer read in
+    subst (λ u. HasBeenCut remaining contents text c.run_pieces-stop.result u c.args.reader out.0 c.args.writer out.1) (sym c.used-used.ensures) written
 
 pub returns-clause-output : goal.returns-clause-output
 returns-clause-output g c q text compiled =

@@ -1,7 +1,7 @@
 use Rattle.std.proofs.Common.{subst}
 use Rattle.ss_base.specs.Failures.{HasRisen}
 use Rattle.ss_machine.specs.declared.stop.Stop.TheVariants.{Output, Input}
-use Rattle.ss_engine.specs.LastRun.{LastRun}
+use Rattle.ss_engine.specs.LastRun.{HasLastRun}
 use Rattle.ss_engine.proofs.LastRun.{stopped_same}
 use Rattle.ss_engine.proofs.simulating.simulate.Goals as goal
 
@@ -15,12 +15,12 @@ pub returns-clause-output : goal.returns-clause-output
 returns-clause-output g c used e =
     let r = c.run_model-stop.result in
     let same = stopped_same r.0 Output r.1 used e in
-    subst (λ n. LastRun g.R.FaultyRead.remaining g.W.FaultyWrite.contents c.args.text.now c.args.pieces.now n c.args.reader c.args.writer (λ reader_then writer_then. HasRisen (g.W.Faulty.faults writer_then) (g.W.Faulty.faults r.3))) same.1
+    subst (λ n. HasLastRun g.R.FaultyRead.remaining g.W.FaultyWrite.contents c.args.text.now c.args.pieces.now n c.args.reader c.args.writer (λ reader_then writer_then. HasRisen (g.W.Faulty.faults writer_then) (g.W.Faulty.faults r.3))) same.1
     (c.run_model-stop.ensures.output same.0 c.args.text.now c.in-Ok.ensures.accepted)
 
 pub returns-clause-input : goal.returns-clause-input
 returns-clause-input g c used e =
     let r = c.run_model-stop.result in
     let same = stopped_same r.0 Input r.1 used e in
-    subst (λ n. LastRun g.R.FaultyRead.remaining g.W.FaultyWrite.contents c.args.text.now c.args.pieces.now n c.args.reader c.args.writer (λ reader_then writer_then. HasRisen (g.R.Faulty.faults reader_then) (g.R.Faulty.faults r.2))) same.1
+    subst (λ n. HasLastRun g.R.FaultyRead.remaining g.W.FaultyWrite.contents c.args.text.now c.args.pieces.now n c.args.reader c.args.writer (λ reader_then writer_then. HasRisen (g.R.Faulty.faults reader_then) (g.R.Faulty.faults r.2))) same.1
     (c.run_model-stop.ensures.input same.0 c.args.text.now c.in-Ok.ensures.accepted)

@@ -3,7 +3,7 @@ use Rattle.ss_events_entries.specs.declared.entry.Entry.{Entry}
 use Rattle.ss_events_entries.specs.HeapEntries.{HeadsAndFollowers, heap_lines}
 use Rattle.ss_events_entries.specs.HeapOrder.{IsHeap}
 use Rattle.ss_world.specs.Order.{comes_before}
-use Rattle.ss_events.specs.Sifting.{GoesIn, StaysOut, Inserts}
+use Rattle.ss_events.specs.Sifting.{HasGoneIn, HasStayedOut, IsInsertion}
 use Rattle.ss_events.proofs.Sifts.{retried}
 use Rattle.ss_events.proofs.sift.insert.Goals as goal
 use Rattle.ss_events.proofs.sift.insert.Goals.{After-insert_at_once}
@@ -13,8 +13,8 @@ abbrev its : (c : After-insert_at_once) → ℤ → Entry
 its c z = record { key = c.args.key; number = c.args.number; notice = z }
 
 -- the quick attempt in vain
-stayed : (c : After-insert_at_once) → c.insert_at_once.result ≡ false → StaysOut (heap_lines c.args.heap.now) c.args.heap.now.before c.insert_at_once.new.heap
-stayed c not = subst (λ (b : Bool). Inserts (its c (to_z w64 (of_z w64 c.args.notice))) (heap_lines c.args.heap.now) c.args.heap.now.before c.insert_at_once.new.heap b) not c.insert_at_once.ensures
+stayed : (c : After-insert_at_once) → c.insert_at_once.result ≡ false → HasStayedOut (heap_lines c.args.heap.now) c.args.heap.now.before c.insert_at_once.new.heap
+stayed c not = subst (λ (b : Bool). IsInsertion (its c (to_z w64 (of_z w64 c.args.notice))) (heap_lines c.args.heap.now) c.args.heap.now.before c.insert_at_once.new.heap b) not c.insert_at_once.ensures
 
 pub insert_slowly-requires-clause-order : goal.insert_slowly-requires-clause-order
 insert_slowly-requires-clause-order c =
@@ -27,12 +27,12 @@ pub returns-then-insert_at_once : goal.returns-then-insert_at_once
 returns-then-insert_at_once c =
     let a = (goal.at.returns-then-insert_at_once c).After-insert_at_once in
     let old = c.args.heap.now in let new = c.insert_at_once.new.heap in
-    subst (λ (z : ℤ). GoesIn (its a z) (heap_lines old) old.before new) (to_z-of_z c.ranges.notice)
-    (subst (λ (b : Bool). Inserts (its a (to_z w64 (of_z w64 c.args.notice))) (heap_lines old) old.before new b) c.if-insert_at_once.true c.insert_at_once.ensures)
+    subst (λ (z : ℤ). HasGoneIn (its a z) (heap_lines old) old.before new) (to_z-of_z c.ranges.notice)
+    (subst (λ (b : Bool). IsInsertion (its a (to_z w64 (of_z w64 c.args.notice))) (heap_lines old) old.before new b) c.if-insert_at_once.true c.insert_at_once.ensures)
 
 pub returns : goal.returns
 returns c =
     let a = (goal.at.returns c).After-insert_at_once in
     let old = c.args.heap.now in let new = c.insert_slowly.new.heap in let b = c.insert_slowly.result in
-    subst (λ (z : ℤ). Inserts (its a z) (heap_lines old) old.before new b) (to_z-of_z c.ranges.notice)
+    subst (λ (z : ℤ). IsInsertion (its a z) (heap_lines old) old.before new b) (to_z-of_z c.ranges.notice)
     (retried (its a (to_z w64 (of_z w64 c.args.notice))) (heap_lines old) old.before c.insert_at_once.new.heap new b (stayed a c.if-insert_at_once.false) c.insert_slowly.ensures)

@@ -8,14 +8,14 @@ use Rattle.ss_events_entries.specs.HeapOrder.{IsHeap}
 use Rattle.ss_world.specs.Order.{comes_before}
 use Rattle.ss_world.specs.PendingList.{scheduling_limit}
 use Rattle.ss_world.specs.SortKey.{SortKey}
-use Rattle.ss_events.specs.Sifting.{GoesIn, StaysOut}
+use Rattle.ss_events.specs.Sifting.{HasGoneIn, HasStayedOut}
 use Rattle.ss_events.proofs.Sifts.{append_work, stays, retried, goes_in}
 use Rattle.ss_events.proofs.Agendas.{any-append}
 use Rattle.ss_events.proofs.sift.insert_at_once.Goals as goal
 use Rattle.ss_events.proofs.sift.insert_at_once.Goals.{After-push_plain, else-place-ge-MANY-via-then-place-ge-MANY+else-append_plain, else-place-ge-MANY-via-else-place-ge-MANY}
 
 -- no entry was put after another one
-ready : (c : After-push_plain) → StaysOut (heap_lines c.args.heap.now) c.args.heap.now.before c.else-place-ge-MANY.heap
+ready : (c : After-push_plain) → HasStayedOut (heap_lines c.args.heap.now) c.args.heap.now.before c.else-place-ge-MANY.heap
 ready c = elim c.else-place-ge-MANY.branch [
   | else-place-ge-MANY-via-then-place-ge-MANY+else-append_plain w ↦
       let no = w.if-append_plain.false in
@@ -31,7 +31,7 @@ ready c = elim c.else-place-ge-MANY.branch [
         };
         before = ap (λ h. h.before) is ∙ tried.before;
       }
-  | else-place-ge-MANY-via-else-place-ge-MANY w ↦ subst (λ (h : HeapEntries). StaysOut (heap_lines c.args.heap.now) c.args.heap.now.before h) (sym w.heap-is) (stays c.args.heap.now c.requires.tried)
+  | else-place-ge-MANY-via-else-place-ge-MANY w ↦ subst (λ (h : HeapEntries). HasStayedOut (heap_lines c.args.heap.now) c.args.heap.now.before h) (sym w.heap-is) (stays c.args.heap.now c.requires.tried)
 ]
 
 -- ---- not put anywhere
@@ -44,7 +44,7 @@ returns-then-rank-ge-PLAIN_RANKS c = stays c.args.heap.now c.requires.tried
 
 pub returns-then-not-push_plain : goal.returns-then-not-push_plain
 returns-then-not-push_plain c =
-    subst (λ (h : HeapEntries). StaysOut (heap_lines c.args.heap.now) c.args.heap.now.before h) (sym (c.push_plain.ensures.kept c.if-not-push_plain.true)) (ready (goal.at.returns-then-not-push_plain c).After-push_plain)
+    subst (λ (h : HeapEntries). HasStayedOut (heap_lines c.args.heap.now) c.args.heap.now.before h) (sym (c.push_plain.ensures.kept c.if-not-push_plain.true)) (ready (goal.at.returns-then-not-push_plain c).After-push_plain)
 
 -- ---- put in a place of its own
 
@@ -70,8 +70,8 @@ returns c =
     let ordered : IsHeap comes_before mid.entries = subst (λ (l : HeadsAndFollowers). IsHeap comes_before l.heads) (sym s.lines) c.requires.order in
     let room : c.args.number ≢ scheduling_limit = omega (arith, c.if-number-ge-PLAIN_NUMBERS.false) in
     let e = it (plain (to_z w64 (of_z w64 c.in-Some.time))) n in
-    subst (λ (z : ℤ). GoesIn (it c.args.key.now z) (heap_lines old) old.before new) (to_z-of_z c.ranges.notice)
-    (subst (λ (k : SortKey). GoesIn (it k n) (heap_lines old) old.before new) (ap plain same ∙ sym c.in-Some.ensures)
+    subst (λ (z : ℤ). HasGoneIn (it c.args.key.now z) (heap_lines old) old.before new) (to_z-of_z c.ranges.notice)
+    (subst (λ (k : SortKey). HasGoneIn (it k n) (heap_lines old) old.before new) (ap plain same ∙ sym c.in-Some.ensures)
     (retried e (heap_lines old) old.before mid new true s
     (goes_in e mid c.push_plain.new.self new c.len-place.result c.raise.result (c.push_plain.ensures.done did) (c.len-place.ensures ∙ ap (λ (l : HeadsAndFollowers). length l.heads) (sym s.lines)) c.raise.ensures.raises c.raise.ensures.cost s.tried ordered
     (any-append n mid.entries mid.followers ∙ or_from (list_any (int_eq n) (notices_of mid.entries)) (list_any (int_eq n) (notices_of mid.followers)) (c.push_plain.ensures.apart did) (c.push_plain.ensures.fresh did))
@@ -94,8 +94,8 @@ returns-then-append_plain c =
     let e = it (plain (to_z w64 (of_z w64 c.in-Some.time))) n in
     let front = IsPermutation-sym (es ++ e ∷ fs) (e ∷ (es ++ fs)) (IsPermutation-middle es e fs) in
     let all = IsPermutation-trans (e ∷ (es ++ fs)) (es ++ e ∷ fs) (es ++ gs) front (IsPermutation-append_right es (e ∷ fs) gs (put.done did)) in
-    subst (λ (z : ℤ). GoesIn (it c.args.key.now z) (heap_lines old) old.before new) (to_z-of_z c.ranges.notice)
-    (subst (λ (k : SortKey). GoesIn (it k n) (heap_lines old) old.before new) (ap plain same ∙ sym c.in-Some.ensures)
+    subst (λ (z : ℤ). HasGoneIn (it c.args.key.now z) (heap_lines old) old.before new) (to_z-of_z c.ranges.notice)
+    (subst (λ (k : SortKey). HasGoneIn (it k n) (heap_lines old) old.before new) (ap plain same ∙ sym c.in-Some.ensures)
     record {
       order = subst (IsHeap comes_before) (sym put.entries) c.requires.order;
       all = subst (λ (hs : List Entry). IsPermutation (e ∷ (es ++ fs)) (hs ++ gs)) (sym put.entries) all;

@@ -6,7 +6,7 @@ use Rattle.ss_events_entries.specs.HeapEntries.{HeapEntries, HeadsAndFollowers, 
 use Rattle.ss_events_entries.specs.HeapOrder.{IsHeap}
 use Rattle.ss_world.specs.Order.{comes_before}
 use Rattle.ss_world.specs.PendingList.{scheduling_limit}
-use Rattle.ss_events.specs.Sifting.{IsTried, GoesIn, StaysOut, Inserts}
+use Rattle.ss_events.specs.Sifting.{IsTried, HasGoneIn, HasStayedOut, IsInsertion}
 use Rattle.ss_events.proofs.Sifts.{stays, retried, goes_in}
 use Rattle.ss_events.proofs.Agendas.{any-append}
 use Rattle.ss_events.proofs.sift.insert_slowly.Goals as goal
@@ -17,11 +17,11 @@ abbrev its : (c : After-insert_at_once) → ℤ → Entry
 its c z = record { key = c.args.key; number = c.args.number; notice = z }
 
 -- what the attempt did
-attempt : (c : After-insert_at_once) → Inserts (its c (to_z w64 (of_z w64 c.args.notice))) (heap_lines c.args.heap.now) c.args.heap.now.before c.insert_at_once.new.heap c.insert_at_once.result
-attempt c = subst (λ (h : HeapEntries). Inserts (its c (to_z w64 (of_z w64 c.args.notice))) (heap_lines h) h.before c.insert_at_once.new.heap c.insert_at_once.result) c.make_room.ensures c.insert_at_once.ensures
+attempt : (c : After-insert_at_once) → IsInsertion (its c (to_z w64 (of_z w64 c.args.notice))) (heap_lines c.args.heap.now) c.args.heap.now.before c.insert_at_once.new.heap c.insert_at_once.result
+attempt c = subst (λ (h : HeapEntries). IsInsertion (its c (to_z w64 (of_z w64 c.args.notice))) (heap_lines h) h.before c.insert_at_once.new.heap c.insert_at_once.result) c.make_room.ensures c.insert_at_once.ensures
 
-stayed : (c : After-insert_at_once) → c.insert_at_once.result ≡ false → StaysOut (heap_lines c.args.heap.now) c.args.heap.now.before c.insert_at_once.new.heap
-stayed c not = subst (λ (b : Bool). Inserts (its c (to_z w64 (of_z w64 c.args.notice))) (heap_lines c.args.heap.now) c.args.heap.now.before c.insert_at_once.new.heap b) not (attempt c)
+stayed : (c : After-insert_at_once) → c.insert_at_once.result ≡ false → HasStayedOut (heap_lines c.args.heap.now) c.args.heap.now.before c.insert_at_once.new.heap
+stayed c not = subst (λ (b : Bool). IsInsertion (its c (to_z w64 (of_z w64 c.args.notice))) (heap_lines c.args.heap.now) c.args.heap.now.before c.insert_at_once.new.heap b) not (attempt c)
 
 -- ---- it doesn't go in
 
@@ -29,12 +29,12 @@ pub returns-then-number-eq-MOST_SCHEDULINGS : goal.returns-then-number-eq-MOST_S
 returns-then-number-eq-MOST_SCHEDULINGS c = stays c.args.heap.now c.requires.tried
 
 pub returns-in_default : goal.returns-in_default
-returns-in_default c = subst (λ (h : HeapEntries). StaysOut (heap_lines c.args.heap.now) c.args.heap.now.before h) (sym c.make_room.ensures) (stays c.args.heap.now c.requires.tried)
+returns-in_default c = subst (λ (h : HeapEntries). HasStayedOut (heap_lines c.args.heap.now) c.args.heap.now.before h) (sym c.make_room.ensures) (stays c.args.heap.now c.requires.tried)
 
 pub returns-in_default-push : goal.returns-in_default-push
 returns-in_default-push c =
     let s = stayed (goal.at.returns-in_default-push c).After-insert_at_once c.if-insert_at_once.false in
-    subst (λ (h : HeapEntries). StaysOut (heap_lines c.args.heap.now) c.args.heap.now.before h) (sym c.in_default-push.ensures.err) s
+    subst (λ (h : HeapEntries). HasStayedOut (heap_lines c.args.heap.now) c.args.heap.now.before h) (sym c.in_default-push.ensures.err) s
 
 -- ---- it goes in
 
@@ -48,11 +48,11 @@ pub returns-then-insert_at_once : goal.returns-then-insert_at_once
 returns-then-insert_at_once c =
     let a = (goal.at.returns-then-insert_at_once c).After-insert_at_once in
     let old = c.args.heap.now in let new = c.insert_at_once.new.heap in
-    subst (λ (z : ℤ). GoesIn (its a z) (heap_lines old) old.before new) (to_z-of_z c.ranges.notice)
-    (subst (λ (b : Bool). Inserts (its a (to_z w64 (of_z w64 c.args.notice))) (heap_lines old) old.before new b) c.if-insert_at_once.true (attempt a))
+    subst (λ (z : ℤ). HasGoneIn (its a z) (heap_lines old) old.before new) (to_z-of_z c.ranges.notice)
+    (subst (λ (b : Bool). IsInsertion (its a (to_z w64 (of_z w64 c.args.notice))) (heap_lines old) old.before new b) c.if-insert_at_once.true (attempt a))
 
 -- no entry has the notice
-apart : (c : After-insert_at_once) → StaysOut (heap_lines c.args.heap.now) c.args.heap.now.before c.insert_at_once.new.heap → c.holds.result ≡ false
+apart : (c : After-insert_at_once) → HasStayedOut (heap_lines c.args.heap.now) c.args.heap.now.before c.insert_at_once.new.heap → c.holds.result ≡ false
     → (list_any (int_eq (to_z w64 (of_z w64 c.args.notice))) (notices_of c.insert_at_once.new.heap.entries) ≡ false) × (list_any (int_eq (to_z w64 (of_z w64 c.args.notice))) (notices_of c.insert_at_once.new.heap.followers) ≡ false)
 apart c s free =
     let n = to_z w64 (of_z w64 c.args.notice) in let old = c.args.heap.now in
@@ -88,7 +88,7 @@ returns c =
     let old = c.args.heap.now in let mid = c.insert_at_once.new.heap in let new = c.raise.new.heap in
     let ordered : IsHeap comes_before mid.entries = subst (λ (l : HeadsAndFollowers). IsHeap comes_before l.heads) (sym s.lines) c.requires.order in
     let room : c.args.number ≢ scheduling_limit = omega arith in
-    subst (λ (z : ℤ). GoesIn (its a z) (heap_lines old) old.before new) (to_z-of_z c.ranges.notice)
+    subst (λ (z : ℤ). HasGoneIn (its a z) (heap_lines old) old.before new) (to_z-of_z c.ranges.notice)
     (retried (its a n) (heap_lines old) old.before mid new true s
     (goes_in (its a n) mid c.push.new.self new c.len-place.result c.raise.result c.in-Ok-push.ensures.ok c.len-place.ensures c.raise.ensures.raises c.raise.ensures.cost s.tried ordered
     (any-append n mid.entries mid.followers ∙ or_from (list_any (int_eq n) (notices_of mid.entries)) (list_any (int_eq n) (notices_of mid.followers)) free.0 free.1)

@@ -1,5 +1,5 @@
 use Rattle.std.proofs.Common.{rules, arith, ◌≡◌, ◌+◌, [], subst, ◌∙◌}
-use Rattle.ss_input.specs.Sources.{Passes, GapPassed, NextIs}
+use Rattle.ss_input.specs.Sources.{HasPassed, IsGapPassed, IsNextWanted}
 use Rattle.ss_input.specs.Words.{is_separator, is_word_byte}
 use Rattle.ss_input.proofs.Asked.{unasked_then}
 use Rattle.ss_input.proofs.Passages.{gap_more, gap_stays}
@@ -8,9 +8,9 @@ use Rattle.ss_input.proofs.passing.pass_gap.Goals as goal
 pub returns-then-not-branch-clause-passed : goal.returns-then-not-branch-clause-passed
 returns-then-not-branch-clause-passed g c count e =
     let same : c.loop-count.count ≡ count = cc in
-    let none : Passes g.R.FaultyRead.remaining c.loop-count.block c.pass_separator.new.block [] × NextIs is_word_byte c.pass_separator.new.block = search rules in
+    let none : HasPassed g.R.FaultyRead.remaining c.loop-count.block c.pass_separator.new.block [] × IsNextWanted is_word_byte c.pass_separator.new.block = search rules in
     let passed = gap_stays g.R.FaultyRead.remaining c.args.block.now c.loop-count.block c.pass_separator.new.block c.args.before c.loop-count.count c.loop-count.invariant.passed none.0 in
-    (subst (λ n. GapPassed g.R.FaultyRead.remaining c.args.block.now c.pass_separator.new.block c.args.before n) same passed, omega (arith, same, c.loop-count-test.true), none.1)
+    (subst (λ n. IsGapPassed g.R.FaultyRead.remaining c.args.block.now c.pass_separator.new.block c.args.before n) same passed, omega (arith, same, c.loop-count-test.true), none.1)
 
 pub loop-count-preserved : goal.loop-count-preserved
 loop-count-preserved g c = record {
@@ -24,12 +24,12 @@ pub returns-then-branch-clause-too_many : goal.returns-then-branch-clause-too_ma
 returns-then-branch-clause-too_many g c e =
     let at_end : c.loop-count.count ≡ 1048576 = omega (arith, c.loop-count.auto.count, c.loop-count.auto.count-end, c.loop-count-test.false, c.requires) in
     let passed = gap_more g.R.FaultyRead.remaining c.args.block.now c.loop-count.block c.pass_separator-2.new.block c.args.before c.loop-count.count c.loop-count.invariant.passed (search rules) in
-    subst (λ n. GapPassed g.R.FaultyRead.remaining c.args.block.now c.pass_separator-2.new.block c.args.before (n + 1)) at_end passed
+    subst (λ n. IsGapPassed g.R.FaultyRead.remaining c.args.block.now c.pass_separator-2.new.block c.args.before (n + 1)) at_end passed
 
 pub returns-else-branch-clause-passed : goal.returns-else-branch-clause-passed
 returns-else-branch-clause-passed g c count e =
     let at_end : c.loop-count.count ≡ 1048576 = omega (arith, c.loop-count.auto.count, c.loop-count.auto.count-end, c.loop-count-test.false, c.requires) in
     let same : 1048576 ≡ count = cc in
-    let none : Passes g.R.FaultyRead.remaining c.loop-count.block c.pass_separator-2.new.block [] × NextIs is_word_byte c.pass_separator-2.new.block = search rules in
+    let none : HasPassed g.R.FaultyRead.remaining c.loop-count.block c.pass_separator-2.new.block [] × IsNextWanted is_word_byte c.pass_separator-2.new.block = search rules in
     let passed = gap_stays g.R.FaultyRead.remaining c.args.block.now c.loop-count.block c.pass_separator-2.new.block c.args.before c.loop-count.count c.loop-count.invariant.passed none.0 in
-    (subst (λ n. GapPassed g.R.FaultyRead.remaining c.args.block.now c.pass_separator-2.new.block c.args.before n) (at_end ∙ same) passed, omega (arith, same), none.1)
+    (subst (λ n. IsGapPassed g.R.FaultyRead.remaining c.args.block.now c.pass_separator-2.new.block c.args.before n) (at_end ∙ same) passed, omega (arith, same), none.1)

@@ -1,14 +1,14 @@
 use Rattle.std.proofs.Common.{◌≡◌, length, take}
-use Rattle.ss_input.specs.Blocks.{KnowsEnd}
-use Rattle.ss_input.specs.Sources.{WordPassed, Suffices, Unasked}
+use Rattle.ss_input.specs.Blocks.{IsEndKnown}
+use Rattle.ss_input.specs.Sources.{IsWordPassed, IsEnough, IsUnasked}
 use Rattle.ss_input.specs.Words.{is_word_byte}
 use Rattle.ss_input.proofs.passing.pass_word.Given as goal
 
 abbrev pub invariant-loop-count : goal.invariant-loop-count
 invariant-loop-count g l = record {
-  passed : WordPassed g.R.FaultyRead.remaining l.fn.block l.block (take l.count l.word);
+  passed : IsWordPassed g.R.FaultyRead.remaining l.fn.block l.block (take l.count l.word);
   size : length l.word ≡ 64;
-  end : KnowsEnd g.R.FaultyRead.remaining l.fn.block → KnowsEnd g.R.FaultyRead.remaining l.block;
+  end : IsEndKnown g.R.FaultyRead.remaining l.fn.block → IsEndKnown g.R.FaultyRead.remaining l.block;
   unfailed : g.R.Faulty.faults l.block.reader ≡ g.R.Faulty.faults l.fn.block.reader;
-  unasked : Suffices is_word_byte l.fn.block → Unasked is_word_byte l.fn.block l.block;
+  unasked : IsEnough is_word_byte l.fn.block → IsUnasked is_word_byte l.fn.block l.block;
 }

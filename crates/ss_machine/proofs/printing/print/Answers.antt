@@ -1,7 +1,7 @@
 use Rattle.std.proofs.Common.{rules, sym, ap, subst}
 use Rattle.ss_code_instructions.specs.declared.instruction.Instruction.TheVariants.{Print as Runs}
 use Rattle.ss_machine_instructions.specs.Ways.{on_after}
-use Rattle.ss_machine.specs.Shown.{CanShow, TakeAll, SentAll, SentPart}
+use Rattle.ss_machine.specs.Shown.{CanShow, CanTakeAll, HasSentAll, HasSentPart}
 use Rattle.ss_machine.proofs.Written.{can_show, take_given, unsent}
 use Rattle.ss_machine.proofs.Sending.{Hands, all_sent, part_sent}
 use Rattle.ss_machine.proofs.printing.print.Goals as goal
@@ -15,7 +15,7 @@ print_from-requires g c =
     record {
       can = subst (λ k. CanShow s.world s.rows k l.items) from (can_show z.1.0 z.1.1 c.args.here s z.0 c.args.cell z.1.3 l z.1.2);
       small = z.1.3.holds.held.small;
-      fields = subst (λ k. TakeAll s.world s.rows k l) from (take_given z.1.0 z.1.1 c.args.here s z.0 c.args.cell z.1.3 l z.1.2);
+      fields = subst (λ k. CanTakeAll s.world s.rows k l) from (take_given z.1.0 z.1.1 c.args.here s z.0 c.args.cell z.1.3 l z.1.2);
     }
 
 pub returns-in-Ok-clause-written : goal.returns-in-Ok-clause-written
@@ -24,8 +24,8 @@ returns-in-Ok-clause-written g c = λ number.
     let l = c.args.lines.now in
     let before = g.W.FaultyWrite.contents c.args.sink.now.writer in
     let after = g.W.FaultyWrite.contents c.print_from.new.sink.writer in
-    let sent : SentAll s.world s.rows c.cell-from.result l before after = search rules in
-    all_sent c.args.here s number c.args.cell l before after (subst (λ k. SentAll s.world s.rows k l before after) c.cell-from.ensures sent)
+    let sent : HasSentAll s.world s.rows c.cell-from.result l before after = search rules in
+    all_sent c.args.here s number c.args.cell l before after (subst (λ k. HasSentAll s.world s.rows k l before after) c.cell-from.ensures sent)
 
 pub returns-in-Err-clause-written : goal.returns-in-Err-clause-written
 returns-in-Err-clause-written g c = λ number.
@@ -33,10 +33,10 @@ returns-in-Err-clause-written g c = λ number.
     let l = c.args.lines.now in
     let before = g.W.FaultyWrite.contents c.args.sink.now.writer in
     let after = g.W.FaultyWrite.contents c.print_from.new.sink.writer in
-    let sent : SentPart s.world s.rows c.cell-from.result l before after = search rules in
+    let sent : HasSentPart s.world s.rows c.cell-from.result l before after = search rules in
     unsent (Hands c.args.here s number c.args.cell l before after) c.args.here s (Runs number c.args.cell) before after c.in-Err.ending c.stop.new.self (on_after c.args.here c.stop.result)
     (c.print_from.ensures.unsent c.in-Err.ending c.in-Err.is)
-    (part_sent c.args.here s number c.args.cell l before after (subst (λ k. SentPart s.world s.rows k l before after) c.cell-from.ensures sent))
+    (part_sent c.args.here s number c.args.cell l before after (subst (λ k. HasSentPart s.world s.rows k l before after) c.cell-from.ensures sent))
     c.stop.ensures.stopped (ap (on_after c.args.here) c.stop.ensures.none)
 
 pub returns-in-Err-clause-output : goal.returns-in-Err-clause-output

@@ -8,8 +8,8 @@ use Rattle.ss_code_instructions.specs.States.{Rest, Breaks}
 use Rattle.ss_machine_instructions.specs.declared.flow.Ending.TheVariants.{NoOutput}
 use Rattle.ss_machine_instructions.specs.Doing.{Compiled, line_or}
 use Rattle.ss_machine_instructions.specs.Ways.{on_after}
-use Rattle.ss_machine.specs.Sent.{TookPart}
-use Rattle.ss_machine.specs.Writing.{IsUnsent, Sending, DidWrite}
+use Rattle.ss_machine.specs.Sent.{HasTakenPart}
+use Rattle.ss_machine.specs.Writing.{IsUnsent, IsSending, HasWritten}
 use Rattle.ss_machine.proofs.Known.{keeps_same}
 use Rattle.ss_machine.proofs.Written.{count_within, skip_fails, skip_sends, skip_on, few_lines, bad_lines, unsent}
 use Rattle.ss_machine.proofs.printing.skip.Goals as goal
@@ -31,7 +31,7 @@ returns-then-is_bad-clause-written g c =
     let same : to_z w64 (of_z w64 n) ≡ n = search rules in
     let test : (int_lt (to_z w64 (of_z w64 n)) (pos 0) || int_lt (pos 1000) (to_z w64 (of_z w64 n))) ≡ true = sym c.is_bad.ensures ∙ c.if-is_bad.true in
     let bad = bad_lines n (subst (λ m. (int_lt m (pos 0) || int_lt (pos 1000) m) ≡ true) same test) in
-    subst (λ o. DidWrite None_handed c.args.here s (Runs c.args.count.now) known known c.fault.new.self o) (ap (on_after c.args.here) (sym c.fault.ensures.none))
+    subst (λ o. HasWritten None_handed c.args.here s (Runs c.args.count.now) known known c.fault.new.self o) (ap (on_after c.args.here) (sym c.fault.ensures.none))
     (rw c.fault.ensures.faulted (
       keeps_same known,
       λ w core u r. skip_fails w core c.args.here s c.args.count.now r n c.number-count.ensures bad ∙ ap (λ o. Rest (Breaks BadCount (line_or r.placed.line o))) (sym r.holds.line),
@@ -62,13 +62,13 @@ returns-in-Err-clause-written g c =
     let after = g.W.FaultyWrite.contents c.send_empty.new.sink.writer in
     let same : to_z w64 (of_z w64 n) ≡ n = search rules in
     let good = few_lines n k (sym same ∙ c.lines_in.ensures.number) c.lines_in.ensures.few in
-    let part : TookPart before after (replicate k line_end) = search rules in
+    let part : HasTakenPart before after (replicate k line_end) = search rules in
     let failed : c.in-Err.ending ≡ NoOutput = c.send_empty.ensures.reason c.in-Err.ending c.in-Err.is in
     unsent None_handed c.args.here s (Runs c.args.count.now) before after c.in-Err.ending c.stop.new.self (on_after c.args.here c.stop.result)
     (subst IsUnsent (sym failed) tt)
     (record {
       part = part.part;
       took = part.took;
-      within = inr (λ w core u r. (part.rest, subst (Sending c.args.here s (Runs c.args.count.now) w core r) part.whole (skip_sends w core c.args.here s c.args.count.now r n c.number-count.ensures (replicate k line_end) good)));
+      within = inr (λ w core u r. (part.rest, subst (IsSending c.args.here s (Runs c.args.count.now) w core r) part.whole (skip_sends w core c.args.here s c.args.count.now r n c.number-count.ensures (replicate k line_end) good)));
     })
     c.stop.ensures.stopped (ap (on_after c.args.here) c.stop.ensures.none)

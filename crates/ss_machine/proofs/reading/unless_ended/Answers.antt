@@ -7,7 +7,7 @@ use Rattle.ss_code_instructions.specs.declared.instruction.Instruction.TheVarian
 use Rattle.ss_code_instructions.specs.States.{past}
 use Rattle.ss_machine_instructions.specs.Ways.{on_if_at, tested_at}
 use Rattle.ss_machine_instructions.proofs.Placing.{on_if_is}
-use Rattle.ss_machine.specs.Reading.{DidRead}
+use Rattle.ss_machine.specs.Reading.{HasRead}
 use Rattle.ss_machine.proofs.Inputs.{reads_so, finds_so}
 use Rattle.ss_machine.proofs.Worded.{test_on, test_fails, missed_did, moved_to}
 use Rattle.ss_machine.proofs.reading.unless_ended.Goals as goal
@@ -34,7 +34,7 @@ returns-in-Ok-clause-read g c = λ skip.
     let b = c.in-Ok.ended in
     let s = c.args.state.now in
     let z = c.requires.can in
-    subst (λ o. DidRead g.R.FaultyRead.remaining c.args.here s (Runs skip c.args.negated) c.args.source.now c.is_ended.new.source s o)
+    subst (λ o. HasRead g.R.FaultyRead.remaining c.args.here s (Runs skip c.args.negated) c.args.source.now c.is_ended.new.source s o)
     (sym (ap (λ (x : Bool). on_if_at c.args.here x skip) (differs b c.args.negated) ∙ on_if_is z.1.0 z.1.1 c.args.here s (Runs z.0 c.args.negated) z.1.2 (not_if c.args.negated b) skip))
     (reads_so g.R.FaultyRead.remaining c.args.source.now c.is_ended.new.source _ _
     (λ input rest h w core same r. moved_to w core c.args.here s (Runs skip c.args.negated) r rest s (past skip (not_if c.args.negated b) (core.place + 1)) (past skip (not_if c.args.negated b) (z.1.1.place + 1))

@@ -2,7 +2,7 @@ use Rattle.std.proofs.Common.{rules, ◌≡◌, Some, None, sym, subst, w64, of_
 use Rattle.ss_base.specs.declared.value.Value.TheVariants.{Whole}
 use Rattle.ss_picture.specs.declared.items.Item.TheVariants.{Is}
 use Rattle.ss_code_instructions.specs.declared.item.ItemKind.TheVariants as shows
-use Rattle.ss_machine_world.specs.Numbers.{RefersToSubject}
+use Rattle.ss_machine_world.specs.Numbers.{IsReferenceToSubject}
 use Rattle.ss_machine.specs.Shown.{CanShowOne, IsShown}
 use Rattle.ss_machine.proofs.Items.{number_first, text_first, mean_first, mean_of_first}
 use Rattle.ss_machine.proofs.showing.item_of.Goals as goal
@@ -43,6 +43,6 @@ returns-in-MeanOf-clause-shown c =
     let n = c.number_at-entity.result in
     let same : to_z w64 (of_z w64 n) ≡ n = search rules in
     let can = subst (CanShowOne s.world s.rows c.args.at) c.in-MeanOf.is c.requires in
-    let refers : RefersToSubject s.world c.in-MeanOf.statistic (Some (Whole n)) (to_z w64 (of_z w64 n)) =
-    subst (RefersToSubject s.world c.in-MeanOf.statistic (Some (Whole n))) (sym same) (can.1.1 n) in
+    let refers : IsReferenceToSubject s.world c.in-MeanOf.statistic (Some (Whole n)) (to_z w64 (of_z w64 n)) =
+    subst (IsReferenceToSubject s.world c.in-MeanOf.statistic (Some (Whole n))) (sym same) (can.1.1 n) in
     rw c.in-MeanOf.is (mean_of_first s.world s.rows c.args.at c.in-MeanOf.statistic n c.mean_item-in-MeanOf.result c.number_at-entity.ensures (c.mean_item-in-MeanOf.ensures.shown (Some (Whole n)) refers))

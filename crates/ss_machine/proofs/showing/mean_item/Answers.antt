@@ -3,7 +3,7 @@ use Rattle.std.specs.Int.{w128}
 use Rattle.ss_picture.specs.declared.items.Item.TheVariants.{Mean}
 use Rattle.ss_meaning.specs.Statistics.{mean}
 use Rattle.ss_machine_world.specs.Seen.{with_seen}
-use Rattle.ss_machine_world.specs.Numbers.{RefersToSubject}
+use Rattle.ss_machine_world.specs.Numbers.{IsReferenceToSubject}
 use Rattle.ss_machine.proofs.Items.{item_for, mean_is}
 use Rattle.ss_machine.proofs.showing.mean_item.Goals as goal
 
@@ -12,13 +12,13 @@ returns-in-Ok-clause-shown c = λ o refers s x e.
     let sum : to_z w128 (of_z w128 c.in-Ok.sum) ≡ c.in-Ok.sum = search rules in
     let number : to_z w64 (of_z w64 c.in-Ok.number) ≡ c.in-Ok.number = search rules in
     let same : to_z w64 (of_z w64 c.args.entity) ≡ c.args.entity = search rules in
-    let refers_so : RefersToSubject c.args.state.now.world c.args.statistic o (to_z w64 (of_z w64 c.args.entity)) = subst (RefersToSubject c.args.state.now.world c.args.statistic o) (sym same) refers in
+    let refers_so : IsReferenceToSubject c.args.state.now.world c.args.statistic o (to_z w64 (of_z w64 c.args.entity)) = subst (IsReferenceToSubject c.args.state.now.world c.args.statistic o) (sym same) refers in
     mean_is c.mean.result (mean c.args.statistic o (with_seen s c.args.state.now.world)) (c.mean.ensures.value o refers_so s) x e ∙ ap item_for c.in-Ok.is ∙ ap (λ n. Mean n c.in-Ok.number) (sym sum) ∙ ap (λ n. Mean (to_z w128 (of_z w128 c.in-Ok.sum)) n) (sym number)
 
 pub returns-in-Err-clause-shown : goal.returns-in-Err-clause-shown
 returns-in-Err-clause-shown c = λ o refers s x e.
     let same : to_z w64 (of_z w64 c.args.entity) ≡ c.args.entity = search rules in
-    let refers_so : RefersToSubject c.args.state.now.world c.args.statistic o (to_z w64 (of_z w64 c.args.entity)) = subst (RefersToSubject c.args.state.now.world c.args.statistic o) (sym same) refers in
+    let refers_so : IsReferenceToSubject c.args.state.now.world c.args.statistic o (to_z w64 (of_z w64 c.args.entity)) = subst (IsReferenceToSubject c.args.state.now.world c.args.statistic o) (sym same) refers in
     mean_is c.mean.result (mean c.args.statistic o (with_seen s c.args.state.now.world)) (c.mean.ensures.value o refers_so s) x e ∙ ap item_for c.in-Err.is
 
 pub returns-in-Err-clause-printable : goal.returns-in-Err-clause-printable

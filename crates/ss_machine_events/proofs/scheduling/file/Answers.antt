@@ -1,7 +1,7 @@
 use Rattle.std.proofs.Common.{rules, ◌≡◌, ◌∙◌, ℤ, sym, subst, to_z, of_z, w64}
 use Rattle.ss_base.specs.declared.value.Value.TheVariants.{Whole}
 use Rattle.ss_meaning.specs.Events.{filed_notice}
-use Rattle.ss_machine_events.specs.Scheduled.{DoesIf}
+use Rattle.ss_machine_events.specs.Scheduled.{IsDoneIf}
 use Rattle.ss_machine_events.proofs.Filing.{no_keys}
 use Rattle.ss_machine_events.proofs.scheduling.file.Goals as goal
 
@@ -17,8 +17,8 @@ returns-then-has_ties c =
     let new = c.schedule_tied.new.world in let b = c.schedule_tied.result in
     let number : to_z w64 (of_z w64 n) ≡ n = search rules in
     let same : to_z w64 (of_z w64 time) ≡ time = search rules in
-    subst (λ (m : ℤ). DoesIf (filed_notice class (Whole m) time) b e new) number
-    (subst (λ (t : ℤ). DoesIf (filed_notice class (Whole (to_z w64 (of_z w64 n))) t) b e new) same c.schedule_tied.ensures)
+    subst (λ (m : ℤ). IsDoneIf (filed_notice class (Whole m) time) b e new) number
+    (subst (λ (t : ℤ). IsDoneIf (filed_notice class (Whole (to_z w64 (of_z w64 n))) t) b e new) same c.schedule_tied.ensures)
 
 pub returns-else-has_ties : goal.returns-else-has_ties
 returns-else-has_ties c =
@@ -26,5 +26,5 @@ returns-else-has_ties c =
     let new = c.schedule_untied.new.world in let b = c.schedule_untied.result in
     let number : to_z w64 (of_z w64 n) ≡ n = search rules in
     let same : to_z w64 (of_z w64 time) ≡ time = search rules in
-    subst (λ (m : ℤ). DoesIf (filed_notice class (Whole m) time) b e new) number
-    (subst (λ (t : ℤ). DoesIf (filed_notice class (Whole (to_z w64 (of_z w64 n))) t) b e new) same c.schedule_untied.ensures)
+    subst (λ (m : ℤ). IsDoneIf (filed_notice class (Whole m) time) b e new) number
+    (subst (λ (t : ℤ). IsDoneIf (filed_notice class (Whole (to_z w64 (of_z w64 n))) t) b e new) same c.schedule_untied.ensures)

@@ -7,7 +7,7 @@ use Rattle.std.specs.Prelude.{slice_get}
 use Rattle.ss_world.specs.SortKey.{SortKey}
 use Rattle.ss_meaning.specs.Events.{ties_of}
 use Rattle.ss_machine_world.specs.Seen.{with_seen}
-use Rattle.ss_machine_events.specs.Scheduled.{HasKeyField, DoesIf, scheduled_known}
+use Rattle.ss_machine_events.specs.Scheduled.{HasKeyField, IsDoneIf, scheduled_known}
 use Rattle.ss_machine_events.proofs.Filing.{said_there, files}
 use Rattle.ss_machine_events.proofs.scheduling.schedule_tied.Goals as goal
 
@@ -41,5 +41,5 @@ returns-in-Ok c =
     let key : c.with_ties.result ≡ record { time = time; rank = k.ranked.rank; ties = c.in-Ok.ties.items } = c.with_ties.ensures ∙ (λ i. record { time = same i; rank = rank i; ties = c.in-Ok.ties.items }) in
     files e class n time k c.requires.known c.in-Ok.ties.items new b
     (λ s. ap (ties_of class (Whole n) (with_seen s e)) (sym keys) ∙ subst (λ (m : ℤ). ties_of class (Whole m) (with_seen s e) c.keys_of-keys.result.now ≡ Ok c.in-Ok.ties.items) number (c.in-Ok.ensures s))
-    (subst (λ (key : SortKey). DoesIf (scheduled_known key n) b e new) key
-    (subst (λ (m : ℤ). DoesIf (scheduled_known c.with_ties.result m) b e new) number c.file_under.ensures))
+    (subst (λ (key : SortKey). IsDoneIf (scheduled_known key n) b e new) key
+    (subst (λ (m : ℤ). IsDoneIf (scheduled_known c.with_ties.result m) b e new) number c.file_under.ensures))

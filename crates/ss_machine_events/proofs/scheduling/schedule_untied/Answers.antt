@@ -1,6 +1,6 @@
 use Rattle.std.proofs.Common.{rules, ◌≡◌, ◌∙◌, ℤ, [], subst, to_z, of_z, w64}
 use Rattle.ss_world.specs.SortKey.{SortKey}
-use Rattle.ss_machine_events.specs.Scheduled.{DoesIf, scheduled_known}
+use Rattle.ss_machine_events.specs.Scheduled.{IsDoneIf, scheduled_known}
 use Rattle.ss_machine_events.proofs.Filing.{files_untied}
 use Rattle.ss_machine_events.proofs.scheduling.schedule_untied.Goals as goal
 
@@ -16,5 +16,5 @@ returns c =
     let rank : c.rank-rank.result ≡ k.ranked.rank = c.rank-rank.ensures k.ranked k.is in
     let key : c.with_ties.result ≡ record { time = time; rank = k.ranked.rank; ties = [] } = c.with_ties.ensures ∙ (λ i. record { time = same i; rank = rank i; ties = c.new.ensures.items i }) in
     files_untied e c.args.class n time k c.requires.known c.requires.untied new b
-    (subst (λ (key : SortKey). DoesIf (scheduled_known key n) b e new) key
-    (subst (λ (m : ℤ). DoesIf (scheduled_known c.with_ties.result m) b e new) number c.file_under.ensures))
+    (subst (λ (key : SortKey). IsDoneIf (scheduled_known key n) b e new) key
+    (subst (λ (m : ℤ). IsDoneIf (scheduled_known c.with_ties.result m) b e new) number c.file_under.ensures))

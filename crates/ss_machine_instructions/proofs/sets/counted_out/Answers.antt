@@ -3,13 +3,13 @@ use Rattle.std.specs.Prelude.{Result as OkOr}
 use Rattle.ss_base.specs.declared.fault.FaultKind.{FaultKind}
 use Rattle.ss_machine_world.specs.Numbers.{count_noted}
 use Rattle.ss_machine_world.specs.Seen.{number_if}
-use Rattle.ss_machine_instructions.specs.Worldly.{ChangesIf, CountedOut}
+use Rattle.ss_machine_instructions.specs.Worldly.{HasChangedIf, IsCountedOut}
 use Rattle.ss_machine_instructions.proofs.sets.counted_out.Goals as goal
 
 pub returns-in-Err : goal.returns-in-Err
 returns-in-Err c =
     let e = c.args.world.now in
-    subst (λ (q : OkOr ℤ FaultKind). CountedOut c.args.set c.args.owner q c.args.noted e e (Err c.in-Err.kind)) (sym c.in-Err.is) refl
+    subst (λ (q : OkOr ℤ FaultKind). IsCountedOut c.args.set c.args.owner q c.args.noted e e (Err c.in-Err.kind)) (sym c.in-Err.is) refl
 
 pub returns-in-Ok : goal.returns-in-Ok
 returns-in-Ok c =
@@ -18,5 +18,5 @@ returns-in-Ok c =
     let same_m : to_z w64 (of_z w64 m) ≡ m = search rules in
     let same_x : to_z w64 (of_z w64 x) ≡ x = search rules in
     let is : r ≡ number_if x q = subst (λ (z : ℤ). r ≡ number_if z q) same_x c.number_if.ensures in
-    subst (λ (t : OkOr ℤ FaultKind). CountedOut set m t c.args.noted e new r) (sym c.in-Ok.is)
-    (q, subst (λ (z : ℤ). ChangesIf c.args.noted (count_noted set z) e new q) same_m c.note_if.ensures, is)
+    subst (λ (t : OkOr ℤ FaultKind). IsCountedOut set m t c.args.noted e new r) (sym c.in-Ok.is)
+    (q, subst (λ (z : ℤ). HasChangedIf c.args.noted (count_noted set z) e new q) same_m c.note_if.ensures, is)

@@ -7,7 +7,7 @@ use Rattle.ss_world.specs.State.{State}
 use Rattle.ss_machine_world.specs.Seen.{Seen}
 use Rattle.ss_machine_world.proofs.Said.{said_still}
 use Rattle.ss_machine_world.proofs.Starting.{seen_of}
-use Rattle.ss_machine_instructions.specs.Worldly.{Counted, Files}
+use Rattle.ss_machine_instructions.specs.Worldly.{IsCounted, HasFiled}
 use Rattle.ss_machine_instructions.proofs.Filing.{rearranged, within_there, before_filed}
 use Rattle.ss_machine_instructions.proofs.sets.put_before.Goals as goal
 
@@ -34,5 +34,5 @@ returns c =
     let same_k : to_z w64 (of_z w64 k) ≡ k = search rules in
     let there = within_there e.heap.layout.sets set (subst (λ (v : Seen). set < length v.heap.layout.sets) (sym c.world.view_is) c.requires.set) in
     let re = rearranged (λ (h : State). filed_before h set m x k) e h q (simp (same_m, same_x, same_k) at c.file_before-changed.ensures.done) in
-    let note = subst (λ (z : ℤ). Counted set z q notes mid new r) same_m c.counted.ensures in
-    subst (λ (old : Seen). Files (JustBefore (Whole k)) set notes old new r m x) c.world.view_is (before_filed e set m mid new notes there x k q r re note)
+    let note = subst (λ (z : ℤ). IsCounted set z q notes mid new r) same_m c.counted.ensures in
+    subst (λ (old : Seen). HasFiled (JustBefore (Whole k)) set notes old new r m x) c.world.view_is (before_filed e set m mid new notes there x k q r re note)

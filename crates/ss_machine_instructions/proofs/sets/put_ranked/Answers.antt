@@ -1,16 +1,16 @@
 use Rattle.std.proofs.Common.{rules, ◌≡◌, ◌<◌, ℤ, length, sym, ◌∙◌, subst, to_z, of_z, w64}
 use Rattle.ss_base.specs.declared.layout.Discipline.{Discipline}
 use Rattle.ss_base.specs.declared.layout.Layout.{Layout}
-use Rattle.ss_world.specs.Disciplines.{FitsMembers, filed}
-use Rattle.ss_machine_world.specs.Seen.{Rearranges}
-use Rattle.ss_machine_instructions.specs.Worldly.{Counted}
+use Rattle.ss_world.specs.Disciplines.{HasMemberKeys, filed}
+use Rattle.ss_machine_world.specs.Seen.{HasRearranged}
+use Rattle.ss_machine_instructions.specs.Worldly.{IsCounted}
 use Rattle.ss_machine_instructions.proofs.Filing.{one, within_there, ruled_layout, ruled_filed}
 use Rattle.ss_machine_instructions.proofs.sets.put_ranked.Goals as goal
 
 pub file_ranked-changed-requires-clause-keys : goal.file_ranked-changed-requires-clause-keys
 file_ranked-changed-requires-clause-keys c = λ d has.
     let k = c.requires.ruled in
-    subst (λ (d : Discipline). FitsMembers c.args.world.now.heap.layout c.args.set d) (one (sym k.there ∙ has)) k.keys
+    subst (λ (d : Discipline). HasMemberKeys c.args.world.now.heap.layout c.args.set d) (one (sym k.there ∙ has)) k.keys
 
 pub counted-requires : goal.counted-requires
 counted-requires c =
@@ -26,7 +26,7 @@ returns c =
     let same_m : to_z w64 (of_z w64 m) ≡ m = search rules in
     let same_x : to_z w64 (of_z w64 x) ≡ x = search rules in
     let re =
-    subst (λ (y : ℤ). Rearranges (λ h. filed h k.discipline set y x) e mid q) same_m
-    (subst (λ (z : ℤ). Rearranges (λ h. filed h k.discipline set (to_z w64 (of_z w64 m)) z) e mid q) same_x (c.file_ranked-changed.ensures k.discipline k.there)) in
-    let note = subst (λ (z : ℤ). Counted set z q notes mid new r) same_m c.counted.ensures in
+    subst (λ (y : ℤ). HasRearranged (λ h. filed h k.discipline set y x) e mid q) same_m
+    (subst (λ (z : ℤ). HasRearranged (λ h. filed h k.discipline set (to_z w64 (of_z w64 m)) z) e mid q) same_x (c.file_ranked-changed.ensures k.discipline k.there)) in
+    let note = subst (λ (z : ℤ). IsCounted set z q notes mid new r) same_m c.counted.ensures in
     ruled_filed e set m mid new notes (within_there e.heap.layout.sets set c.requires.set) k.discipline x q r k.there k.fits re note

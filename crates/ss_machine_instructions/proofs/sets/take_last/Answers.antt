@@ -4,7 +4,7 @@ use Rattle.ss_base.specs.declared.words.End.TheVariants as ends
 use Rattle.ss_machine_world.specs.Seen.{Seen}
 use Rattle.ss_machine_world.proofs.Said.{said_still}
 use Rattle.ss_machine_world.proofs.Starting.{seen_of}
-use Rattle.ss_machine_instructions.specs.Worldly.{CountedOut, Takes}
+use Rattle.ss_machine_instructions.specs.Worldly.{IsCountedOut, HasTaken}
 use Rattle.ss_machine_instructions.proofs.Filing.{within_there, end_taken}
 use Rattle.ss_machine_instructions.proofs.sets.take_last.Goals as goal
 
@@ -28,6 +28,6 @@ returns c =
     let mid : Seen = seen_of i.disciplines.items i.notices.items h i.timeline in
     let same : to_z w64 (of_z w64 m) ≡ m = search rules in
     let there = within_there e.heap.layout.sets set (subst (λ (v : Seen). set < length v.heap.layout.sets) (sym c.world.view_is) c.requires.set) in
-    let note = subst (λ (z : ℤ). CountedOut set z q notes mid new r) same c.counted_out.ensures in
-    subst (λ (old : Seen). Takes ends.Last set notes old new r m) c.world.view_is
+    let note = subst (λ (z : ℤ). IsCountedOut set z q notes mid new r) same c.counted_out.ensures in
+    subst (λ (old : Seen). HasTaken ends.Last set notes old new r m) c.world.view_is
     (end_taken e set m mid new notes there ends.Last q r refl (simp same at c.remove_last-taken.ensures.done) note)

@@ -10,8 +10,8 @@ use Rattle.ss_code_instructions.specs.declared.instruction.Instruction.TheVarian
 use Rattle.ss_machine_instructions.specs.Ways.{begun_event_at}
 use Rattle.ss_machine_frames.proofs.Entering.{cleared_long}
 use Rattle.ss_machine_world.specs.Seen.{Seen}
-use Rattle.ss_machine_notices.specs.Beginning.{IsUnbegun, Receives}
-use Rattle.ss_machine_instructions.specs.Entered.{Enters, IsOutOfMemory}
+use Rattle.ss_machine_notices.specs.Beginning.{IsUnbegun, HasReceived}
+use Rattle.ss_machine_instructions.specs.Entered.{HasEntered, IsOutOfMemory}
 use Rattle.ss_machine_instructions.specs.declared.flow.Here.{Here}
 use Rattle.ss_machine_instructions.specs.declared.state.State.{State}
 use Rattle.ss_machine_instructions.proofs.Placing.{small}
@@ -101,26 +101,26 @@ returns-in_default c = λ w core all n.
 pub receive-requires-clause-rank : goal.receive-requires-clause-rank
 receive-requires-clause-rank c =
     let z = c.requires in
-    let enters : Enters c.args.here c.args.state.now c.enter.new.self c.index-events-rank.result c.args.cell c.in-Ok.frame = search rules in
+    let enters : HasEntered c.args.here c.args.state.now c.enter.new.self c.index-events-rank.result c.args.cell c.in-Ok.frame = search rules in
     let rank : c.rank-rank.result ≡ z.3.coming.ranked.rank = c.rank-rank.ensures z.3.coming.ranked z.3.place in
     omega (arith, rank, begun_rank z.0 z.1 c.args.here c.args.state.now c.args.cell c.args.notice c.args.class z.3, ap (λ (t : State). length t.world.notices) enters.is)
 
 pub receive-requires-clause-class : goal.receive-requires-clause-class
 receive-requires-clause-class c =
     let z = c.requires in
-    let enters : Enters c.args.here c.args.state.now c.enter.new.self c.index-events-rank.result c.args.cell c.in-Ok.frame = search rules in
+    let enters : HasEntered c.args.here c.args.state.now c.enter.new.self c.index-events-rank.result c.args.cell c.in-Ok.frame = search rules in
     omega (arith, begun_class z.0 z.1 c.args.here c.args.state.now c.args.cell c.args.notice c.args.class z.3, ap (λ (t : State). length t.world.heap.layout.classes) enters.is)
 
 pub receive-requires-clause-single : goal.receive-requires-clause-single
 receive-requires-clause-single c =
     let z = c.requires in
-    let enters : Enters c.args.here c.args.state.now c.enter.new.self c.index-events-rank.result c.args.cell c.in-Ok.frame = search rules in
+    let enters : HasEntered c.args.here c.args.state.now c.enter.new.self c.index-events-rank.result c.args.cell c.in-Ok.frame = search rules in
     ap (λ (t : State). is_single (slice_get t.world.heap.layout.classes c.args.class)) enters.is ∙ begun_single z.0 z.1 c.args.here c.args.state.now c.args.cell c.args.notice c.args.class z.3
 
 pub receive-requires-clause-saved : goal.receive-requires-clause-saved
 receive-requires-clause-saved c = λ said here.
     let z = c.requires in
-    let enters : Enters c.args.here c.args.state.now c.enter.new.self c.index-events-rank.result c.args.cell c.in-Ok.frame = search rules in
+    let enters : HasEntered c.args.here c.args.state.now c.enter.new.self c.index-events-rank.result c.args.cell c.in-Ok.frame = search rules in
     let rank : c.rank-rank.result ≡ z.3.coming.ranked.rank = c.rank-rank.ensures z.3.coming.ranked z.3.place in
     let it : z.3.coming.ranked.said ≡ said = one (sym (begun_said z.0 z.1 c.args.here c.args.state.now c.args.cell c.args.notice c.args.class z.3) ∙ ap (λ (t : State). slice_get t.world.notices z.3.coming.ranked.rank) (sym enters.is) ∙ ap (slice_get c.enter.new.self.world.notices) (sym rank) ∙ here) in
     let low = subst (λ (m : Notices). IfSome m.saved (λ k. k < c.args.here.frame)) it (begun_saved z.0 z.1 c.args.here c.args.state.now c.args.cell c.args.notice c.args.class z.3) in
@@ -129,7 +129,7 @@ receive-requires-clause-saved c = λ said here.
 pub receive-requires-clause-modes : goal.receive-requires-clause-modes
 receive-requires-clause-modes c = λ i m e.
     let z = c.requires in let es = c.args.events.now in let d = c.index-events-rank.result in let k = c.rank-rank.result in
-    let enters : Enters c.args.here c.args.state.now c.enter.new.self d c.args.cell c.in-Ok.frame = search rules in
+    let enters : HasEntered c.args.here c.args.state.now c.enter.new.self d c.args.cell c.in-Ok.frame = search rules in
     let rank : k ≡ z.3.coming.ranked.rank = c.rank-rank.ensures z.3.coming.ranked z.3.place in
     let within : k < length es = omega (arith, rank, begun_entry_within z.0 z.1 c.args.here c.args.state.now c.args.cell c.args.notice c.args.class z.3, ap length z.2) in
     let at : slice_get z.0.run.events z.3.coming.ranked.rank ≡ Some d = ap (slice_get z.0.run.events) (sym rank) ∙ ap (λ (l : List SectionEntry). slice_get l k) (sym z.2) ∙ slice_get_read es (length es) k d refl within c.index-events-rank.is in
@@ -139,7 +139,7 @@ receive-requires-clause-modes c = λ i m e.
 pub receive-requires-clause-places : goal.receive-requires-clause-places
 receive-requires-clause-places c =
     let z = c.requires in let es = c.args.events.now in let d = c.index-events-rank.result in let k = c.rank-rank.result in
-    let enters : Enters c.args.here c.args.state.now c.enter.new.self d c.args.cell c.in-Ok.frame = search rules in
+    let enters : HasEntered c.args.here c.args.state.now c.enter.new.self d c.args.cell c.in-Ok.frame = search rules in
     let rank : k ≡ z.3.coming.ranked.rank = c.rank-rank.ensures z.3.coming.ranked z.3.place in
     let within : k < length es = omega (arith, rank, begun_entry_within z.0 z.1 c.args.here c.args.state.now c.args.cell c.args.notice c.args.class z.3, ap length z.2) in
     let at : slice_get z.0.run.events z.3.coming.ranked.rank ≡ Some d = ap (slice_get z.0.run.events) (sym rank) ∙ ap (λ (l : List SectionEntry). slice_get l k) (sym z.2) ∙ slice_get_read es (length es) k d refl within c.index-events-rank.is in
@@ -149,7 +149,7 @@ receive-requires-clause-places c =
 pub fault_of_event-requires : goal.fault_of_event-requires
 fault_of_event-requires c =
     let z = c.requires in
-    let enters : Enters c.args.here c.args.state.now c.enter.new.self c.index-events-rank.result c.args.cell c.in-Ok.frame = search rules in
+    let enters : HasEntered c.args.here c.args.state.now c.enter.new.self c.index-events-rank.result c.args.cell c.in-Ok.frame = search rules in
     let rank : c.rank-rank.result ≡ z.3.coming.ranked.rank = c.rank-rank.ensures z.3.coming.ranked z.3.place in
     let here : slice_get c.enter.new.self.world.notices c.rank-rank.result ≡ Some z.3.coming.ranked.said = ap (slice_get c.enter.new.self.world.notices) rank ∙ ap (λ (t : State). slice_get t.world.notices z.3.coming.ranked.rank) enters.is ∙ begun_said z.0 z.1 c.args.here c.args.state.now c.args.cell c.args.notice c.args.class z.3 in
     let kept = receives_not z.3.coming.ranked.said c.args.class (to_z w64 (of_z w64 c.args.notice)) c.deref.result.now c.in-Ok.frame c.enter.new.self c.receive.new.state c.in-Err.kind (c.in-Err.ensures z.3.coming.ranked.said here) in
@@ -159,30 +159,30 @@ pub returns-in-Ok-receive : goal.returns-in-Ok-receive
 returns-in-Ok-receive c = λ w core all n.
     let s = c.args.state.now in let x = c.args.notice in let class = c.args.class in let s1 = c.enter.new.self in let frame = c.in-Ok.frame in
     let es = c.args.events.now in let d = c.index-events-rank.result in let k = c.rank-rank.result in
-    let enters : Enters c.args.here s s1 d c.args.cell frame = search rules in
+    let enters : HasEntered c.args.here s s1 d c.args.cell frame = search rules in
     let rank : k ≡ n.coming.ranked.rank = c.rank-rank.ensures n.coming.ranked n.place in
     let within : k < length es = omega (arith, rank, begun_entry_within w core c.args.here s c.args.cell c.args.notice c.args.class n, ap length all) in
     let at : slice_get w.run.events n.coming.ranked.rank ≡ Some d = ap (slice_get w.run.events) (sym rank) ∙ ap (λ (l : List SectionEntry). slice_get l k) (sym all) ∙ slice_get_read es (length es) k d refl within c.index-events-rank.is in
     let here : slice_get s1.world.notices k ≡ Some n.coming.ranked.said = ap (slice_get s1.world.notices) rank ∙ ap (λ (t : State). slice_get t.world.notices n.coming.ranked.rank) enters.is ∙ begun_said w core c.args.here s c.args.cell c.args.notice c.args.class n in
     let same : to_z w64 (of_z w64 x) ≡ x = search rules in
     let got =
-    subst (λ (ms : List Mode). Receives n.coming.ranked.said class x ms frame s1 c.receive.new.state (Ok tt)) c.deref.ensures.value
-    (subst (λ (y : ℤ). Receives n.coming.ranked.said class y c.deref.result.now frame s1 c.receive.new.state (Ok tt)) same (c.in-Ok-receive.ensures n.coming.ranked.said here)) in
+    subst (λ (ms : List Mode). HasReceived n.coming.ranked.said class x ms frame s1 c.receive.new.state (Ok tt)) c.deref.ensures.value
+    (subst (λ (y : ℤ). HasReceived n.coming.ranked.said class y c.deref.result.now frame s1 c.receive.new.state (Ok tt)) same (c.in-Ok-receive.ensures n.coming.ranked.said here)) in
     begins w core c.args.here s c.args.cell c.args.notice c.args.class n d at s1 frame enters c.receive.new.state got (begun_event_at c.args.here c.args.cell (Some d.place)) (ap (λ (f : ℕ). let h : Here = record { place = d.place; frame = f } in Some h) (sym enters.begin)) (omega (arith, enters.begin))
 
 pub returns-in-Err : goal.returns-in-Err
 returns-in-Err c = λ w core all n.
     let s = c.args.state.now in let x = c.args.notice in let class = c.args.class in let s1 = c.enter.new.self in let frame = c.in-Ok.frame in
     let es = c.args.events.now in let d = c.index-events-rank.result in let k = c.rank-rank.result in
-    let enters : Enters c.args.here s s1 d c.args.cell frame = search rules in
+    let enters : HasEntered c.args.here s s1 d c.args.cell frame = search rules in
     let rank : k ≡ n.coming.ranked.rank = c.rank-rank.ensures n.coming.ranked n.place in
     let within : k < length es = omega (arith, rank, begun_entry_within w core c.args.here s c.args.cell c.args.notice c.args.class n, ap length all) in
     let at : slice_get w.run.events n.coming.ranked.rank ≡ Some d = ap (slice_get w.run.events) (sym rank) ∙ ap (λ (l : List SectionEntry). slice_get l k) (sym all) ∙ slice_get_read es (length es) k d refl within c.index-events-rank.is in
     let here : slice_get s1.world.notices k ≡ Some n.coming.ranked.said = ap (slice_get s1.world.notices) rank ∙ ap (λ (t : State). slice_get t.world.notices n.coming.ranked.rank) enters.is ∙ begun_said w core c.args.here s c.args.cell c.args.notice c.args.class n in
     let same : to_z w64 (of_z w64 x) ≡ x = search rules in
     let got =
-    subst (λ (ms : List Mode). Receives n.coming.ranked.said class x ms frame s1 c.receive.new.state (Err c.in-Err.kind)) c.deref.ensures.value
-    (subst (λ (y : ℤ). Receives n.coming.ranked.said class y c.deref.result.now frame s1 c.receive.new.state (Err c.in-Err.kind)) same (c.in-Err.ensures n.coming.ranked.said here)) in
+    subst (λ (ms : List Mode). HasReceived n.coming.ranked.said class x ms frame s1 c.receive.new.state (Err c.in-Err.kind)) c.deref.ensures.value
+    (subst (λ (y : ℤ). HasReceived n.coming.ranked.said class y c.deref.result.now frame s1 c.receive.new.state (Err c.in-Err.kind)) same (c.in-Err.ensures n.coming.ranked.said here)) in
     let kept = receives_not n.coming.ranked.said class x d.given.items frame s1 c.receive.new.state c.in-Err.kind got in
     let still : slice_get c.receive.new.state.world.notices k ≡ Some n.coming.ranked.said = ap (λ (e : Seen). slice_get e.notices k) kept ∙ here in
     begins_fault w core c.args.here s c.args.cell c.args.notice c.args.class n d at s1 frame enters c.receive.new.state c.in-Err.kind got c.fault_of_event.new.state (begun_event_at c.args.here c.args.cell c.fault_of_event.result) (c.fault_of_event.ensures.state n.coming.ranked.said still) (ap (begun_event_at c.args.here c.args.cell) c.fault_of_event.ensures.none)
@@ -190,7 +190,7 @@ returns-in-Err c = λ w core all n.
 pub receive-requires-clause-small : goal.receive-requires-clause-small
 receive-requires-clause-small c =
     let z = c.requires in let es = c.args.events.now in let d = c.index-events-rank.result in let k = c.rank-rank.result in
-    let enters : Enters c.args.here c.args.state.now c.enter.new.self d c.args.cell c.in-Ok.frame = search rules in
+    let enters : HasEntered c.args.here c.args.state.now c.enter.new.self d c.args.cell c.in-Ok.frame = search rules in
     let rank : k ≡ z.3.coming.ranked.rank = c.rank-rank.ensures z.3.coming.ranked z.3.place in
     let within : k < length es = omega (arith, rank, begun_entry_within z.0 z.1 c.args.here c.args.state.now c.args.cell c.args.notice c.args.class z.3, ap length z.2) in
     let at : slice_get z.0.run.events z.3.coming.ranked.rank ≡ Some d = ap (slice_get z.0.run.events) (sym rank) ∙ ap (λ (l : List SectionEntry). slice_get l k) (sym z.2) ∙ slice_get_read es (length es) k d refl within c.index-events-rank.is in

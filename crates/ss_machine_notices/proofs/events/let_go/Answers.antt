@@ -5,8 +5,8 @@ use Rattle.ss_program.specs.declared.sections.Subject.TheVariants.{OfVariable}
 use Rattle.ss_meaning.specs.Entities.{gone}
 use Rattle.ss_meaning.specs.Histories.{noted}
 use Rattle.ss_machine_frames.specs.Rows.{TwoRows, with_number}
-use Rattle.ss_machine_world.specs.Seen.{Changes}
-use Rattle.ss_machine_notices.specs.Beginning.{LetsGo}
+use Rattle.ss_machine_world.specs.Seen.{HasChanged}
+use Rattle.ss_machine_notices.specs.Beginning.{HasLetGo}
 use Rattle.ss_machine_notices.proofs.Giving.{got_at}
 use Rattle.ss_machine_notices.proofs.events.let_go.Goals as goal
 
@@ -30,8 +30,8 @@ returns-in-None c = λ said here.
     let s = c.args.state.now in let n = c.args.notice in let class = c.args.class in
     let e = c.remove_entity.new.self in let r = c.remove_entity.result in
     let same : to_z w64 (of_z w64 n) ≡ n = search rules in
-    subst (λ o. LetsGo o class n s (record s { world = e }) r) (c.in-None.ensures said here)
-    (subst (λ (z : ℤ). Changes (gone class (Whole z)) s.world e r) same c.remove_entity.ensures, refl)
+    subst (λ o. HasLetGo o class n s (record s { world = e }) r) (c.in-None.ensures said here)
+    (subst (λ (z : ℤ). HasChanged (gone class (Whole z)) s.world e r) same c.remove_entity.ensures, refl)
 
 pub returns-in-Some : goal.returns-in-Some
 returns-in-Some c = λ said here.
@@ -39,7 +39,7 @@ returns-in-Some c = λ said here.
     let e = c.note_variable.new.self in let r = c.note_variable.result in
     let same : to_z w64 (of_z w64 n) ≡ n = search rules in
     let rows : c.set_number_at.new.self ≡ with_number s.rows k n = c.set_number_at.ensures ∙ ap (with_number s.rows k) same in
-    subst (λ o. LetsGo o class n s (record s { rows = c.set_number_at.new.self; world = e }) r) (c.in-Some.ensures said here) (
-      subst (λ (z : ℤ). Changes (noted (OfVariable k) (pos 0) (Whole z)) s.world e r) same c.note_variable.ensures,
+    subst (λ o. HasLetGo o class n s (record s { rows = c.set_number_at.new.self; world = e }) r) (c.in-Some.ensures said here) (
+      subst (λ (z : ℤ). HasChanged (noted (OfVariable k) (pos 0) (Whole z)) s.world e r) same c.note_variable.ensures,
       ap (λ (x : TwoRows). record s { rows = x; world = e }) rows,
     )

@@ -1,5 +1,5 @@
 use Rattle.std.proofs.Common.{rules, ◌≡◌, ℤ, Ok, Err, length, refl, subst, to_z, of_z, w64, arith}
-use Rattle.ss_machine_notices.specs.Beginning.{LetsGo}
+use Rattle.ss_machine_notices.specs.Beginning.{HasLetGo}
 use Rattle.ss_machine_notices.proofs.Beginning.{saved_within}
 use Rattle.ss_machine_notices.proofs.events.receive.Goals as goal
 
@@ -42,7 +42,7 @@ returns-in-Ok c = λ said here.
       rows = c.read_given.new.rows;
       read = Ok tt;
       read_is = c.in-Ok.ensures.received;
-      lets_go = subst (λ (z : ℤ). LetsGo said.saved c.args.what.class z mid c.let_go.new.state c.let_go.result) same (c.let_go.ensures said here);
+      lets_go = subst (λ (z : ℤ). HasLetGo said.saved c.args.what.class z mid c.let_go.new.state c.let_go.result) same (c.let_go.ensures said here);
     }
 
 pub read_given-requires-clause-small : goal.read_given-requires-clause-small

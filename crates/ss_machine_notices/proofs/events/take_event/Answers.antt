@@ -8,8 +8,8 @@ use Rattle.ss_machine_events.specs.Events.{IsNextNotice}
 use Rattle.ss_machine_world.specs.Seen.{Seen}
 use Rattle.ss_machine_instructions.specs.declared.flow.Here.{Here}
 use Rattle.ss_machine_instructions.specs.declared.state.State.{State}
-use Rattle.ss_machine_instructions.specs.Doing.{OneTick}
-use Rattle.ss_machine_notices.specs.Beginning.{ComesNext}
+use Rattle.ss_machine_instructions.specs.Doing.{HasOneTick}
+use Rattle.ss_machine_notices.specs.Beginning.{IsNextEvent}
 use Rattle.ss_machine_instructions.proofs.Leading.{led_stopped, begun_is}
 use Rattle.ss_machine_instructions.proofs.Ticking.{pauses, ticks}
 use Rattle.ss_machine_notices.proofs.Beginning.{goes_past, lives_as, next_taken}
@@ -58,8 +58,8 @@ begin_event-place-requires c =
       z.0,
       z.1,
       z.2,
-      subst (λ (y : ℤ). ComesNext z.0 z.1 c.args.here (record c.has_taken_tick.new.self { world = e }) c.args.cell y class) (sym same)
-          (subst (λ (t : State). ComesNext z.0 z.1 c.args.here t c.args.cell x class) (sym taken) n),
+      subst (λ (y : ℤ). IsNextEvent z.0 z.1 c.args.here (record c.has_taken_tick.new.self { world = e }) c.args.cell y class) (sym same)
+          (subst (λ (t : State). IsNextEvent z.0 z.1 c.args.here t c.args.cell x class) (sym taken) n),
     )
 
 pub cell-requires : goal.cell-requires
@@ -76,7 +76,7 @@ returns-in-Some-class_of c = λ w core all r.
     let lives = subst (λ (y : ℤ). living e.heap y ≡ Some class) same (sym c.in-Some-class_of.ensures) in
     let taken : record c.has_taken_tick.new.self { world = e } ≡ record s { ticks = took.0; world = e } = ap (λ (t : State). record t { world = e }) took.2 in
     let begun =
-    subst (λ (t : State). (n : ComesNext w core c.args.here t c.args.cell x class) → OneTick t.ticks w n.ready.placed.line (act w.code n.ready.placed.line n.ready.placed.instruction core) n.before new result) taken
-    (subst (λ (y : ℤ). (n : ComesNext w core c.args.here (record c.has_taken_tick.new.self { world = e }) c.args.cell y class) → OneTick c.has_taken_tick.new.self.ticks w n.ready.placed.line (act w.code n.ready.placed.line n.ready.placed.instruction core) n.before new result) same (c.begin_event-place.ensures w core all)) in
+    subst (λ (t : State). (n : IsNextEvent w core c.args.here t c.args.cell x class) → HasOneTick t.ticks w n.ready.placed.line (act w.code n.ready.placed.line n.ready.placed.instruction core) n.before new result) taken
+    (subst (λ (y : ℤ). (n : IsNextEvent w core c.args.here (record c.has_taken_tick.new.self { world = e }) c.args.cell y class) → HasOneTick c.has_taken_tick.new.self.ticks w n.ready.placed.line (act w.code n.ready.placed.line n.ready.placed.instruction core) n.before new result) same (c.begin_event-place.ensures w core all)) in
     let way : led c.begun.result ≡ result = c.begun.ensures ∙ ap (led_to c.begin_event-place.result) c.cell.ensures ∙ begun_is c.args.here c.args.cell c.begin_event-place.result in
-    ticks w core c.args.here s (Runs c.args.cell) r took.0 new (led c.begun.result) (ap is_due r.runs.carries.2) took.1 (subst (λ (o : Option Here). OneTick took.0 w r.placed.line (act w.code r.placed.line r.placed.instruction core) s new o) (sym way) (begun (next_taken w core c.args.here s c.args.cell r took.0 e x class took.1 (c.has_taken_tick.ensures.few some) comes lives)))
+    ticks w core c.args.here s (Runs c.args.cell) r took.0 new (led c.begun.result) (ap is_due r.runs.carries.2) took.1 (subst (λ (o : Option Here). HasOneTick took.0 w r.placed.line (act w.code r.placed.line r.placed.instruction core) s new o) (sym way) (begun (next_taken w core c.args.here s c.args.cell r took.0 e x class took.1 (c.has_taken_tick.ensures.few some) comes lives)))

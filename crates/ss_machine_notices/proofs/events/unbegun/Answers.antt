@@ -1,7 +1,7 @@
 use Rattle.std.proofs.Common.{rules, ◌≡◌, ◌<◌, ℤ, Ok, Err, length, ap, sym, ◌∙◌, subst, to_z, of_z, w64, arith}
 use Rattle.std.specs.Prelude.{slice_get}
 use Rattle.ss_machine_world.specs.Seen.{Seen}
-use Rattle.ss_machine_notices.specs.Beginning.{LetsGo}
+use Rattle.ss_machine_notices.specs.Beginning.{HasLetGo}
 use Rattle.ss_machine_notices.proofs.Giving.{got_at}
 use Rattle.ss_machine_notices.proofs.Beginning.{lets_go_ticks, lets_go_not}
 use Rattle.ss_machine_notices.proofs.events.unbegun.Goals as goal
@@ -39,7 +39,7 @@ returns-in-Ok-clause-state c = λ said here.
     record {
       mid = c.let_go.new.state;
       answer = Ok tt;
-      lets_go = subst (λ (z : ℤ). LetsGo said.saved c.args.class z c.args.state.now c.let_go.new.state (Ok tt)) same (c.in-Ok.ensures said here);
+      lets_go = subst (λ (z : ℤ). HasLetGo said.saved c.args.class z c.args.state.now c.let_go.new.state (Ok tt)) same (c.in-Ok.ensures said here);
       is = c.give_tick_back.ensures.state;
     }
 
@@ -51,6 +51,6 @@ returns-in-Err-clause-state c = λ said here.
     record {
       mid = c.let_go.new.state;
       answer = Err c.in-Err.kind;
-      lets_go = subst (λ (z : ℤ). LetsGo said.saved c.args.class z s c.let_go.new.state (Err c.in-Err.kind)) same (c.in-Err.ensures said here);
+      lets_go = subst (λ (z : ℤ). HasLetGo said.saved c.args.class z s c.let_go.new.state (Err c.in-Err.kind)) same (c.in-Err.ensures said here);
       is = c.fault_of_event.ensures.state said (ap (λ (e : Seen). slice_get e.notices c.args.rank) world ∙ here);
     }

@@ -3,7 +3,7 @@ use Rattle.ss_base.specs.declared.value.Value.TheVariants.{Whole}
 use Rattle.ss_meaning.specs.Events.{unscheduled}
 use Rattle.ss_code_instructions.specs.declared.instruction.Instruction.TheVariants.{Cancel as Runs}
 use Rattle.ss_machine_instructions.specs.Ways.{on_after}
-use Rattle.ss_machine_world.specs.Seen.{Changes}
+use Rattle.ss_machine_world.specs.Seen.{HasChanged}
 use Rattle.ss_machine_notices.proofs.Times.{cancels_in, cancels}
 use Rattle.ss_machine_notices.proofs.scheduling.cancel.Goals as goal
 
@@ -18,5 +18,5 @@ returns c = λ w core r.
     let s = c.args.state.now in let n = c.number-notice.result in
     let e = c.cancel-answer.new.self in let q = c.cancel-answer.result in
     let same : to_z w64 (of_z w64 n) ≡ n = search rules in
-    let gone = subst (λ (x : ℤ). Changes (unscheduled c.args.class (Whole x)) s.world e q) same c.cancel-answer.ensures in
+    let gone = subst (λ (x : ℤ). HasChanged (unscheduled c.args.class (Whole x)) s.world e q) same c.cancel-answer.ensures in
     cancels w core c.args.here s (Runs c.args.class c.args.notice.now) r c.args.class c.args.notice.now n e q c.done.new.self (on_after c.args.here c.done.result) r.runs.carries c.number-notice.ensures gone c.done.ensures.state (ap (on_after c.args.here) c.done.ensures.way)

@@ -3,7 +3,7 @@ use Rattle.ss_base.specs.declared.value.Value.TheVariants.{Whole}
 use Rattle.ss_meaning.specs.Events.{filed_notice}
 use Rattle.ss_code_instructions.specs.declared.instruction.Instruction.TheVariants.{FileNotice as Runs}
 use Rattle.ss_machine_instructions.specs.Ways.{on_after}
-use Rattle.ss_machine_world.specs.Seen.{ChangesWithMemory}
+use Rattle.ss_machine_world.specs.Seen.{HasChangedWithMemory}
 use Rattle.ss_machine_notices.proofs.Times.{file_notice_in, file_notices}
 use Rattle.ss_machine_notices.proofs.scheduling.file_notice.Goals as goal
 
@@ -24,6 +24,6 @@ returns c = λ w core r.
     let same_n : to_z w64 (of_z w64 n) ≡ n = search rules in
     let same_t : to_z w64 (of_z w64 t) ≡ t = search rules in
     let filed =
-    subst (λ (x : ℤ). ChangesWithMemory (filed_notice class (Whole x) t) s.world e q) same_n
-    (subst (λ (y : ℤ). ChangesWithMemory (filed_notice class (Whole (to_z w64 (of_z w64 n))) y) s.world e q) same_t c.schedule-answer.ensures) in
+    subst (λ (x : ℤ). HasChangedWithMemory (filed_notice class (Whole x) t) s.world e q) same_n
+    (subst (λ (y : ℤ). HasChangedWithMemory (filed_notice class (Whole (to_z w64 (of_z w64 n))) y) s.world e q) same_t c.schedule-answer.ensures) in
     file_notices w core c.args.here s (Runs c.args.class c.args.notice.now c.args.time.now) r class c.args.notice.now c.args.time.now n t e q c.settled.new.state (on_after c.args.here c.settled.result) r.runs.carries c.number-notice.ensures c.number-time.ensures filed c.settled.ensures.state (ap (on_after c.args.here) c.settled.ensures.way)

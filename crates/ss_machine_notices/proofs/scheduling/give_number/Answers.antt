@@ -5,8 +5,8 @@ use Rattle.ss_base.specs.declared.layout.Mode.TheVariants.{Integer}
 use Rattle.ss_base.specs.declared.value.Value.TheVariants.{Whole}
 use Rattle.ss_world.specs.State.{modes_of}
 use Rattle.ss_machine_world.specs.Numbers.{attribute_noted}
-use Rattle.ss_machine_instructions.specs.Worldly.{ChangesIf}
-use Rattle.ss_machine_notices.specs.Giving.{SetsField, IsReadBack}
+use Rattle.ss_machine_instructions.specs.Worldly.{HasChangedIf}
+use Rattle.ss_machine_notices.specs.Giving.{HasSetField, IsReadBack}
 use Rattle.ss_machine_notices.proofs.Giving.{suits_class, suits_mode, set_not, set_noted}
 use Rattle.ss_machine_notices.proofs.scheduling.give_number.Goals as goal
 
@@ -34,7 +34,7 @@ returns-in-Err c = λ g.
     let class = c.args.what.class in let field = c.args.field in let n = c.args.what.notice in let x = c.args.number in let e = c.args.world.now in
     let same_n : to_z w64 (of_z w64 n) ≡ n = search rules in
     let same_x : to_z w64 (of_z w64 x) ≡ x = search rules in
-    let is = subst (λ (m : ℤ). SetsField class field m (Whole x) e c.set_number.new.world (Err c.in-Err.kind)) same_n (subst (λ (z : ℤ). SetsField class field (to_z w64 (of_z w64 n)) (Whole z) e c.set_number.new.world (Err c.in-Err.kind)) same_x c.in-Err.ensures.set) in
+    let is = subst (λ (m : ℤ). HasSetField class field m (Whole x) e c.set_number.new.world (Err c.in-Err.kind)) same_n (subst (λ (z : ℤ). HasSetField class field (to_z w64 (of_z w64 n)) (Whole z) e c.set_number.new.world (Err c.in-Err.kind)) same_x c.in-Err.ensures.set) in
     set_not class field n (Whole x) c.args.what.noted e g c.set_number.new.world c.in-Err.kind is
 
 pub returns-in-Ok : goal.returns-in-Ok
@@ -43,7 +43,7 @@ returns-in-Ok c = λ g.
     let mid = c.set_number.new.world in let notes = c.args.what.noted in
     let same_n : to_z w64 (of_z w64 n) ≡ n = search rules in
     let same_x : to_z w64 (of_z w64 x) ≡ x = search rules in
-    let is = subst (λ (m : ℤ). SetsField class field m (Whole x) e mid (Ok tt)) same_n (subst (λ (z : ℤ). SetsField class field (to_z w64 (of_z w64 n)) (Whole z) e mid (Ok tt)) same_x c.in-Ok.ensures.set) in
+    let is = subst (λ (m : ℤ). HasSetField class field m (Whole x) e mid (Ok tt)) same_n (subst (λ (z : ℤ). HasSetField class field (to_z w64 (of_z w64 n)) (Whole z) e mid (Ok tt)) same_x c.in-Ok.ensures.set) in
     let reads = subst (λ (m : ℤ). IsReadBack class field m (Whole x) mid (Ok tt)) same_n (subst (λ (z : ℤ). IsReadBack class field (to_z w64 (of_z w64 n)) (Whole z) mid (Ok tt)) same_x c.in-Ok.ensures.read) in
-    let did = subst (λ (m : ℤ). ChangesIf notes (attribute_noted class field m) mid c.note_if.new.world c.note_if.result) same_n c.note_if.ensures in
+    let did = subst (λ (m : ℤ). HasChangedIf notes (attribute_noted class field m) mid c.note_if.new.world c.note_if.result) same_n c.note_if.ensures in
     set_noted class field n (Whole x) notes e g mid c.note_if.new.world c.note_if.result is reads did

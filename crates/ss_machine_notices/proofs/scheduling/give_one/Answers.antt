@@ -4,7 +4,7 @@ use Rattle.ss_base.specs.declared.value.Value.{Value}
 use Rattle.ss_base.specs.declared.value.Value.TheVariants.{Whole, Text}
 use Rattle.ss_meaning.specs.Places.{assigned_attribute}
 use Rattle.ss_machine_frames.proofs.Places.{number_is, text_is}
-use Rattle.ss_machine_notices.specs.Giving.{SettledIn, Suiting}
+use Rattle.ss_machine_notices.specs.Giving.{IsSettledIn, IsSuitable}
 use Rattle.ss_machine_instructions.proofs.Filing.{one}
 use Rattle.ss_machine_notices.proofs.Giving.{suiting_as, suits_class, suits_field, suits_mode}
 use Rattle.ss_machine_notices.proofs.scheduling.give_one.Goals as goal
@@ -27,7 +27,7 @@ give_number-requires c =
     let g = c.requires in let x = c.number_at.result in
     let same : to_z w64 (of_z w64 x) ≡ x = search rules in
     let mode : g.suits.mode ≡ Integer = one (sym (suits_mode class field c.args.what.notice g.value notes e g.suits) ∙ c.mode_at.ensures) ∙ c.in-Integer.is in
-    subst (λ (z : ℤ). Suiting class field notes (Whole z) e) (sym same) (suiting_as class field notes g.value (Whole x) e g.suits (sym mode))
+    subst (λ (z : ℤ). IsSuitable class field notes (Whole z) e) (sym same) (suiting_as class field notes g.value (Whole x) e g.suits (sym mode))
 
 pub returns-in-Integer : goal.returns-in-Integer
 returns-in-Integer c = λ g.
@@ -36,9 +36,9 @@ returns-in-Integer c = λ g.
     let same : to_z w64 (of_z w64 x) ≡ x = search rules in
     let mode : g.suits.mode ≡ Integer = one (sym (suits_mode class field n g.value notes e g.suits) ∙ c.mode_at.ensures) ∙ c.in-Integer.is in
     let value : g.value ≡ Whole x = number_is c.args.rows.now (c.args.what.from + field) g.value x (g.suits.right ∙ mode) g.lies c.number_at.ensures in
-    let gave : (h : Suiting class field notes (Whole x) e) → SettledIn h.store (assigned_attribute class field (Whole n) (Whole x)) e new q =
-    subst (λ (z : ℤ). (h : Suiting class field notes (Whole z) e) → SettledIn h.store (assigned_attribute class field (Whole n) (Whole z)) e new q) same c.give_number.ensures in
-    subst (λ (v : Value). SettledIn g.suits.store (assigned_attribute class field (Whole n) v) e new q) (sym value) (gave (suiting_as class field notes g.value (Whole x) e g.suits (sym mode)))
+    let gave : (h : IsSuitable class field notes (Whole x) e) → IsSettledIn h.store (assigned_attribute class field (Whole n) (Whole x)) e new q =
+    subst (λ (z : ℤ). (h : IsSuitable class field notes (Whole z) e) → IsSettledIn h.store (assigned_attribute class field (Whole n) (Whole z)) e new q) same c.give_number.ensures in
+    subst (λ (v : Value). IsSettledIn g.suits.store (assigned_attribute class field (Whole n) v) e new q) (sym value) (gave (suiting_as class field notes g.value (Whole x) e g.suits (sym mode)))
 
 pub give_text-requires : goal.give_text-requires
 give_text-requires c =
@@ -53,7 +53,7 @@ returns-in-Alpha c = λ g.
     let n = c.args.what.notice in let x = c.text_at.result in let new = c.give_text.new.world in let q = c.give_text.result in
     let mode : g.suits.mode ≡ Alpha = one (sym (suits_mode class field n g.value notes e g.suits) ∙ c.mode_at.ensures) ∙ c.in-Alpha.is in
     let value : g.value ≡ Text x = text_is c.args.rows.now (c.args.what.from + field) g.value x (g.suits.right ∙ mode) g.lies c.text_at.ensures in
-    subst (λ (v : Value). SettledIn g.suits.store (assigned_attribute class field (Whole n) v) e new q) (sym value) (c.give_text.ensures (suiting_as class field notes g.value (Text x) e g.suits (sym mode)))
+    subst (λ (v : Value). IsSettledIn g.suits.store (assigned_attribute class field (Whole n) v) e new q) (sym value) (c.give_text.ensures (suiting_as class field notes g.value (Text x) e g.suits (sym mode)))
 
 pub overflow_add-at : goal.overflow_add-at
 overflow_add-at c = omega (arith, c.requires.small)

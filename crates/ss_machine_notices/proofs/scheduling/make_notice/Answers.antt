@@ -4,8 +4,8 @@ use Rattle.ss_code_instructions.specs.declared.instruction.Instruction.TheVarian
 use Rattle.ss_code_instructions.specs.Machine.{act}
 use Rattle.ss_machine_instructions.specs.Ways.{on_after}
 use Rattle.ss_machine_frames.specs.Rows.{TwoRows, with_number}
-use Rattle.ss_machine_instructions.specs.Doing.{Delivers}
-use Rattle.ss_machine_notices.specs.Giving.{MadeIn, HasGivenValues}
+use Rattle.ss_machine_instructions.specs.Doing.{IsDelivering}
+use Rattle.ss_machine_notices.specs.Giving.{IsNoticeMade, HasGivenValues}
 use Rattle.ss_machine_notices.proofs.Notices.{makes_in, make_gives, make_core, make_delivers, makes, makes_not}
 use Rattle.ss_machine_instructions.proofs.Placing.{frame_small}
 use Rattle.ss_machine_notices.proofs.scheduling.make_notice.Goals as goal
@@ -43,15 +43,15 @@ put-requires c =
     let cell : c.cell-from.result ≡ i = c.cell-from.ensures in
     let same : to_z w64 (of_z w64 t) ≡ t = search rules in
     let at : slice_get s.rows.numbers (i + given) ≡ Some t = subst (λ j. slice_get s.rows.numbers (j + given) ≡ Some t) cell c.number_at-time.ensures in
-    let all = subst (λ j. (g : HasGivenValues class notes j given s.rows s.world) → MadeIn g.store class g.values (to_z w64 (of_z w64 t)) s.world e (Ok n)) cell c.in-Ok.ensures in
+    let all = subst (λ j. (g : HasGivenValues class notes j given s.rows s.world) → IsNoticeMade g.store class g.values (to_z w64 (of_z w64 t)) s.world e (Ok n)) cell c.in-Ok.ensures in
     let g = make_gives z.0 z.1 c.args.here c.args.state.now (Runs c.args.values.class c.args.values.cell c.args.values.count c.args.to.now c.args.values.noted) z.2 c.args.values.class c.args.values.cell c.args.values.count c.args.to.now notes z.2.runs.carries.1 z.2.runs.carries.0 in
-    let made = subst (λ (y : ℤ). MadeIn z.1.store class g.values y s.world e (Ok n)) same (all g) in
+    let made = subst (λ (y : ℤ). IsNoticeMade z.1.store class g.values y s.world e (Ok n)) same (all g) in
     let rows : c.set_number_at.new.self ≡ with_number s.rows i t = c.set_number_at.ensures ∙ ap (λ j. with_number s.rows j (to_z w64 (of_z w64 t))) cell ∙ ap (with_number s.rows i) same in
     let d = make_delivers z.0 z.1 c.args.here c.args.state.now (Runs c.args.values.class c.args.values.cell c.args.values.count c.args.to.now c.args.values.noted) z.2 c.args.values.class c.args.values.cell c.args.values.count c.args.to.now notes z.2.runs.carries.0 z.2.runs.carries.1 t n e at made in
     let k = make_core z.0 z.1 c.args.here c.args.state.now (Runs c.args.values.class c.args.values.cell c.args.values.count c.args.to.now c.args.values.noted) z.2 c.args.values.class c.args.values.cell c.args.values.count c.args.to.now z.2.runs.carries.1 t in
     let same_n : to_z w64 (of_z w64 n) ≡ n = search rules in
-    let d' = subst (λ (x : TwoRows). Delivers z.0 k l m c.args.here (record s { world = e; rows = x }) c.args.to.now (as_value (Ok n))) (sym rows) d in
-    (z.0, k, l, m, subst (λ (y : ℤ). Delivers z.0 k l m c.args.here (record s { world = e; rows = c.set_number_at.new.self }) c.args.to.now (as_value (Ok y))) (sym same_n) d')
+    let d' = subst (λ (x : TwoRows). IsDelivering z.0 k l m c.args.here (record s { world = e; rows = x }) c.args.to.now (as_value (Ok n))) (sym rows) d in
+    (z.0, k, l, m, subst (λ (y : ℤ). IsDelivering z.0 k l m c.args.here (record s { world = e; rows = c.set_number_at.new.self }) c.args.to.now (as_value (Ok y))) (sym same_n) d')
 
 pub returns-in-Ok : goal.returns-in-Ok
 returns-in-Ok c = λ w core r.
@@ -62,15 +62,15 @@ returns-in-Ok c = λ w core r.
     let cell : c.cell-from.result ≡ i = c.cell-from.ensures in
     let same : to_z w64 (of_z w64 t) ≡ t = search rules in
     let at : slice_get s.rows.numbers (i + given) ≡ Some t = subst (λ j. slice_get s.rows.numbers (j + given) ≡ Some t) cell c.number_at-time.ensures in
-    let all = subst (λ j. (g : HasGivenValues class notes j given s.rows s.world) → MadeIn g.store class g.values (to_z w64 (of_z w64 t)) s.world e (Ok n)) cell c.in-Ok.ensures in
+    let all = subst (λ j. (g : HasGivenValues class notes j given s.rows s.world) → IsNoticeMade g.store class g.values (to_z w64 (of_z w64 t)) s.world e (Ok n)) cell c.in-Ok.ensures in
     let g = make_gives w core c.args.here s (Runs c.args.values.class c.args.values.cell c.args.values.count c.args.to.now c.args.values.noted) r c.args.values.class c.args.values.cell c.args.values.count c.args.to.now notes r.runs.carries.1 r.runs.carries.0 in
-    let made = subst (λ (y : ℤ). MadeIn core.store class g.values y s.world e (Ok n)) same (all g) in
+    let made = subst (λ (y : ℤ). IsNoticeMade core.store class g.values y s.world e (Ok n)) same (all g) in
     let rows : c.set_number_at.new.self ≡ with_number s.rows i t = c.set_number_at.ensures ∙ ap (λ j. with_number s.rows j (to_z w64 (of_z w64 t))) cell ∙ ap (with_number s.rows i) same in
     let d = make_delivers w core c.args.here s (Runs c.args.values.class c.args.values.cell c.args.values.count c.args.to.now c.args.values.noted) r c.args.values.class c.args.values.cell c.args.values.count c.args.to.now notes r.runs.carries.0 r.runs.carries.1 t n e at made in
     let k = make_core w core c.args.here s (Runs c.args.values.class c.args.values.cell c.args.values.count c.args.to.now c.args.values.noted) r c.args.values.class c.args.values.cell c.args.values.count c.args.to.now r.runs.carries.1 t in
-    let d' = subst (λ (x : TwoRows). Delivers w k l m c.args.here (record s { world = e; rows = x }) c.args.to.now (as_value (Ok n))) (sym rows) d in
+    let d' = subst (λ (x : TwoRows). IsDelivering w k l m c.args.here (record s { world = e; rows = x }) c.args.to.now (as_value (Ok n))) (sym rows) d in
     let same_n : to_z w64 (of_z w64 n) ≡ n = search rules in
-    let d'' = subst (λ (y : ℤ). Delivers w k l m c.args.here (record s { world = e; rows = c.set_number_at.new.self }) c.args.to.now (as_value (Ok y))) (sym same_n) d' in
+    let d'' = subst (λ (y : ℤ). IsDelivering w k l m c.args.here (record s { world = e; rows = c.set_number_at.new.self }) c.args.to.now (as_value (Ok y))) (sym same_n) d' in
     makes w core c.args.here s (Runs c.args.values.class c.args.values.cell c.args.values.count c.args.to.now c.args.values.noted) r c.args.values.class c.args.values.cell c.args.values.count c.args.to.now r.runs.carries.1 e c.set_number_at.new.self c.put.new.self (on_after c.args.here c.put.result) (c.put.ensures w k l m d'')
 
 pub returns-in-Err : goal.returns-in-Err
@@ -81,7 +81,7 @@ returns-in-Err c = λ w core r.
     let cell : c.cell-from.result ≡ i = c.cell-from.ensures in
     let same : to_z w64 (of_z w64 t) ≡ t = search rules in
     let at : slice_get s.rows.numbers (i + given) ≡ Some t = subst (λ j. slice_get s.rows.numbers (j + given) ≡ Some t) cell c.number_at-time.ensures in
-    let all = subst (λ j. (g : HasGivenValues class notes j given s.rows s.world) → MadeIn g.store class g.values (to_z w64 (of_z w64 t)) s.world e (Err c.in-Err.refused)) cell c.in-Err.ensures in
+    let all = subst (λ j. (g : HasGivenValues class notes j given s.rows s.world) → IsNoticeMade g.store class g.values (to_z w64 (of_z w64 t)) s.world e (Err c.in-Err.refused)) cell c.in-Err.ensures in
     let g = make_gives w core c.args.here s (Runs c.args.values.class c.args.values.cell c.args.values.count c.args.to.now c.args.values.noted) r c.args.values.class c.args.values.cell c.args.values.count c.args.to.now notes r.runs.carries.1 r.runs.carries.0 in
-    let made = subst (λ (y : ℤ). MadeIn core.store class g.values y s.world e (Err c.in-Err.refused)) same (all g) in
+    let made = subst (λ (y : ℤ). IsNoticeMade core.store class g.values y s.world e (Err c.in-Err.refused)) same (all g) in
     makes_not w core c.args.here s (Runs c.args.values.class c.args.values.cell c.args.values.count c.args.to.now c.args.values.noted) r c.args.values.class c.args.values.cell c.args.values.count c.args.to.now notes r.runs.carries.0 r.runs.carries.1 t e c.in-Err.refused c.refused.new.self (on_after c.args.here c.refused.result) at made c.refused.ensures.state (ap (on_after c.args.here) c.refused.ensures.none)

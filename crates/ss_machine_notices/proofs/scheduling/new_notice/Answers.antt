@@ -3,7 +3,7 @@ use Rattle.std.specs.Prelude.{Result as OkOr}
 use Rattle.ss_base.specs.declared.fault.Refused.{Refused}
 use Rattle.ss_base.specs.declared.value.Value.TheVariants.{Whole}
 use Rattle.ss_meaning.specs.Events.{prepared}
-use Rattle.ss_machine_notices.specs.Giving.{SettledIn, MadeIn, number_or}
+use Rattle.ss_machine_notices.specs.Giving.{IsSettledIn, IsNoticeMade, number_or}
 use Rattle.ss_machine_notices.proofs.Giving.{create_class, create_single, gives_after, made, not_made}
 use Rattle.ss_machine_notices.proofs.scheduling.new_notice.Goals as goal
 
@@ -26,7 +26,7 @@ returns-in-Ok c = λ g.
     let same_n : to_z w64 (of_z w64 n) ≡ n = search rules in
     let same_t : to_z w64 (of_z w64 t) ≡ t = search rules in
     let is : r ≡ number_or n q = subst (λ (x : ℤ). r ≡ number_or x q) same_n c.number_or.ensures in
-    let did : SettledIn g.store (prepared c.args.what.class (Whole n) g.values t) mid new q =
-    subst (λ (y : ℤ). SettledIn g.store (prepared c.args.what.class (Whole n) g.values y) mid new q) same_t
-    (subst (λ (x : ℤ). SettledIn g.store (prepared c.args.what.class (Whole x) g.values (to_z w64 (of_z w64 t))) mid new q) same_n (c.prepare.ensures (gives_after c.args.what.class c.args.what.noted c.args.what.from c.args.given c.args.rows.now c.args.world.now g t n mid (c.in-Ok.ensures g.store)))) in
-    subst (λ (r : OkOr ℤ Refused). MadeIn g.store c.args.what.class g.values t e new r) (sym is) (made c.args.what.class c.args.what.noted c.args.what.from c.args.given c.args.rows.now c.args.world.now g t n mid new q (c.in-Ok.ensures g.store) did)
+    let did : IsSettledIn g.store (prepared c.args.what.class (Whole n) g.values t) mid new q =
+    subst (λ (y : ℤ). IsSettledIn g.store (prepared c.args.what.class (Whole n) g.values y) mid new q) same_t
+    (subst (λ (x : ℤ). IsSettledIn g.store (prepared c.args.what.class (Whole x) g.values (to_z w64 (of_z w64 t))) mid new q) same_n (c.prepare.ensures (gives_after c.args.what.class c.args.what.noted c.args.what.from c.args.given c.args.rows.now c.args.world.now g t n mid (c.in-Ok.ensures g.store)))) in
+    subst (λ (r : OkOr ℤ Refused). IsNoticeMade g.store c.args.what.class g.values t e new r) (sym is) (made c.args.what.class c.args.what.noted c.args.what.from c.args.given c.args.rows.now c.args.world.now g t n mid new q (c.in-Ok.ensures g.store) did)

@@ -1,7 +1,7 @@
 use Rattle.std.proofs.Common.{rules, ◌≡◌, ℤ, Bool, Ok, refl, sym, subst, to_z, of_z, w64}
 use Rattle.ss_machine_world.specs.Numbers.{attribute_noted}
-use Rattle.ss_machine_world.specs.Seen.{Changes}
-use Rattle.ss_machine_instructions.specs.Worldly.{ChangesIf}
+use Rattle.ss_machine_world.specs.Seen.{HasChanged}
+use Rattle.ss_machine_instructions.specs.Worldly.{HasChangedIf}
 use Rattle.ss_machine_notices.proofs.scheduling.note_if.Goals as goal
 
 pub returns-then-noted : goal.returns-then-noted
@@ -9,10 +9,10 @@ returns-then-noted c =
     let class = c.args.class in let field = c.args.field in let n = c.args.notice in let e = c.args.world.now in
     let new = c.note_attribute.new.self in let r = c.note_attribute.result in
     let same : to_z w64 (of_z w64 n) ≡ n = search rules in
-    subst (λ (b : Bool). ChangesIf b (attribute_noted class field n) e new r) (sym c.if-noted.true)
-    (subst (λ (z : ℤ). Changes (attribute_noted class field z) e new r) same c.note_attribute.ensures)
+    subst (λ (b : Bool). HasChangedIf b (attribute_noted class field n) e new r) (sym c.if-noted.true)
+    (subst (λ (z : ℤ). HasChanged (attribute_noted class field z) e new r) same c.note_attribute.ensures)
 
 pub returns-else-noted : goal.returns-else-noted
 returns-else-noted c =
     let e = c.args.world.now in
-    subst (λ (b : Bool). ChangesIf b (attribute_noted c.args.class c.args.field c.args.notice) e e (Ok tt)) (sym c.if-noted.false) (refl, refl)
+    subst (λ (b : Bool). HasChangedIf b (attribute_noted c.args.class c.args.field c.args.notice) e e (Ok tt)) (sym c.if-noted.false) (refl, refl)

@@ -1,6 +1,6 @@
 use Rattle.std.proofs.Common.{rules, ◌≡◌, ℤ, subst, to_z, of_z, w64}
 use Rattle.ss_world.specs.State.{timed}
-use Rattle.ss_machine_world.specs.Seen.{Rearranges}
+use Rattle.ss_machine_world.specs.Seen.{HasRearranged}
 use Rattle.ss_machine_notices.proofs.Giving.{not_endowed, time_set}
 use Rattle.ss_machine_notices.proofs.scheduling.prepare.Goals as goal
 
@@ -14,6 +14,6 @@ returns-in-Ok c = λ g.
     let same_n : to_z w64 (of_z w64 n) ≡ n = search rules in
     let same_t : to_z w64 (of_z w64 t) ≡ t = search rules in
     let re =
-    subst (λ (x : ℤ). Rearranges (λ h. timed h x t) mid new q) same_n
-    (subst (λ (y : ℤ). Rearranges (λ h. timed h (to_z w64 (of_z w64 n)) y) mid new q) same_t c.set_time.ensures) in
+    subst (λ (x : ℤ). HasRearranged (λ h. timed h x t) mid new q) same_n
+    (subst (λ (y : ℤ). HasRearranged (λ h. timed h (to_z w64 (of_z w64 n)) y) mid new q) same_t c.set_time.ensures) in
     time_set c.args.what.class c.args.what.notice c.args.what.noted c.args.what.from c.args.given c.args.rows.now c.args.world.now g t mid new q (c.in-Ok.ensures g) re

@@ -2,8 +2,8 @@ use Rattle.std.proofs.Common.{rules, ◌≡◌, ℤ, Ok, Err, subst, to_z, of_z,
 use Rattle.ss_base.specs.declared.value.Value.TheVariants.{Whole}
 use Rattle.ss_meaning.specs.Values.{Fails}
 use Rattle.ss_meaning.specs.Events.{prepared, filed_notice}
-use Rattle.ss_machine_world.specs.Seen.{ChangesWithMemory, with_seen}
-use Rattle.ss_machine_notices.specs.Giving.{SettledIn}
+use Rattle.ss_machine_world.specs.Seen.{HasChangedWithMemory, with_seen}
+use Rattle.ss_machine_notices.specs.Giving.{IsSettledIn}
 use Rattle.ss_machine_notices.proofs.Giving.{not_prepared, noticed_then, filed_then}
 use Rattle.ss_machine_notices.proofs.scheduling.prepare_and_file.Goals as goal
 
@@ -24,8 +24,8 @@ returns-in-Ok c = λ g.
     let mid = c.prepare.new.world in let new = c.schedule.new.world in let q = c.schedule.result in
     let same_n : to_z w64 (of_z w64 n) ≡ n = search rules in
     let same_t : to_z w64 (of_z w64 t) ≡ t = search rules in
-    let prepared_it = subst (λ (y : ℤ). SettledIn g.store (prepared class (Whole n) g.values y) c.args.world.now mid (Ok tt)) same_t (c.in-Ok.ensures g) in
+    let prepared_it = subst (λ (y : ℤ). IsSettledIn g.store (prepared class (Whole n) g.values y) c.args.world.now mid (Ok tt)) same_t (c.in-Ok.ensures g) in
     let filed =
-    subst (λ (x : ℤ). ChangesWithMemory (filed_notice class (Whole x) t) mid new q) same_n
-    (subst (λ (y : ℤ). ChangesWithMemory (filed_notice class (Whole (to_z w64 (of_z w64 n))) y) mid new q) same_t c.schedule.ensures) in
+    subst (λ (x : ℤ). HasChangedWithMemory (filed_notice class (Whole x) t) mid new q) same_n
+    (subst (λ (y : ℤ). HasChangedWithMemory (filed_notice class (Whole (to_z w64 (of_z w64 n))) y) mid new q) same_t c.schedule.ensures) in
     filed_then c.args.what.class c.args.what.notice c.args.what.noted c.args.what.from c.args.given c.args.rows.now c.args.world.now g t mid new q prepared_it filed

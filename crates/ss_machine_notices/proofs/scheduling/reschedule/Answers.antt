@@ -4,7 +4,7 @@ use Rattle.ss_base.specs.declared.value.Value.TheVariants.{Whole}
 use Rattle.ss_meaning.specs.Events.{rescheduled}
 use Rattle.ss_code_instructions.specs.declared.instruction.Instruction.TheVariants.{Reschedule as Runs}
 use Rattle.ss_machine_instructions.specs.Ways.{on_after}
-use Rattle.ss_machine_notices.specs.Giving.{SettledInWithMemory, HasGivenValues}
+use Rattle.ss_machine_notices.specs.Giving.{IsSettledWithMemory, HasGivenValues}
 use Rattle.ss_machine_notices.proofs.Notices.{again_in, again_gives, reschedules}
 use Rattle.ss_machine_instructions.proofs.Placing.{frame_small}
 use Rattle.ss_machine_notices.proofs.scheduling.reschedule.Goals as goal
@@ -37,8 +37,8 @@ returns c = λ w core r.
     let same : to_z w64 (of_z w64 t) ≡ t = search rules in
     let same_n : to_z w64 (of_z w64 n) ≡ n = search rules in
     let at : slice_get s.rows.numbers (i + given) ≡ Some t = subst (λ j. slice_get s.rows.numbers (j + given) ≡ Some t) cell c.number_at-time.ensures in
-    let all = subst (λ j. (g : HasGivenValues class notes j given s.rows s.world) → SettledInWithMemory g.store (rescheduled class (Whole n) g.values (to_z w64 (of_z w64 t))) s.world e q) cell
-    (subst (λ (x : ℤ). (g : HasGivenValues class notes c.cell-from.result given s.rows s.world) → SettledInWithMemory g.store (rescheduled class (Whole x) g.values (to_z w64 (of_z w64 t))) s.world e q) same_n c.schedule_again-answer.ensures) in
+    let all = subst (λ j. (g : HasGivenValues class notes j given s.rows s.world) → IsSettledWithMemory g.store (rescheduled class (Whole n) g.values (to_z w64 (of_z w64 t))) s.world e q) cell
+    (subst (λ (x : ℤ). (g : HasGivenValues class notes c.cell-from.result given s.rows s.world) → IsSettledWithMemory g.store (rescheduled class (Whole x) g.values (to_z w64 (of_z w64 t))) s.world e q) same_n c.schedule_again-answer.ensures) in
     let g = again_gives w core c.args.here s (Runs c.args.values.class c.args.notice.now c.args.values.cell c.args.values.count c.args.values.noted) r c.args.values.class c.args.notice.now c.args.values.cell c.args.values.count notes r.runs.carries.1 r.runs.carries.0 in
-    let did = subst (λ (y : ℤ). SettledInWithMemory core.store (rescheduled class (Whole n) g.values y) s.world e q) same (all g) in
+    let did = subst (λ (y : ℤ). IsSettledWithMemory core.store (rescheduled class (Whole n) g.values y) s.world e q) same (all g) in
     reschedules w core c.args.here s (Runs c.args.values.class c.args.notice.now c.args.values.cell c.args.values.count c.args.values.noted) r c.args.values.class c.args.notice.now c.args.values.cell c.args.values.count notes r.runs.carries.0 r.runs.carries.1 n t e q c.settled.new.state (on_after c.args.here c.settled.result) c.number-notice.ensures at did c.settled.ensures.state (ap (on_after c.args.here) c.settled.ensures.way)

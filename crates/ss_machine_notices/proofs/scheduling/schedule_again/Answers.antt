@@ -1,6 +1,6 @@
 use Rattle.std.proofs.Common.{rules, ◌≡◌, ℤ, Ok, Err, subst, to_z, of_z, w64}
 use Rattle.ss_base.specs.declared.value.Value.TheVariants.{Whole}
-use Rattle.ss_machine_notices.specs.Giving.{SettledInWithMemory, refiled, unpended}
+use Rattle.ss_machine_notices.specs.Giving.{IsSettledWithMemory, refiled, unpended}
 use Rattle.ss_machine_notices.proofs.Giving.{create_class, again_not, again}
 use Rattle.ss_machine_notices.proofs.scheduling.schedule_again.Goals as goal
 
@@ -19,5 +19,5 @@ returns-in-Ok c = λ g.
     let new = c.prepare_and_file.new.world in let q = c.prepare_and_file.result in
     let same_n : to_z w64 (of_z w64 n) ≡ n = search rules in
     let same_t : to_z w64 (of_z w64 t) ≡ t = search rules in
-    let filed = subst (λ (y : ℤ). SettledInWithMemory g.store (refiled class (Whole n) g.values y) c.args.world.now new q) same_t (c.prepare_and_file.ensures g) in
+    let filed = subst (λ (y : ℤ). IsSettledWithMemory g.store (refiled class (Whole n) g.values y) c.args.world.now new q) same_t (c.prepare_and_file.ensures g) in
     again c.args.what.class c.args.what.notice c.args.what.noted c.args.what.from c.args.given c.args.rows.now c.args.world.now g t new q (subst (λ (x : ℤ). Ok tt ≡ unpended class x c.args.world.now) same_n c.in-Ok.ensures) filed

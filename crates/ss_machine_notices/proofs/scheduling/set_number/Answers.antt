@@ -3,7 +3,7 @@ use Rattle.ss_base.specs.declared.value.Value.TheVariants.{Whole}
 use Rattle.ss_machine_world.specs.Seen.{Seen}
 use Rattle.ss_machine_world.proofs.Said.{said_still}
 use Rattle.ss_machine_world.proofs.Starting.{seen_of}
-use Rattle.ss_machine_notices.specs.Giving.{SetsField}
+use Rattle.ss_machine_notices.specs.Giving.{HasSetField}
 use Rattle.ss_machine_notices.proofs.Giving.{number_set, number_read}
 use Rattle.ss_machine_notices.proofs.scheduling.set_number.Goals as goal
 
@@ -20,7 +20,7 @@ returns-clause-set c =
     let e : Seen = seen_of i.disciplines.items i.notices.items i.population i.timeline in
     let same_n : to_z w64 (of_z w64 n) ≡ n = search rules in
     let same_x : to_z w64 (of_z w64 x) ≡ x = search rules in
-    subst (λ (old : Seen). SetsField c.args.class c.args.field n (Whole x) old (record e { heap = h }) r) c.world.view_is
+    subst (λ (old : Seen). HasSetField c.args.class c.args.field n (Whole x) old (record e { heap = h }) r) c.world.view_is
     (number_set e c.args.class c.args.field n x h r (simp (same_n, same_x) at c.set_whole.ensures.done) c.set_whole.ensures.layout)
 
 pub returns-clause-read : goal.returns-clause-read

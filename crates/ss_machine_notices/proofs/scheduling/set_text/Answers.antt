@@ -3,7 +3,7 @@ use Rattle.ss_base.specs.declared.value.Value.TheVariants.{Text}
 use Rattle.ss_machine_world.specs.Seen.{Seen}
 use Rattle.ss_machine_world.proofs.Said.{said_still}
 use Rattle.ss_machine_world.proofs.Starting.{seen_of}
-use Rattle.ss_machine_notices.specs.Giving.{SetsField}
+use Rattle.ss_machine_notices.specs.Giving.{HasSetField}
 use Rattle.ss_machine_notices.proofs.Giving.{value_set}
 use Rattle.ss_machine_notices.proofs.scheduling.set_text.Goals as goal
 
@@ -19,5 +19,5 @@ returns c =
     let i = c.world.inside in let h = c.set_text.new.self in let r = c.set_text.result in
     let e : Seen = seen_of i.disciplines.items i.notices.items i.population i.timeline in
     let same : to_z w64 (of_z w64 n) ≡ n = search rules in
-    subst (λ (old : Seen). SetsField c.args.class c.args.field n (Text c.args.text) old (record e { heap = h }) r) c.world.view_is
+    subst (λ (old : Seen). HasSetField c.args.class c.args.field n (Text c.args.text) old (record e { heap = h }) r) c.world.view_is
     (value_set e c.args.class c.args.field n (Text c.args.text) h r (simp same at c.set_text.ensures.done) c.set_text.ensures.layout)

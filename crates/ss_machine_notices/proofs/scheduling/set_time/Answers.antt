@@ -1,6 +1,6 @@
 use Rattle.std.proofs.Common.{rules, ◌≡◌, refl, subst, to_z, of_z, w64}
 use Rattle.ss_world.specs.State.{State, timed}
-use Rattle.ss_machine_world.specs.Seen.{Seen, Rearranges}
+use Rattle.ss_machine_world.specs.Seen.{Seen, HasRearranged}
 use Rattle.ss_machine_world.proofs.Said.{said_still}
 use Rattle.ss_machine_world.proofs.Starting.{seen_of}
 use Rattle.ss_machine_instructions.proofs.Filing.{rearranged}
@@ -19,5 +19,5 @@ returns c =
     let e : Seen = seen_of i.disciplines.items i.notices.items i.population i.timeline in
     let same_n : to_z w64 (of_z w64 n) ≡ n = search rules in
     let same_t : to_z w64 (of_z w64 t) ≡ t = search rules in
-    subst (λ (old : Seen). Rearranges (λ h. timed h n t) old (record e { heap = h }) r) c.world.view_is
+    subst (λ (old : Seen). HasRearranged (λ h. timed h n t) old (record e { heap = h }) r) c.world.view_is
     (rearranged (λ (h : State). timed h n t) e h r (simp (same_n, same_t) at c.set_time_a.ensures.done))

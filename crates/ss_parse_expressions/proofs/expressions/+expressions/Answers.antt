@@ -3,7 +3,7 @@ use Rattle.ss_tree.specs.Tree.{ExpressionTree}
 use Rattle.ss_tree.specs.Views.{view_named_made}
 use Rattle.std.proofs.lemmas.Result.{err_from_is_err_and}
 use Rattle.ss_tree.specs.View.{view_expression_tree, view_term}
-use Rattle.ss_parse_expressions.specs.Reading.{FailsReading}
+use Rattle.ss_parse_expressions.specs.Reading.{HasFailedReading}
 use Rattle.ss_parse_expressions.specs.ReadExpressions.{factor_with, sum_in}
 use Rattle.ss_parse_expressions.proofs.Rows.{grows, breaks, is_done}
 use Rattle.ss_parse_expressions.proofs.Sums.{further_factors_loop, further_terms_loop, sums_loop}
@@ -21,7 +21,7 @@ further_factors-returns t c = is_done view_expression_tree (further_factors_loop
 pub further_factors-returns-in_err-next : goal.further_factors-returns-in_err-next
 further_factors-returns-in_err-next t c =
     let p = err_from_is_err_and c.from_residual.result c.from_residual.ensures.1 in
-    rw (p.1, p.2) (breaks view_expression_tree (further_factors_loop c.args.room) _ _ _ _ (sym c.begins_symbol.ensures ∙ c.more-test.true) (subst (λ r. FailsReading c.in_err-next.field-0.0 (factor_with (sum_in c.args.room) r)) c.skip_symbol.ensures c.in_err-next.ensures) c.more.invariant)
+    rw (p.1, p.2) (breaks view_expression_tree (further_factors_loop c.args.room) _ _ _ _ (sym c.begins_symbol.ensures ∙ c.more-test.true) (subst (λ r. HasFailedReading c.in_err-next.field-0.0 (factor_with (sum_in c.args.room) r)) c.skip_symbol.ensures c.in_err-next.ensures) c.more.invariant)
 
 pub further_terms-more-preserved : goal.further_terms-more-preserved
 further_terms-more-preserved t c = grows view_term (further_terms_loop c.args.room) _ _ c.in_ok-next.next _ _ _ c.in_ok-push.ensures.items (sym c.begins_sign.ensures ∙ c.more-test.true) c.in_ok-next.ensures c.more.invariant
@@ -49,7 +49,7 @@ sums-returns t c = is_done view_expression_tree (sums_loop c.args.room) _ _ _ (s
 pub sums-returns-in_err-next : goal.sums-returns-in_err-next
 sums-returns-in_err-next t c =
     let p = err_from_is_err_and c.from_residual-in_err-next.result c.from_residual-in_err-next.ensures.1 in
-    rw (p.1, p.2) (breaks view_expression_tree (sums_loop c.args.room) _ _ _ _ (sym c.begins_more_sums.ensures ∙ c.more-test.true) (subst (λ r. FailsReading c.in_err-next.field-0.0 (sum_in c.args.room r)) c.skip_separator.ensures c.in_err-next.ensures) c.more.invariant)
+    rw (p.1, p.2) (breaks view_expression_tree (sums_loop c.args.room) _ _ _ _ (sym c.begins_more_sums.ensures ∙ c.more-test.true) (subst (λ r. HasFailedReading c.in_err-next.field-0.0 (sum_in c.args.room r)) c.skip_separator.ensures c.in_err-next.ensures) c.more.invariant)
 
 pub named-returns : goal.named-returns
 named-returns t c = rw c.in_ok-subscripts.ensures (ap (λ (e : ExpressionTree). Ok (e, c.in_ok-subscripts.rest.now)) (sym (view_named_made _)))

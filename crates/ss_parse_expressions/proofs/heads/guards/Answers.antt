@@ -3,7 +3,7 @@ use Rattle.std.proofs.lemmas.Result.{err_from_is_err_and}
 use Rattle.ss_tree.specs.View.{view_guard_tree}
 use Rattle.ss_parse_expressions.specs.ReadHeads.{guard_in}
 use Rattle.ss_parse_expressions.proofs.HeadLaws.{guards_loop}
-use Rattle.ss_parse_expressions.specs.Reading.{FailsReading}
+use Rattle.ss_parse_expressions.specs.Reading.{HasFailedReading}
 use Rattle.ss_parse_expressions.proofs.Rows.{grows, breaks, is_done}
 use Rattle.ss_parse_expressions.proofs.heads.guards.Goals as goal
 
@@ -19,4 +19,4 @@ returns c = is_done view_guard_tree (guards_loop c.args.room) _ _ _ (sym c.begin
 pub returns-in_err-next : goal.returns-in_err-next
 returns-in_err-next c =
     let p = err_from_is_err_and c.from_residual-in_err-next.result c.from_residual-in_err-next.ensures.1 in
-    rw (p.1, p.2) (breaks view_guard_tree (guards_loop c.args.room) _ _ _ _ (sym c.begins_next_guard.ensures ∙ c.more-test.true) (subst (λ r. FailsReading c.in_err-next.field-0.0 (guard_in c.args.room r)) c.skip_symbol.ensures c.in_err-next.ensures) c.more.invariant)
+    rw (p.1, p.2) (breaks view_guard_tree (guards_loop c.args.room) _ _ _ _ (sym c.begins_next_guard.ensures ∙ c.more-test.true) (subst (λ r. HasFailedReading c.in_err-next.field-0.0 (guard_in c.args.room r)) c.skip_symbol.ensures c.in_err-next.ensures) c.more.invariant)

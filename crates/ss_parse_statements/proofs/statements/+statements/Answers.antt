@@ -1,7 +1,7 @@
 use Rattle.std.proofs.Common.{sym, ap, subst, ◌∙◌}
 use Rattle.std.proofs.lemmas.Result.{err_from_is_err_and}
 use Rattle.ss_tree.specs.View.{view_statement_tree}
-use Rattle.ss_parse_expressions.specs.Reading.{FailsReading}
+use Rattle.ss_parse_expressions.specs.Reading.{HasFailedReading}
 use Rattle.ss_parse_expressions.proofs.Rows.{grows, breaks, is_done}
 use Rattle.ss_parse_statements.specs.ReadStatements.{statement_in}
 use Rattle.ss_parse_statements.proofs.Levels.{statements_loop}
@@ -19,4 +19,4 @@ statements-returns t c = is_done view_statement_tree (statements_loop c.args.roo
 pub statements-returns-in_err-next : goal.statements-returns-in_err-next
 statements-returns-in_err-next t c =
     let p = err_from_is_err_and c.from_residual.result c.from_residual.ensures.1 in
-    rw (p.1, p.2) (breaks view_statement_tree (statements_loop c.args.room) _ _ _ _ (sym c.begins_statement.ensures ∙ c.more-test.true) (subst (λ r. FailsReading c.in_err-next.field-0.0 (statement_in c.args.room r)) c.skip_symbol.ensures c.in_err-next.ensures) c.more.invariant)
+    rw (p.1, p.2) (breaks view_statement_tree (statements_loop c.args.room) _ _ _ _ (sym c.begins_statement.ensures ∙ c.more-test.true) (subst (λ r. HasFailedReading c.in_err-next.field-0.0 (statement_in c.args.room r)) c.skip_symbol.ensures c.in_err-next.ensures) c.more.invariant)

@@ -3,12 +3,12 @@ use Rattle.std.specs.Prelude.{IfOk, OnOk}
 use Rattle.ss_records.specs.declared.commands.Command.TheVariants.{CreateAll}
 use Rattle.ss_world.specs.State.{destroyed, assigned, timed}
 use Rattle.ss_world.specs.Sets.{filed_first, filed_last, filed_before, filed_after, removed}
-use Rattle.ss_records.specs.Commands.{FitsCommand, command_answer, after_command}
+use Rattle.ss_records.specs.Commands.{IsFittingCommand, command_answer, after_command}
 use Rattle.ss_records.proofs.Outcomes.{outcome_is, is_left}
 use Rattle.ss_records.proofs.commands.make.Goals as goal
 
 pub make_one-requires : goal.make_one-requires
-make_one-requires c = subst (FitsCommand c.args.heap.now.state.layout) c.in-Create.is c.requires
+make_one-requires c = subst (IsFittingCommand c.args.heap.now.state.layout) c.in-Create.is c.requires
 
 pub returns-in-Create : goal.returns-in-Create
 returns-in-Create c =
@@ -20,7 +20,7 @@ returns-in-Create c =
     }
 
 pub make_all-requires : goal.make_all-requires
-make_all-requires c = subst (FitsCommand c.args.heap.now.state.layout) c.in-CreateAll.is c.requires
+make_all-requires c = subst (IsFittingCommand c.args.heap.now.state.layout) c.in-CreateAll.is c.requires
 
 pub returns-in-CreateAll : goal.returns-in-CreateAll
 returns-in-CreateAll c =
@@ -33,7 +33,7 @@ returns-in-CreateAll c =
     }
 
 pub destroy-requires : goal.destroy-requires
-destroy-requires c = let h = subst (FitsCommand c.args.heap.now.state.layout) c.in-Destroy.is c.requires in record { class = h.0; kind = h.1 }
+destroy-requires c = let h = subst (IsFittingCommand c.args.heap.now.state.layout) c.in-Destroy.is c.requires in record { class = h.0; kind = h.1 }
 
 pub returns-in-Destroy : goal.returns-in-Destroy
 returns-in-Destroy c =
@@ -47,7 +47,7 @@ returns-in-Destroy c =
     }
 
 pub set_value-requires : goal.set_value-requires
-set_value-requires c = let h = subst (FitsCommand c.args.heap.now.state.layout) c.in-SetValue.is c.requires in record { class = h.0; mode = h.1 }
+set_value-requires c = let h = subst (IsFittingCommand c.args.heap.now.state.layout) c.in-SetValue.is c.requires in record { class = h.0; mode = h.1 }
 
 pub returns-in-SetValue : goal.returns-in-SetValue
 returns-in-SetValue c =
@@ -72,7 +72,7 @@ returns-in-SetTime c =
     }
 
 pub file_first-requires : goal.file_first-requires
-file_first-requires c = record { set = subst (FitsCommand c.args.heap.now.state.layout) c.in-FileFirst.is c.requires }
+file_first-requires c = record { set = subst (IsFittingCommand c.args.heap.now.state.layout) c.in-FileFirst.is c.requires }
 
 pub returns-in-FileFirst : goal.returns-in-FileFirst
 returns-in-FileFirst c =
@@ -86,7 +86,7 @@ returns-in-FileFirst c =
     }
 
 pub file_last-requires : goal.file_last-requires
-file_last-requires c = record { set = subst (FitsCommand c.args.heap.now.state.layout) c.in-FileLast.is c.requires }
+file_last-requires c = record { set = subst (IsFittingCommand c.args.heap.now.state.layout) c.in-FileLast.is c.requires }
 
 pub returns-in-FileLast : goal.returns-in-FileLast
 returns-in-FileLast c =
@@ -100,7 +100,7 @@ returns-in-FileLast c =
     }
 
 pub file_before-requires : goal.file_before-requires
-file_before-requires c = record { set = subst (FitsCommand c.args.heap.now.state.layout) c.in-FileBefore.is c.requires }
+file_before-requires c = record { set = subst (IsFittingCommand c.args.heap.now.state.layout) c.in-FileBefore.is c.requires }
 
 pub returns-in-FileBefore : goal.returns-in-FileBefore
 returns-in-FileBefore c =
@@ -114,7 +114,7 @@ returns-in-FileBefore c =
     }
 
 pub file_after-requires : goal.file_after-requires
-file_after-requires c = record { set = subst (FitsCommand c.args.heap.now.state.layout) c.in-FileAfter.is c.requires }
+file_after-requires c = record { set = subst (IsFittingCommand c.args.heap.now.state.layout) c.in-FileAfter.is c.requires }
 
 pub returns-in-FileAfter : goal.returns-in-FileAfter
 returns-in-FileAfter c =
@@ -128,7 +128,7 @@ returns-in-FileAfter c =
     }
 
 pub remove-requires : goal.remove-requires
-remove-requires c = record { set = subst (FitsCommand c.args.heap.now.state.layout) c.in-Remove.is c.requires }
+remove-requires c = record { set = subst (IsFittingCommand c.args.heap.now.state.layout) c.in-Remove.is c.requires }
 
 pub returns-in-Remove : goal.returns-in-Remove
 returns-in-Remove c =

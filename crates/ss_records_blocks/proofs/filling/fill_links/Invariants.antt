@@ -1,6 +1,6 @@
 use Rattle.std.proofs.Common.{◌≡◌, ◌+◌, ◌*◌}
-use Rattle.ss_records_blocks.specs.Writes.{Filled, links_to}
+use Rattle.ss_records_blocks.specs.Writes.{IsFilled, links_to}
 use Rattle.ss_records_blocks.proofs.filling.fill_links.Given as goal
 
 abbrev pub invariant-loop-i : goal.invariant-loop-i
-invariant-loop-i l = record { filled : Filled l.fn.blocks.cells l.blocks.cells l.place.at l.from (l.from + 3 * l.i) (links_to l.target.at); touches : (l.blocks.touches ≡ l.fn.blocks.touches) × (l.blocks.total ≡ l.fn.blocks.total + 3 * l.i) }
+invariant-loop-i l = record { filled : IsFilled l.fn.blocks.cells l.blocks.cells l.place.at l.from (l.from + 3 * l.i) (links_to l.target.at); touches : (l.blocks.touches ≡ l.fn.blocks.touches) × (l.blocks.total ≡ l.fn.blocks.total + 3 * l.i) }

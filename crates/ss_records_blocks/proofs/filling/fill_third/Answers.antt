@@ -1,5 +1,5 @@
 use Rattle.std.proofs.Common.{◌+◌, refl, subst}
-use Rattle.ss_records_blocks.specs.Writes.{Filled, zeros}
+use Rattle.ss_records_blocks.specs.Writes.{IsFilled, zeros}
 use Rattle.ss_records_blocks.proofs.Fills.{filled_first, first_room, first_blank}
 use Rattle.ss_records_blocks.proofs.filling.fill_third.Goals as goal
 
@@ -12,4 +12,4 @@ fill_fourth-requires-clause-blank c = rw c.set_number.ensures.cells (first_blank
 pub returns-then-from-to-clause-filled : goal.returns-then-from-to-clause-filled
 returns-then-from-to-clause-filled c =
     filled_first c.args.blocks.now.cells c.args.place.at c.args.from c.args.to _ c.fill_fourth.new.blocks.cells zeros refl c.if-from-to.true c.requires.room
-    (subst (λ bs. Filled bs c.fill_fourth.new.blocks.cells c.args.place.at (c.args.from + 1) c.args.to zeros) c.set_number.ensures.cells c.fill_fourth.ensures.filled)
+    (subst (λ bs. IsFilled bs c.fill_fourth.new.blocks.cells c.args.place.at (c.args.from + 1) c.args.to zeros) c.set_number.ensures.cells c.fill_fourth.ensures.filled)

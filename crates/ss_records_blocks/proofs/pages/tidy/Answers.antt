@@ -1,7 +1,7 @@
 use Rattle.std.proofs.Common.{◌≡◌, ℕ, ◌+◌, ◌<◌, length, slice_get, Option, Some, sym, ap, subst, ◌∙◌, rules, arith}
 use Rattle.std.proofs.lemmas.List.Elements.{filter_from_retain}
 use Rattle.std.specs.List.{filter}
-use Rattle.ss_records_blocks.specs.Pages.{Page, Spots, Rises, pages_held}
+use Rattle.ss_records_blocks.specs.Pages.{Page, Spots, AreRising, pages_held}
 use Rattle.ss_records_blocks.proofs.Holding.{has_page, held_cut, all_held, rises_cut, all_below}
 use Rattle.ss_records_blocks.proofs.pages.tidy.Goals as goal
 
@@ -12,7 +12,7 @@ left c = c.shrink.ensures ∙ filter_from_retain _ has_page (λ f s kept g calle
 pub returns : goal.returns
 returns c =
     record {
-      rises = subst Rises (sym (left c)) (rises_cut c.args.spots.now.items c.requires.rises);
+      rises = subst AreRising (sym (left c)) (rises_cut c.args.spots.now.items c.requires.rises);
       count = subst (λ (ss : Spots). 0 + length (pages_held ss) ≡ length ss) (sym (left c)) (omega (arith, all_held c.args.spots.now.items));
       pages_held = ap pages_held (left c) ∙ held_cut c.args.spots.now.items;
       above = subst (λ (ss : Spots). (k q : ℕ) (o : Option Page) → slice_get ss k ≡ Some (q, o) → q < c.args.number) (sym (left c)) (all_below c.args.spots.now.items c.requires.rises c.args.number c.requires.above);

@@ -1,7 +1,7 @@
 use Rattle.std.proofs.Common.{◌≡◌, ◌+◌, [], ◌∷◌, length, slice_get, Some, refl, sym, ap, subst, ◌∙◌, arith, length-append}
 use denote.RawPtr.{Ptr}
 use Rattle.ss_records_blocks.specs.Cells.{words_at}
-use Rattle.ss_records_blocks.specs.Writes.{NoneAt}
+use Rattle.ss_records_blocks.specs.Writes.{HasNoneAt}
 use Rattle.ss_records_blocks.proofs.Puts.{length-blanks}
 use Rattle.ss_records_blocks.proofs.Placings.{placed_none, placed_more, unchanged_by}
 use Rattle.ss_records_blocks.proofs.placing.place_all.Goals as goal
@@ -25,7 +25,7 @@ give_places_back-requires-clause-apart c = λ i j p q g h.
 pub returns-in-Err-clause-placed : goal.returns-in-Err-clause-placed
 returns-in-Err-clause-placed c =
     let same = c.deref.ensures.value ∙ c.in-Err.ensures.placed.1 in let cells = c.in-Err.ensures.placed.0 in let es = c.give_places_back.new.blocks.cells in
-    let others : (q : Ptr) → NoneAt c.loop-n.places.items q → words_at es q ≡ words_at c.loop-n.blocks.cells q = λ q n. c.give_places_back.ensures.others q (subst (λ ps. NoneAt ps q) (sym same) n) ∙ ap (λ bs. words_at bs q) cells in
+    let others : (q : Ptr) → HasNoneAt c.loop-n.places.items q → words_at es q ≡ words_at c.loop-n.blocks.cells q = λ q n. c.give_places_back.ensures.others q (subst (λ ps. HasNoneAt ps q) (sym same) n) ∙ ap (λ bs. words_at bs q) cells in
     let many : length c.deref.result.now ≡ length c.loop-n.places.items = ap length same in
     let count : length es + length c.loop-n.places.items ≡ length c.loop-n.blocks.cells = omega (arith, c.give_places_back.ensures.count, many, ap length cells) in
     unchanged_by c.args.blocks.now.cells c.loop-n.blocks.cells es c.args.words c.loop-n.places.items c.loop-n.invariant.placed others count

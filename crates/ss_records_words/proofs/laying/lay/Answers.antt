@@ -1,7 +1,7 @@
 use Rattle.std.proofs.Common.{◌+◌, ◌*◌, arith, subst}
 use Rattle.ss_base.specs.declared.layout.Owner.TheVariants.{Class}
 use Rattle.ss_records_words.specs.Shape.{links_start, owned_start}
-use Rattle.ss_records_blocks.specs.Writes.{Filled, zeros, links_to, owned_from}
+use Rattle.ss_records_blocks.specs.Writes.{IsFilled, zeros, links_to, owned_from}
 use Rattle.ss_records_blocks.proofs.Fills.{blank_above}
 use Rattle.ss_records_words.proofs.Fills.{laid_from}
 use Rattle.ss_records_words.proofs.laying.lay.Goals as goal
@@ -27,11 +27,11 @@ fill_owned-requires-clause-blank c = λ k a b. blank_above c.fill_links.ensures.
 pub returns-clause-laid : goal.returns-clause-laid
 returns-clause-laid c =
     let p = c.args.place.at in let l = c.args.layout.now in let a = c.lay_head.new.blocks.cells in let b = c.fill_numbers.new.blocks.cells in let d = c.fill_links.new.blocks.cells in let e = c.fill_owned.new.blocks.cells in
-    let f2 = subst (λ n. Filled a b p 2 n zeros) c.links_start-links.ensures.at c.fill_numbers.ensures.filled in
-    let f3 = subst (λ n. Filled b d p n (n + 3 * c.joined_count-joined.result) (links_to p)) c.links_start-links.ensures.at c.fill_links.ensures.filled in
-    let g3 = subst (λ n. Filled b d p (links_start l c.args.class) (links_start l c.args.class + 3 * n) (links_to p)) c.joined_count-joined.ensures.value f3 in
-    let f4 = subst (λ n. Filled d e p n (n + 3 * c.owned_count-count.result) (owned_from c.args.end.at n)) c.owned_start-owned.ensures.at c.fill_owned.ensures.filled in
-    let g4 = subst (λ n. Filled d e p (owned_start l (Class c.args.class)) (owned_start l (Class c.args.class) + 3 * n) (owned_from c.args.end.at (owned_start l (Class c.args.class)))) c.owned_count-count.ensures.value f4 in
+    let f2 = subst (λ n. IsFilled a b p 2 n zeros) c.links_start-links.ensures.at c.fill_numbers.ensures.filled in
+    let f3 = subst (λ n. IsFilled b d p n (n + 3 * c.joined_count-joined.result) (links_to p)) c.links_start-links.ensures.at c.fill_links.ensures.filled in
+    let g3 = subst (λ n. IsFilled b d p (links_start l c.args.class) (links_start l c.args.class + 3 * n) (links_to p)) c.joined_count-joined.ensures.value f3 in
+    let f4 = subst (λ n. IsFilled d e p n (n + 3 * c.owned_count-count.result) (owned_from c.args.end.at n)) c.owned_start-owned.ensures.at c.fill_owned.ensures.filled in
+    let g4 = subst (λ n. IsFilled d e p (owned_start l (Class c.args.class)) (owned_start l (Class c.args.class) + 3 * n) (owned_from c.args.end.at (owned_start l (Class c.args.class)))) c.owned_count-count.ensures.value f4 in
     rw c.expect.ensures.cells (laid_from l c.args.blocks.now.cells a b d e c.args.end.at p c.args.class c.args.number c.lay_head.ensures.filled f2 g3 g4)
 
 pub returns-clause-links : goal.returns-clause-links

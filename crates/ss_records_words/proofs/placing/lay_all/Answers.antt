@@ -2,7 +2,7 @@ use Rattle.std.proofs.Common.{◌≡◌, ◌*◌, length, ap, subst, ◌∙◌, 
 use Rattle.ss_base.specs.declared.layout.Owner.TheVariants.{Class}
 use Rattle.ss_records_blocks.specs.Cells.{word_of}
 use Rattle.ss_records_words.specs.Shape.{set_places}
-use Rattle.ss_records_words.specs.Laid.{LaidTo}
+use Rattle.ss_records_words.specs.Laid.{AreLaidTo}
 use Rattle.ss_records_blocks.proofs.Puts.{word_blank, length-blanks}
 use Rattle.ss_records_blocks.proofs.Placings.{place_at}
 use Rattle.ss_records_words.proofs.Makings.{laid_none, laid_more}
@@ -38,7 +38,7 @@ pub returns : goal.returns
 returns c =
     let n : c.loop-i.i ≡ length c.args.places.now = omega (arith, c.loop-i-test.false, c.loop-i.auto.i-end) in
     record {
-      laid = subst (λ k. LaidTo c.args.layout.now c.args.blocks.now.cells c.loop-i.blocks.cells c.args.end.at c.args.places.now c.args.class k) n c.loop-i.invariant.laid;
+      laid = subst (λ k. AreLaidTo c.args.layout.now c.args.blocks.now.cells c.loop-i.blocks.cells c.args.end.at c.args.places.now c.args.class k) n c.loop-i.invariant.laid;
       touches = c.loop-i.invariant.touches.1;
       links = c.loop-i.invariant.touches.2 ∙ ap (λ k. k * (3 * set_places c.args.layout.now (Class c.args.class))) n;
     }

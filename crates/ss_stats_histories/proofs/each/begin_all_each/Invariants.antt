@@ -1,9 +1,9 @@
 use Rattle.std.proofs.Common.{◌≡◌, ℕ, ◌≤◌, ◌<◌, ◌++◌, length, map, take, drop, get_or, All}
 use Rattle.ss_stats_histories.specs.Records.{Recorded, is_up_to}
-use Rattle.ss_stats_histories.specs.Each.{shown, KeptUntil, HasRoom, begun_shown}
+use Rattle.ss_stats_histories.specs.Each.{shown, IsKeptUntil, HasRoom, begun_shown}
 use Rattle.ss_stats_histories.proofs.each.begin_all_each.Given as goal
 
 abbrev pub invariant-loop-place : goal.invariant-loop-place
 invariant-loop-place l =
     (map shown l.kept ≡ map (begun_shown l.layout l.whose (is_up_to l.count) l.now) (take l.place (map shown l.initial.kept)) ++ drop l.place (map shown l.initial.kept)) ×
-    ((k : ℕ) (d : Recorded) → l.place ≤ k → k < length l.kept → HasRoom l.layout l.whose l.count (get_or l.kept k d)) × All (KeptUntil l.now) l.kept
+    ((k : ℕ) (d : Recorded) → l.place ≤ k → k < length l.kept → HasRoom l.layout l.whose l.count (get_or l.kept k d)) × All (IsKeptUntil l.now) l.kept

@@ -1,6 +1,6 @@
 use Rattle.std.proofs.Common.{subst}
 use Rattle.ss_program.specs.View.{view_item}
-use Rattle.ss_names_meaning.specs.Answers.{Gives}
+use Rattle.ss_names_meaning.specs.Answers.{HasGiven}
 use Rattle.ss_names_meaning.specs.Expressions.{item}
 use Rattle.ss_check_bodies.specs.Results.{scope_in}
 use Rattle.ss_check_bodies.proofs.Trees.{named_is}
@@ -8,4 +8,4 @@ use Rattle.ss_check_bodies.proofs.resolver.Resolver.+resolve_item.Goals as goal
 
 pub returns-in-Named : goal.returns-in-Named
 returns-in-Named t c =
-    subst (λ e. Gives view_item c.resolve_named_item.result (item (scope_in c.args.self.now) e)) (named_is c.args.tree.now c.in-Named.named c.deref.result.now c.in-Named.is c.deref.ensures.value) c.resolve_named_item.ensures
+    subst (λ e. HasGiven view_item c.resolve_named_item.result (item (scope_in c.args.self.now) e)) (named_is c.args.tree.now c.in-Named.named c.deref.result.now c.in-Named.is c.deref.ensures.value) c.resolve_named_item.ensures

@@ -2,7 +2,7 @@ use Rattle.std.proofs.Common.{refl, subst}
 use Rattle.ss_program.specs.View.{view_expression as view_resolved}
 use Rattle.ss_program.specs.Views.{with_operation}
 use Rattle.std.specs.List.{fold}
-use Rattle.ss_names_meaning.specs.Answers.{Gives}
+use Rattle.ss_names_meaning.specs.Answers.{HasGiven}
 use Rattle.ss_names_meaning.specs.Expressions.{expression}
 use Rattle.ss_names_meaning.proofs.Steps.{failed, fails_then}
 use Rattle.ss_check_bodies.specs.Results.{scope_in}
@@ -24,11 +24,11 @@ resolve_expression-returns-in_err-further-in-Sum t c =
 
 pub resolve_expression-returns-in-Named : goal.resolve_expression-returns-in-Named
 resolve_expression-returns-in-Named t c =
-    subst (λ e. Gives view_resolved c.resolve_named.result (expression (scope_in c.args.self.now) e)) (named_is c.args.tree.now c.in-Named.named c.deref.result.now c.in-Named.is c.deref.ensures.value) c.resolve_named.ensures
+    subst (λ e. HasGiven view_resolved c.resolve_named.result (expression (scope_in c.args.self.now) e)) (named_is c.args.tree.now c.in-Named.named c.deref.result.now c.in-Named.is c.deref.ensures.value) c.resolve_named.ensures
 
 pub resolve_expression-returns-in-Call : goal.resolve_expression-returns-in-Call
 resolve_expression-returns-in-Call t c =
-    subst (λ e. Gives view_resolved c.resolve_call.result (expression (scope_in c.args.self.now) e)) (call_is c.args.tree.now c.in-Call.function c.in-Call.arguments c.deref-in-Call.result.now c.in-Call.is c.deref-in-Call.ensures.value) c.resolve_call.ensures
+    subst (λ e. HasGiven view_resolved c.resolve_call.result (expression (scope_in c.args.self.now) e)) (call_is c.args.tree.now c.in-Call.function c.in-Call.arguments c.deref-in-Call.result.now c.in-Call.is c.deref-in-Call.ensures.value) c.resolve_call.ensures
 
 pub resolve_expression-returns-in_ok-further-in-Product : goal.resolve_expression-returns-in_ok-further-in-Product
 resolve_expression-returns-in_ok-further-in-Product t c =
@@ -54,7 +54,7 @@ resolve_factors-loop-tree-preserved t c =
 
 pub resolve_one-returns-in-len1 : goal.resolve_one-returns-in-len1
 resolve_one-returns-in-len1 t c =
-    subst (λ o. Gives view_resolved c.resolve_expression.result o) (one_is (scope_in c.args.self.now) c.args.arguments.now c.only-item.result c.in-len1.len_at_least c.in-len1.len_below c.only-item.is) c.resolve_expression.ensures
+    subst (λ o. HasGiven view_resolved c.resolve_expression.result o) (one_is (scope_in c.args.self.now) c.args.arguments.now c.only-item.result c.in-len1.len_at_least c.in-len1.len_below c.only-item.is) c.resolve_expression.ensures
 
 pub resolve_one-returns-in-len2-up : goal.resolve_one-returns-in-len2-up
 resolve_one-returns-in-len2-up t c = not_one (scope_in c.args.self.now) c.args.arguments.now c.in-len2-up.len_at_least

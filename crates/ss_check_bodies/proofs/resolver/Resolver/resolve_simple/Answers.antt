@@ -1,6 +1,6 @@
 use Rattle.std.proofs.Common.{map, ap, subst, ◌∙◌}
 use Rattle.ss_program.specs.View.{view_item, view_statement as view_resolved}
-use Rattle.ss_names_meaning.specs.Answers.{Gives}
+use Rattle.ss_names_meaning.specs.Answers.{HasGiven}
 use Rattle.ss_names_meaning.proofs.Steps.{failed}
 use Rattle.ss_check_bodies.proofs.Nested.{find_is, lines_of, print_fails, print_made}
 use Rattle.ss_check_bodies.proofs.Seen.{next_failed, next_made}
@@ -21,6 +21,6 @@ returns-in_ok-pictures-in-Print c =
 
 pub returns-in-Find : goal.returns-in-Find
 returns-in-Find c =
-    subst (λ s. Gives view_resolved c.resolve_find.result s)
+    subst (λ s. HasGiven view_resolved c.resolve_find.result s)
     (find_is _ c.args.tree.now c.in-Find.line c.in-Find.head c.new-found.result c.new-none.result c.in-Find.is c.new-found.ensures.items c.new-none.ensures.items)
     c.resolve_find.ensures

@@ -4,7 +4,7 @@ use Rattle.ss_program.specs.View.{view_expression}
 use Rattle.ss_program.specs.Views.{view_calculate_made}
 use Rattle.ss_code_instructions.specs.Translation.{Site as At}
 use Rattle.ss_code_generator.specs.Calculations.{with_operations}
-use Rattle.ss_code_generator.specs.Emitted.{Final, Around, IsLocated}
+use Rattle.ss_code_generator.specs.Emitted.{Final, IsAround, IsLocated}
 use Rattle.ss_code_generator.proofs.Emitting.{grows_same}
 use Rattle.ss_code_pieces.proofs.Leafs.{alone_is, none_counted}
 use Rattle.ss_code_generator.proofs.Values.{constant_emitted, fetch_emitted, system_set_emitted, figure_emitted, attribute_emitted, set_emitted, member_emitted, time_emitted, figure_of_emitted, signed_emitted, unary_emitted, operation_emitted, more_emitted, next_reads, folded_taken, folded_last, field_known, variable_known}
@@ -34,7 +34,7 @@ expression-returns-in_ok-entity-in-Attribute t c =
     let entity = c.in_ok-entity-in-Attribute in
     let g = c.operand.new.self in
     let m = c.attribute_mode-mode.result in
-    let known = λ (f : Final) (t : At) (around : Around f g) (located : IsLocated f g c.args.site t). field_known g g x.class x.field m (grows_same g) c.attribute_mode-mode.ensures f t c.args.site around located in
+    let known = λ (f : Final) (t : At) (around : IsAround f g) (located : IsLocated f g c.args.site t). field_known g g x.class x.field m (grows_same g) c.attribute_mode-mode.ensures f t c.args.site around located in
     rw x.is (on_ok_weaker c.fetch_attribute.result (attribute_emitted c.args.self.now g c.args.code.now c.args.site c.args.to c.operand.new.code c.fetch_attribute.new.code (view_expression x.of.value) entity.field-0 g (grows_same g) (rw c.deref-in-Attribute.ensures at entity.ensures) x.class x.field m known) c.fetch_attribute.ensures)
 
 pub expression-returns-in_ok-owner-in-OfSystemSet : goal.expression-returns-in_ok-owner-in-OfSystemSet

@@ -1,7 +1,7 @@
 use Rattle.std.proofs.Common.{take}
 use Rattle.ss_program.specs.View.{view_body}
-use Rattle.ss_code_generator.specs.Printed.{EmitsBlock}
+use Rattle.ss_code_generator.specs.Printed.{HasEmittedBlock}
 use Rattle.ss_code_generator.proofs.generator.Generator.+statements.Given as goal
 
 abbrev pub invariant-body-loop-s : goal.invariant-body-loop-s
-invariant-body-loop-s l = EmitsBlock l.initial.self l.self l.code l.height l.initial.prints.items l.prints.items (view_body (take l.s-index l.body))
+invariant-body-loop-s l = HasEmittedBlock l.initial.self l.self l.code l.height l.initial.prints.items l.prints.items (view_body (take l.s-index l.body))

@@ -1,11 +1,11 @@
 use Rattle.std.proofs.Common.{drop, map}
 use Rattle.ss_program.specs.View.{view_conjunction}
-use Rattle.ss_program.specs.WellTyped.{GoodCondition}
+use Rattle.ss_program.specs.WellTyped.{IsTypedCondition}
 use Rattle.ss_code_instructions.specs.Translation.{condition_code}
 use Rattle.ss_code_pieces.specs.Lined.{no_code}
-use Rattle.ss_code_generator.specs.Emitted.{Emits}
+use Rattle.ss_code_generator.specs.Emitted.{HasEmitted}
 use Rattle.ss_code_generator.proofs.generator.Generator.alternatives.Given as goal
 
 abbrev pub invariant-loop-i : goal.invariant-loop-i
 invariant-loop-i l =
-    Emits l.fn.self l.self no_code l.rest l.site (λ s. GoodCondition s (map view_conjunction (drop l.i l.alternatives))) (λ t. condition_code t l.skip (map view_conjunction (drop l.i l.alternatives)))
+    HasEmitted l.fn.self l.self no_code l.rest l.site (λ s. IsTypedCondition s (map view_conjunction (drop l.i l.alternatives))) (λ t. condition_code t l.skip (map view_conjunction (drop l.i l.alternatives)))

@@ -1,8 +1,8 @@
 use Rattle.std.proofs.Common.{take}
 use Rattle.ss_code_instructions.specs.Translation.{creates_code}
-use Rattle.ss_code_generator.specs.Emitted.{Emits}
+use Rattle.ss_code_generator.specs.Emitted.{HasEmitted}
 use Rattle.ss_code_generator.proofs.generator.Generator.creates.Given as goal
 
 abbrev pub invariant-loop-counted : goal.invariant-loop-counted
 invariant-loop-counted l =
-    Emits l.initial.self l.self l.initial.code l.code l.site (λ s. Unit {0}) (λ t. creates_code t (take l.counted-index l.classes))
+    HasEmitted l.initial.self l.self l.initial.code l.code l.site (λ s. Unit {0}) (λ t. creates_code t (take l.counted-index l.classes))

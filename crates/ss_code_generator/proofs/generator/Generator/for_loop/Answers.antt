@@ -2,7 +2,7 @@ use Rattle.std.proofs.Common.{ℕ, Some, ap}
 use Rattle.std.proofs.lemmas.Result.{on_ok_weaker}
 use Rattle.ss_program.specs.Program.{Each}
 use Rattle.ss_program.specs.View.{view_expression}
-use Rattle.ss_program.specs.WellTyped.{GoodHead}
+use Rattle.ss_program.specs.WellTyped.{IsTypedHead}
 use Rattle.ss_code_instructions.specs.Translation.{for_code}
 use Rattle.ss_code_generator.specs.Looped.{item_loop_code}
 use Rattle.ss_code_generator.proofs.Testing.{around_for}
@@ -20,4 +20,4 @@ returns c =
     let x = c.in-Each.variable in
     let head = Each x c.in-Each.class in
     rw c.in-Each.is (on_ok_weaker c.item_loop-in-Each.result (λ m.
-    around_for c.args.self.now c.item_loop-in-Each.new.self c.args.code.now c.item_loop-in-Each.new.code c.args.turn c.args.site (λ s. Unit {0}) (λ s. GoodHead s head) (λ t b. item_loop_code t (Some c.in_ok-class-in-Each.class) x b) (λ t b. for_code t head b) (λ s h. tt) (λ t b. ap (λ (k : ℕ). item_loop_code t (Some k) x b) c.in_ok-class-in-Each.ensures) m) c.item_loop-in-Each.ensures)
+    around_for c.args.self.now c.item_loop-in-Each.new.self c.args.code.now c.item_loop-in-Each.new.code c.args.turn c.args.site (λ s. Unit {0}) (λ s. IsTypedHead s head) (λ t b. item_loop_code t (Some c.in_ok-class-in-Each.class) x b) (λ t b. for_code t head b) (λ s h. tt) (λ t b. ap (λ (k : ℕ). item_loop_code t (Some k) x b) c.in_ok-class-in-Each.ensures) m) c.item_loop-in-Each.ensures)

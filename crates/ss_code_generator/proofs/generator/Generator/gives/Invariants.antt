@@ -1,11 +1,11 @@
 use Rattle.std.proofs.Common.{◌+◌, ◌≤◌, length, map}
 use Rattle.ss_program.specs.View.{view_place}
-use Rattle.ss_code_generator.specs.Emitted.{Final, Around, Emits}
+use Rattle.ss_code_generator.specs.Emitted.{Final, IsAround, HasEmitted}
 use Rattle.ss_code_generator.proofs.Called.{GoodPlaces, gives_front}
 use Rattle.ss_code_generator.proofs.generator.Generator.gives.Given as goal
 
 abbrev pub invariant-loop-i : goal.invariant-loop-i
 invariant-loop-i l = record {
-  code : Emits l.fn.self l.self l.initial.code l.code l.site (GoodPlaces (map view_place l.places)) (λ t. gives_front t l.i (map view_place l.places));
-  room : (f : Final) → Around f l.self → l.site.height + length l.places ≤ f.depth;
+  code : HasEmitted l.fn.self l.self l.initial.code l.code l.site (GoodPlaces (map view_place l.places)) (λ t. gives_front t l.i (map view_place l.places));
+  room : (f : Final) → IsAround f l.self → l.site.height + length l.places ≤ f.depth;
 }

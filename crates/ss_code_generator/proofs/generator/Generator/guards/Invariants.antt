@@ -1,12 +1,12 @@
 use Rattle.std.proofs.Common.{◌+◌, ◌++◌, drop, length, map}
 use Rattle.std.specs.List.{AllByRecursion as Every}
 use Rattle.ss_program.specs.View.{view_guard}
-use Rattle.ss_program.specs.WellTyped.{GoodCondition}
+use Rattle.ss_program.specs.WellTyped.{IsTypedCondition}
 use Rattle.ss_code_instructions.specs.Translation.{guards_code}
 use Rattle.ss_code_pieces.specs.Lined.{no_code}
-use Rattle.ss_code_generator.specs.Emitted.{EmitsAround}
+use Rattle.ss_code_generator.specs.Emitted.{HasEmittedAround}
 use Rattle.ss_code_generator.proofs.generator.Generator.guards.Given as goal
 
 abbrev pub invariant-loop-i : goal.invariant-loop-i
 invariant-loop-i l =
-    EmitsAround l.initial.self l.self no_code l.rest l.site l.fn.following (λ s. Every (λ g. GoodCondition s g.condition) (map view_guard (drop l.i l.guards))) (λ t b. guards_code t (length b + l.more) (map view_guard (drop l.i l.guards)) ++ b)
+    HasEmittedAround l.initial.self l.self no_code l.rest l.site l.fn.following (λ s. Every (λ g. IsTypedCondition s g.condition) (map view_guard (drop l.i l.guards))) (λ t b. guards_code t (length b + l.more) (map view_guard (drop l.i l.guards)) ++ b)

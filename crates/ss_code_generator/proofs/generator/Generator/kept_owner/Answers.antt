@@ -2,8 +2,8 @@ use Rattle.std.proofs.Common.{None}
 use Rattle.std.proofs.lemmas.Result.{IfOk-weaker}
 use Rattle.ss_program.specs.Program.{TheSystem}
 use Rattle.ss_program.specs.View.{view_expression}
-use Rattle.ss_code_generator.specs.Emitted.{Bears}
-use Rattle.ss_code_generator.specs.Looped.{KeepsOwner}
+use Rattle.ss_code_generator.specs.Emitted.{HasBorne}
+use Rattle.ss_code_generator.specs.Looped.{HasKeptOwner}
 use Rattle.ss_code_generator.proofs.Rounds.{system_kept, entity_kept}
 use Rattle.ss_code_generator.proofs.generator.Generator.kept_owner.Goals as goal
 
@@ -14,7 +14,7 @@ returns-in-TheSystem c =
     let p = c.args.code.now in
     let q = c.owner.new.code in
     rw c.in-TheSystem.is
-    (IfOk-weaker c.owner.result (Bears old new p q c.args.site None) (KeepsOwner old new p q c.args.site TheSystem) (system_kept old new p q c.args.site) (rw c.in-TheSystem.is at c.owner.ensures))
+    (IfOk-weaker c.owner.result (HasBorne old new p q c.args.site None) (HasKeptOwner old new p q c.args.site TheSystem) (system_kept old new p q c.args.site) (rw c.in-TheSystem.is at c.owner.ensures))
 
 pub returns-in_ok-cell-in-Entity : goal.returns-in_ok-cell-in-Entity
 returns-in_ok-cell-in-Entity c =

@@ -2,7 +2,7 @@ use Rattle.std.proofs.Common.{Some, None}
 use Rattle.std.proofs.lemmas.Result.{on_ok_weaker}
 use Rattle.ss_base.specs.declared.layout.Mode.TheVariants.{Integer}
 use Rattle.ss_program.specs.View.{view_expression}
-use Rattle.ss_code_generator.specs.Emitted.{Typed}
+use Rattle.ss_code_generator.specs.Emitted.{IsTyped}
 use Rattle.ss_code_generator.proofs.Rounds.{ranged}
 use Rattle.ss_code_generator.proofs.generator.Generator.range.Goals as goal
 
@@ -15,4 +15,4 @@ pub returns-in-Some : goal.returns-in-Some
 returns-in-Some c =
     let e = view_expression c.in-Some.e in
     rw c.in-Some.is (on_ok_weaker c.push-in-Some.result (λ o.
-    ranged c.args.self.now c.push.new.self c.push-2.new.self c.push-in-Some.new.self c.args.code.now c.push.new.code c.push-2.new.code c.push-in-Some.new.code c.args.site c.above.result c.above-third.result (view_expression c.args.first.now) (view_expression c.args.limit.now) (Some e) (Typed e) c.in_ok-push.ensures.code c.in_ok-push-2.ensures.code o c.above.ensures.line c.above-third.ensures.line c.above.ensures.height c.above-third.ensures.height c.in_ok-push.ensures.room c.in_ok-push-2.ensures.room (λ k h. (Integer, h))) c.push-in-Some.ensures.code)
+    ranged c.args.self.now c.push.new.self c.push-2.new.self c.push-in-Some.new.self c.args.code.now c.push.new.code c.push-2.new.code c.push-in-Some.new.code c.args.site c.above.result c.above-third.result (view_expression c.args.first.now) (view_expression c.args.limit.now) (Some e) (IsTyped e) c.in_ok-push.ensures.code c.in_ok-push-2.ensures.code o c.above.ensures.line c.above-third.ensures.line c.above.ensures.height c.above-third.ensures.height c.in_ok-push.ensures.room c.in_ok-push-2.ensures.room (λ k h. (Integer, h))) c.push-in-Some.ensures.code)

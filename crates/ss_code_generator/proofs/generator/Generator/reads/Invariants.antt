@@ -1,11 +1,11 @@
 use Rattle.std.proofs.Common.{map, take}
 use Rattle.std.specs.List.{AllByRecursion as Every}
 use Rattle.ss_program.specs.View.{view_target}
-use Rattle.ss_program.specs.WellTyped.{TakesMode}
+use Rattle.ss_program.specs.WellTyped.{CanTakeMode}
 use Rattle.ss_code_instructions.specs.Translation.{reads_code}
-use Rattle.ss_code_generator.specs.Emitted.{Emits}
+use Rattle.ss_code_generator.specs.Emitted.{HasEmitted}
 use Rattle.ss_code_generator.proofs.generator.Generator.reads.Given as goal
 
 abbrev pub invariant-loop-target : goal.invariant-loop-target
 invariant-loop-target l =
-    Emits l.initial.self l.self l.initial.code l.code l.site (λ s. Every (λ x. TakesMode s x.place x.mode) (map view_target (take l.target-index l.targets))) (λ t. reads_code t (map view_target (take l.target-index l.targets)))
+    HasEmitted l.initial.self l.self l.initial.code l.code l.site (λ s. Every (λ x. CanTakeMode s x.place x.mode) (map view_target (take l.target-index l.targets))) (λ t. reads_code t (map view_target (take l.target-index l.targets)))

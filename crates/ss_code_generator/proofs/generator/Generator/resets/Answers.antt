@@ -1,7 +1,7 @@
 use Rattle.std.proofs.Common.{◌≡◌, ◌+◌, [], ◌∷◌, ◌++◌, map, take}
 use Rattle.ss_program.specs.Program.{Restart}
 use Rattle.ss_program.specs.View.{view_restart}
-use Rattle.ss_program.specs.WellTyped.{GoodRestart}
+use Rattle.ss_program.specs.WellTyped.{IsTypedRestart}
 use Rattle.ss_code_instructions.specs.Translation.{restarts_code}
 use Rattle.ss_code_generator.proofs.Listed.{next_mapped, listed_more, restarts_more}
 use Rattle.ss_code_generator.proofs.generator.Generator.resets.Goals as goal
@@ -13,4 +13,4 @@ loop-restart-preserved c =
     let xs = c.args.restarts.now in
     let more : map view_restart (take (l.restart-index + 1) xs) ≡ map view_restart (take l.restart-index xs) ++ view_restart x ∷ [] = next_mapped view_restart xs l.restart-index x c.loop-restart-test.true c.restart-item.is in
     rw more
-    (listed_more (λ (y : Restart) s. GoodRestart s y.statistic y.of) (λ t (y : Restart). restarts_code t (y ∷ [])) restarts_code restarts_more c.args.self.now l.self c.reset.new.self c.args.code.now l.code c.reset.new.code c.args.site (map view_restart (take l.restart-index xs)) (view_restart x) l.invariant c.in_ok-reset.ensures)
+    (listed_more (λ (y : Restart) s. IsTypedRestart s y.statistic y.of) (λ t (y : Restart). restarts_code t (y ∷ [])) restarts_code restarts_more c.args.self.now l.self c.reset.new.self c.args.code.now l.code c.reset.new.code c.args.site (map view_restart (take l.restart-index xs)) (view_restart x) l.invariant c.in_ok-reset.ensures)

@@ -1,11 +1,11 @@
 use Rattle.std.proofs.Common.{map, take}
 use Rattle.std.specs.List.{AllByRecursion as Every}
 use Rattle.ss_program.specs.View.{view_restart}
-use Rattle.ss_program.specs.WellTyped.{GoodRestart}
+use Rattle.ss_program.specs.WellTyped.{IsTypedRestart}
 use Rattle.ss_code_instructions.specs.Translation.{restarts_code}
-use Rattle.ss_code_generator.specs.Emitted.{Emits}
+use Rattle.ss_code_generator.specs.Emitted.{HasEmitted}
 use Rattle.ss_code_generator.proofs.generator.Generator.resets.Given as goal
 
 abbrev pub invariant-loop-restart : goal.invariant-loop-restart
 invariant-loop-restart l =
-    Emits l.initial.self l.self l.initial.code l.code l.site (λ s. Every (λ r. GoodRestart s r.statistic r.of) (map view_restart (take l.restart-index l.restarts))) (λ t. restarts_code t (map view_restart (take l.restart-index l.restarts)))
+    HasEmitted l.initial.self l.self l.initial.code l.code l.site (λ s. Every (λ r. IsTypedRestart s r.statistic r.of) (map view_restart (take l.restart-index l.restarts))) (λ t. restarts_code t (map view_restart (take l.restart-index l.restarts)))

@@ -1,12 +1,12 @@
 use Rattle.std.proofs.Common.{drop, map}
 use Rattle.std.specs.List.{AllByRecursion as Every}
 use Rattle.ss_program.specs.View.{view_test}
-use Rattle.ss_program.specs.WellTyped.{GoodTest}
+use Rattle.ss_program.specs.WellTyped.{IsTypedTest}
 use Rattle.ss_code_instructions.specs.Translation.{tests_code}
 use Rattle.ss_code_pieces.specs.Lined.{no_code}
-use Rattle.ss_code_generator.specs.Emitted.{Emits}
+use Rattle.ss_code_generator.specs.Emitted.{HasEmitted}
 use Rattle.ss_code_generator.proofs.generator.Generator.tests.Given as goal
 
 abbrev pub invariant-loop-i : goal.invariant-loop-i
 invariant-loop-i l =
-    Emits l.initial.self l.self no_code l.rest l.site (λ s. Every (GoodTest s) (map view_test (drop l.i l.tests))) (λ t. tests_code t l.skip (map view_test (drop l.i l.tests)))
+    HasEmitted l.initial.self l.self no_code l.rest l.site (λ s. Every (IsTypedTest s) (map view_test (drop l.i l.tests))) (λ t. tests_code t l.skip (map view_test (drop l.i l.tests)))

@@ -4,7 +4,7 @@ use Rattle.std.specs.Cmp.{int_eq_equiv}
 use Rattle.std.proofs.lemmas.Bool.{or_from, or_left}
 use Rattle.std.proofs.lemmas.List.Sorted.{IsPermutation-append_right, IsPermutation-middle, IsPermutation-trans}
 use Rattle.ss_events_entries.specs.declared.entry.Entry.{Entry}
-use Rattle.ss_events_entries.specs.HeapEntries.{HeapEntries, heap_lines, all_of, notices_of, Leaves}
+use Rattle.ss_events_entries.specs.HeapEntries.{HeapEntries, heap_lines, all_of, notices_of, HasLostFollower}
 use Rattle.ss_events_entries.specs.HeapOrder.{IsHeap}
 use Rattle.ss_world.specs.Order.{comes_before}
 use Rattle.ss_world.specs.PendingList.{is_pending, without_notice}
@@ -56,7 +56,7 @@ returns-in-Some-clause-moves c = (work c).moves
 -- ---- a follower
 
 -- it left
-left : (c : goal.Then-remove_follower) → Leaves (heap_lines c.reset_counts.new.self) (heap_lines c.remove_follower.new.self) (to_z w64 (of_z w64 c.args.notice))
+left : (c : goal.Then-remove_follower) → HasLostFollower (heap_lines c.reset_counts.new.self) (heap_lines c.remove_follower.new.self) (to_z w64 (of_z w64 c.args.notice))
 left c = c.remove_follower.ensures.left c.if-remove_follower.true
 
 same_heads : (c : goal.Then-remove_follower) → c.remove_follower.new.self.entries ≡ c.self.inside.heap.entries

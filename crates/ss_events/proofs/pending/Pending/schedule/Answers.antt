@@ -6,7 +6,7 @@ use Rattle.ss_events_entries.specs.HeapOrder.{IsHeap}
 use Rattle.ss_world.specs.Order.{comes_before}
 use Rattle.ss_events_entries.specs.CountedList.{Work, with_work}
 use Rattle.ss_events.specs.InOrder.{in_order, IsAgenda}
-use Rattle.ss_events.specs.Sifting.{GoesIn, StaysOut, Inserts}
+use Rattle.ss_events.specs.Sifting.{HasGoneIn, HasStayedOut, IsInsertion}
 use Rattle.ss_events.proofs.Sifts.{tried_work}
 use Rattle.ss_events.proofs.Agendas.{any-pending, some_head, work_of, in_order-inserted, agenda-inserted}
 use Rattle.ss_events.proofs.Outcomes.{scheduled-room}
@@ -18,19 +18,19 @@ abbrev its : (c : After-insert) → ℤ → Entry
 its c z = record { key = c.args.key; number = c.self.inside.schedulings; notice = z }
 
 -- what became of it, after the work of all calls before
-outcome : (c : After-insert) → Inserts (its c c.args.notice) (heap_lines c.self.inside.heap) c.args.self.now.total c.insert.new.heap c.insert.result
+outcome : (c : After-insert) → IsInsertion (its c c.args.notice) (heap_lines c.self.inside.heap) c.args.self.now.total c.insert.new.heap c.insert.result
 outcome c =
     let new = c.insert.new.heap in let b = c.insert.result in let n = to_z w64 (of_z w64 c.args.notice) in
     let lines = ap heap_lines c.reset_counts.ensures in
     let begun = ap (λ h. h.before) c.reset_counts.ensures ∙ ap (λ v. v.total) c.self.view_is in
-    subst (λ (z : ℤ). Inserts (its c z) (heap_lines c.self.inside.heap) c.args.self.now.total new b) (to_z-of_z c.ranges.notice)
-    (subst (λ (p : HeadsAndFollowers × Work). Inserts (its c n) p.0 p.1 new b) (λ i. (lines i, begun i)) c.insert.ensures)
+    subst (λ (z : ℤ). IsInsertion (its c z) (heap_lines c.self.inside.heap) c.args.self.now.total new b) (to_z-of_z c.ranges.notice)
+    (subst (λ (p : HeadsAndFollowers × Work). IsInsertion (its c n) p.0 p.1 new b) (λ i. (lines i, begun i)) c.insert.ensures)
 
-went : (c : After-insert) → c.insert.result ≡ true → GoesIn (its c c.args.notice) (heap_lines c.self.inside.heap) c.args.self.now.total c.insert.new.heap
-went c did = subst (λ (b : Bool). Inserts (its c c.args.notice) (heap_lines c.self.inside.heap) c.args.self.now.total c.insert.new.heap b) did (outcome c)
+went : (c : After-insert) → c.insert.result ≡ true → HasGoneIn (its c c.args.notice) (heap_lines c.self.inside.heap) c.args.self.now.total c.insert.new.heap
+went c did = subst (λ (b : Bool). IsInsertion (its c c.args.notice) (heap_lines c.self.inside.heap) c.args.self.now.total c.insert.new.heap b) did (outcome c)
 
-stayed : (c : After-insert) → c.insert.result ≡ false → StaysOut (heap_lines c.self.inside.heap) c.args.self.now.total c.insert.new.heap
-stayed c not = subst (λ (b : Bool). Inserts (its c c.args.notice) (heap_lines c.self.inside.heap) c.args.self.now.total c.insert.new.heap b) not (outcome c)
+stayed : (c : After-insert) → c.insert.result ≡ false → HasStayedOut (heap_lines c.self.inside.heap) c.args.self.now.total c.insert.new.heap
+stayed c not = subst (λ (b : Bool). IsInsertion (its c c.args.notice) (heap_lines c.self.inside.heap) c.args.self.now.total c.insert.new.heap b) not (outcome c)
 
 pub insert-requires-clause-order : goal.insert-requires-clause-order
 insert-requires-clause-order c = subst (λ (h : HeapEntries). IsHeap comes_before h.entries) (sym c.reset_counts.ensures) c.self.invariant.order

@@ -1,6 +1,6 @@
 use Rattle.std.proofs.Common.{◌≡◌, false, Ok, Err, ◌∙◌, sym, ap, subst}
 use Rattle.ss_input.specs.Blocks.{BlockSeen}
-use Rattle.ss_input.specs.Inputs.{Reads, failures_after}
+use Rattle.ss_input.specs.Inputs.{HasReadInput, failures_after}
 use Rattle.ss_input.specs.Words.{is_ended}
 use Rattle.ss_input.proofs.Failures.{never_falls, failed_once}
 use Rattle.ss_input.proofs.Reached.{reads_moved, finds_moved, nothing_found}
@@ -41,4 +41,4 @@ returns-clause-unasked g c enough =
 pub returns-in-Some-buffered_gap-clause-read : goal.returns-in-Some-buffered_gap-clause-read
 returns-in-Some-buffered_gap-clause-read g c ended e =
     let same : false ≡ ended = cc in
-    subst (λ b. Reads g.R.FaultyRead.remaining c.args.self.now c.pass_buffered_gap.new.self (λ input rest. (rest ≡ input) × (is_ended input ≡ Ok b))) same c.pass_buffered_gap.ensures.read
+    subst (λ b. HasReadInput g.R.FaultyRead.remaining c.args.self.now c.pass_buffered_gap.new.self (λ input rest. (rest ≡ input) × (is_ended input ≡ Ok b))) same c.pass_buffered_gap.ensures.read

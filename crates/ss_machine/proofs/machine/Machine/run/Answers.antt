@@ -4,7 +4,7 @@ use Rattle.ss_machine_instructions.specs.declared.state.State.{State}
 use Rattle.ss_machine_instructions.specs.declared.flow.Here.{Here}
 use Rattle.ss_machine.specs.Situations.{situated}
 use Rattle.ss_machine.specs.Counts.{HasSteps}
-use Rattle.ss_machine.specs.Runs.{Ran}
+use Rattle.ss_machine.specs.Runs.{IsRunResult}
 use Rattle.ss_machine.specs.Held.{Held, answer_again}
 use Rattle.ss_machine.proofs.Readiness.{kept_none}
 use Rattle.ss_machine.proofs.Resuming.{stands_ticked, situated_ticked, ran_from, never, used_by}
@@ -93,15 +93,15 @@ returns g c =
     let start = situated from_here m.state in
     let rest = situated c.run-rest.result.here new in
     let used = used_by last m.used new.ticks from e.ticks in
-    let plain : Ran rem stop m.code start rest first final before after ((last - m.used) - new.ticks) (new.steps - m.state.steps) =
+    let plain : IsRunResult rem stop m.code start rest first final before after ((last - m.used) - new.ticks) (new.steps - m.state.steps) =
     ran_from rem m.code start (situated from_here ticked) rest first final before after ((last - m.used) - new.ticks) (new.steps - m.state.steps) (λ w core st. stands_ticked w core from_here m.state (last - m.used) st) stop e.ran in
-    let ran : Ran rem stop m.code start rest first final before after ((last - new.ticks) - m.used) (new.steps - m.state.steps) =
-    subst (λ t. Ran rem stop m.code start rest first final before after t (new.steps - m.state.steps)) used plain in
+    let ran : IsRunResult rem stop m.code start rest first final before after ((last - new.ticks) - m.used) (new.steps - m.state.steps) =
+    subst (λ t. IsRunResult rem stop m.code start rest first final before after t (new.steps - m.state.steps)) used plain in
     let same = ap (λ (v : Held). v.used) view in
     let all : m.used + ((last - m.used) - new.ticks) ≡ last - new.ticks = omega (arith, from, e.ticks) in
     record {
       again = λ stop q. absurd (none-some stop (sym (sym (ap (λ (v : Held). v.stopped) view) ∙ none) ∙ q));
-      ran = λ q. subst (λ (v : Held). Ran rem stop v.code v.at rest first final before after ((last - new.ticks) - v.used) (new.steps - v.steps)) view ran;
+      ran = λ q. subst (λ (v : Held). IsRunResult rem stop v.code v.at rest first final before after ((last - new.ticks) - v.used) (new.steps - v.steps)) view ran;
       code = ap (λ (v : Held). v.code) view;
       situated = λ q. e.situated (kept_none stop (sym c.kept-self-inside.ensures ∙ q));
       stopped = λ q. c.kept-self-inside.ensures;

@@ -1,6 +1,6 @@
 use Rattle.std.proofs.Common.{subst}
 use Rattle.std.specs.Vec.{with_items}
-use Rattle.ss_machine_frames.specs.Rows.{TwoRows, Yielded}
+use Rattle.ss_machine_frames.specs.Rows.{TwoRows, AreYielded}
 use Rattle.ss_machine_frames.proofs.Lists.{row_yielded}
 use Rattle.ss_machine_frames.proofs.rows.Rows.yield_down.Goals as goal
 
@@ -10,8 +10,8 @@ returns c =
     let w = c.self.inside.texts in
     let old : TwoRows = record { numbers = v.items; texts = w.items } in
     let new : TwoRows = record { numbers = (with_items (with_items v c.turn_numbers.new.row) c.move_numbers.new.row).items; texts = (with_items (with_items w c.turn_texts.new.row) c.move_texts.new.row).items } in
-    let both : Yielded old new c.args.from c.args.to c.args.count = record {
+    let both : AreYielded old new c.args.from c.args.to c.args.count = record {
       numbers = row_yielded v c.deref_mut.result.now c.turn_numbers.new.row c.deref_mut-3.result.now c.move_numbers.new.row c.args.from c.args.to c.args.count c.requires.down c.deref_mut.ensures.value c.turn_numbers.ensures c.deref_mut-3.ensures.value c.move_numbers.ensures;
       texts = row_yielded w c.deref_mut-2.result.now c.turn_texts.new.row c.deref_mut-4.result.now c.move_texts.new.row c.args.from c.args.to c.args.count c.requires.down c.deref_mut-2.ensures.value c.turn_texts.ensures c.deref_mut-4.ensures.value c.move_texts.ensures;
     } in
-    subst (λ (r : TwoRows). Yielded r new c.args.from c.args.to c.args.count) c.self.view_is both
+    subst (λ (r : TwoRows). AreYielded r new c.args.from c.args.to c.args.count) c.self.view_is both

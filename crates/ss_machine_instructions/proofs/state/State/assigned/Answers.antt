@@ -1,5 +1,5 @@
 use Rattle.std.proofs.Common.{rules, Ok, Err, refl}
-use Rattle.ss_machine_world.specs.Seen.{Changes}
+use Rattle.ss_machine_world.specs.Seen.{HasChanged}
 use Rattle.ss_machine_world.specs.Numbers.{attribute_noted}
 use Rattle.ss_machine_instructions.proofs.Figuring.{after_fault, after_unnoted, after_noted}
 use Rattle.ss_machine_instructions.proofs.state.State.assigned.Goals as goal
@@ -18,7 +18,7 @@ returns-in-Err c =
 pub returns-then-noted : goal.returns-then-noted
 returns-then-noted c =
     let note = attribute_noted c.args.class c.args.field c.args.entity in
-    let changed : Changes note c.args.self.now.world c.note_attribute-answer.new.self c.note_attribute-answer.result = search rules in
+    let changed : HasChanged note c.args.self.now.world c.note_attribute-answer.new.self c.note_attribute-answer.result = search rules in
     record {
       world = c.note_attribute-answer.new.self;
       said = c.note_attribute-answer.result;

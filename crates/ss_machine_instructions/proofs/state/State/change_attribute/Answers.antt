@@ -8,7 +8,7 @@ use Rattle.ss_records.specs.Attributes.{changed_number, IsChanged}
 use Rattle.ss_meaning.specs.Values.{computed, operator_of}
 use Rattle.ss_machine_world.specs.Seen.{Seen}
 use Rattle.ss_machine_world.specs.Numbers.{attribute_noted}
-use Rattle.ss_machine_instructions.specs.Noted.{Notes}
+use Rattle.ss_machine_instructions.specs.Noted.{HasNoted}
 use Rattle.ss_machine_instructions.proofs.Seeing.{class_within}
 use Rattle.ss_machine_instructions.proofs.Assigning.{changes_in, changes_mode, changes_by}
 use Rattle.ss_machine_instructions.proofs.state.State.change_attribute.Goals as goal
@@ -52,6 +52,6 @@ returns c = λ w core r.
     let same_n : to_z w64 (of_z w64 n) ≡ n = search rules in
     let same_v : to_z w64 (of_z w64 v) ≡ v = search rules in
     let done : MatchResult q (λ _. IsChanged (λ z. computed (operator_of c.args.sign) z v) s.world.heap c.args.attribute.class c.args.attribute.field n e.heap) (λ kind. (changed_number (λ z. computed (operator_of c.args.sign) z v) (value_in s.world.heap c.args.attribute.class c.args.attribute.field n) ≡ Err kind) × (e.heap ≡ s.world.heap)) = simp (same_n, same_v) at c.change-answer.ensures.done in
-    let noted : Notes c.args.attribute.noted (attribute_noted c.args.attribute.class c.args.attribute.field n) q (record s { world = e }) c.assigned.new.self c.assigned.result = simp same_n at c.assigned.ensures in
-    let after = subst (λ (x : Seen). Notes c.args.attribute.noted (attribute_noted c.args.attribute.class c.args.attribute.field n) q (record s { world = x }) c.assigned.new.self c.assigned.result) c.change-answer.ensures.same noted in
+    let noted : HasNoted c.args.attribute.noted (attribute_noted c.args.attribute.class c.args.attribute.field n) q (record s { world = e }) c.assigned.new.self c.assigned.result = simp same_n at c.assigned.ensures in
+    let after = subst (λ (x : Seen). HasNoted c.args.attribute.noted (attribute_noted c.args.attribute.class c.args.attribute.field n) q (record s { world = x }) c.assigned.new.self c.assigned.result) c.change-answer.ensures.same noted in
     changes_by w core c.args.here s (Runs c.args.attribute.class c.args.attribute.field c.args.entity.now c.args.by.now c.args.sign c.args.attribute.noted) r c.args.sign c.args.attribute.class c.args.attribute.field c.args.entity.now c.args.by.now c.args.attribute.noted n v q e.heap c.assigned.new.self c.assigned.result r.runs.carries.0 r.runs.carries.1 c.number-entity.ensures c.number-number.ensures done c.change-answer.ensures.layout after

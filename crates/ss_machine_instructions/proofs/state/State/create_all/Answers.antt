@@ -1,6 +1,6 @@
 use Rattle.std.proofs.Common.{rules, ◌≡◌, ℤ, Ok, Err, refl, subst, to_z, of_z, w64, ap}
 use Rattle.ss_code_instructions.specs.declared.instruction.Instruction.TheVariants.{CreateAll as Runs}
-use Rattle.ss_machine_world.specs.Seen.{ChangesWithMemory}
+use Rattle.ss_machine_world.specs.Seen.{HasChangedWithMemory}
 use Rattle.ss_machine_world.specs.Numbers.{created_all_known}
 use Rattle.ss_machine_instructions.specs.Ways.{on_after, on_at}
 use Rattle.ss_machine_instructions.proofs.Creating.{count_within, all_within, all_permanent, creates_all, creates_all_not}
@@ -27,11 +27,11 @@ create_all-requires-clause-permanent c =
 pub returns-in-Ok : goal.returns-in-Ok
 returns-in-Ok c = λ w core r.
     let same : to_z w64 (of_z w64 c.number_at-count.result) ≡ c.number_at-count.result = search rules in
-    let made = subst (λ (x : ℤ). ChangesWithMemory (created_all_known c.args.class x) c.args.self.now.world c.create_all.new.self (Ok tt)) same c.in-Ok.ensures in
+    let made = subst (λ (x : ℤ). HasChangedWithMemory (created_all_known c.args.class x) c.args.self.now.world c.create_all.new.self (Ok tt)) same c.in-Ok.ensures in
     creates_all w core c.args.here c.args.self.now (Runs c.args.class c.args.variable) r c.args.class c.args.variable c.number_at-count.result c.create_all.new.self _ (on_at c.args.here) r.runs.carries (search rules) made refl refl
 
 pub returns-in-Err : goal.returns-in-Err
 returns-in-Err c = λ w core r.
     let same : to_z w64 (of_z w64 c.number_at-count.result) ≡ c.number_at-count.result = search rules in
-    let made = subst (λ (x : ℤ). ChangesWithMemory (created_all_known c.args.class x) c.args.self.now.world c.create_all.new.self (Err c.in-Err.refused)) same c.in-Err.ensures in
+    let made = subst (λ (x : ℤ). HasChangedWithMemory (created_all_known c.args.class x) c.args.self.now.world c.create_all.new.self (Err c.in-Err.refused)) same c.in-Err.ensures in
     creates_all_not w core c.args.here c.args.self.now (Runs c.args.class c.args.variable) r c.args.class c.args.variable c.number_at-count.result c.create_all.new.self c.in-Err.refused c.refused.new.self (on_after c.args.here c.refused.result) r.runs.carries (search rules) made c.refused.ensures.state (ap (on_after c.args.here) c.refused.ensures.none)

@@ -3,8 +3,8 @@ use Rattle.ss_code_instructions.specs.declared.instruction.Instruction.TheVarian
 use Rattle.ss_base.specs.declared.value.Value.{Value}
 use Rattle.ss_meaning.specs.Statistics.{figure}
 use Rattle.ss_code_instructions.specs.Machine.{is_due}
-use Rattle.ss_machine_world.specs.Seen.{Looks}
-use Rattle.ss_machine_world.specs.Numbers.{RefersToSubject, HasValidSubject}
+use Rattle.ss_machine_world.specs.Seen.{HasAnswer}
+use Rattle.ss_machine_world.specs.Numbers.{IsReferenceToSubject, HasValidSubject}
 use Rattle.ss_machine_instructions.specs.Ways.{on_after}
 use Rattle.ss_machine_instructions.proofs.Placing.{calm}
 use Rattle.ss_machine_instructions.proofs.Figuring.{figures_in, figures, has_subject}
@@ -23,11 +23,11 @@ figure-answer-requires c =
 pub put-requires : goal.put-requires
 put-requires c =
     let z = c.requires in
-    let looks : (o : Option Value) → RefersToSubject c.args.self.now.world c.args.statistic o c.number-entity.result → Looks (figure c.args.fold c.args.statistic o) c.args.self.now.world (seen.as_value c.figure-answer.result) = search rules in
+    let looks : (o : Option Value) → IsReferenceToSubject c.args.self.now.world c.args.statistic o c.number-entity.result → HasAnswer (figure c.args.fold c.args.statistic o) c.args.self.now.world (seen.as_value c.figure-answer.result) = search rules in
     (z.0, z.1, z.2.placed.line, _, figures z.0 z.1 c.args.here c.args.self.now (Runs c.args.statistic c.args.entity.now c.args.to.now c.args.fold) z.2 c.args.fold c.args.statistic c.args.entity.now c.args.to.now c.number-entity.result c.figure-answer.result z.2.runs.carries c.number-entity.ensures looks)
 
 pub returns : goal.returns
 returns c = λ w core r.
-    let looks : (o : Option Value) → RefersToSubject c.args.self.now.world c.args.statistic o c.number-entity.result → Looks (figure c.args.fold c.args.statistic o) c.args.self.now.world (seen.as_value c.figure-answer.result) = search rules in
+    let looks : (o : Option Value) → IsReferenceToSubject c.args.self.now.world c.args.statistic o c.number-entity.result → HasAnswer (figure c.args.fold c.args.statistic o) c.args.self.now.world (seen.as_value c.figure-answer.result) = search rules in
     let d = figures w core c.args.here c.args.self.now (Runs c.args.statistic c.args.entity.now c.args.to.now c.args.fold) r c.args.fold c.args.statistic c.args.entity.now c.args.to.now c.number-entity.result c.figure-answer.result r.runs.carries c.number-entity.ensures looks in
     calm w core c.args.here c.args.self.now (Runs c.args.statistic c.args.entity.now c.args.to.now c.args.fold) r c.put.new.self (on_after c.args.here c.put.result) (ap is_due r.runs.carries.2.2) (c.put.ensures w core r.placed.line _ d)

@@ -3,7 +3,7 @@ use Rattle.ss_base.specs.declared.value.Value.TheVariants.{Whole}
 use Rattle.ss_code_instructions.specs.declared.instruction.Instruction.TheVariants.{FileBeside as Runs}
 use Rattle.ss_meaning.specs.Sets.{JustAfter}
 use Rattle.ss_machine_instructions.specs.Ways.{on_after}
-use Rattle.ss_machine_instructions.specs.Worldly.{Files}
+use Rattle.ss_machine_instructions.specs.Worldly.{HasFiled}
 use Rattle.ss_machine_instructions.proofs.Setwork.{files_after_in, files_after}
 use Rattle.ss_machine_instructions.proofs.state.State.file_after.Goals as goal
 
@@ -27,6 +27,6 @@ returns c = λ w core r.
     let same_n : to_z w64 (of_z w64 n) ≡ n = search rules in
     let same_m : to_z w64 (of_z w64 m) ≡ m = search rules in
     let same_k : to_z w64 (of_z w64 k) ≡ k = search rules in
-    let raw = subst (λ (v : ℤ). Files (JustAfter (Whole v)) set notes s.world e q (to_z w64 (of_z w64 m)) (to_z w64 (of_z w64 n))) same_k c.put_after-answer.ensures in
-    let filed = subst (λ (y : ℤ). Files (JustAfter (Whole k)) set notes s.world e q y n) same_m (subst (λ (x : ℤ). Files (JustAfter (Whole k)) set notes s.world e q (to_z w64 (of_z w64 m)) x) same_n raw) in
+    let raw = subst (λ (v : ℤ). HasFiled (JustAfter (Whole v)) set notes s.world e q (to_z w64 (of_z w64 m)) (to_z w64 (of_z w64 n))) same_k c.put_after-answer.ensures in
+    let filed = subst (λ (y : ℤ). HasFiled (JustAfter (Whole k)) set notes s.world e q y n) same_m (subst (λ (x : ℤ). HasFiled (JustAfter (Whole k)) set notes s.world e q (to_z w64 (of_z w64 m)) x) same_n raw) in
     files_after w core c.args.here s (Runs c.args.filing.noted true c.args.filing.set c.args.member.now c.args.beside.now c.args.owner.now) r c.args.filing.set c.args.beside.now c.args.member.now c.args.owner.now k n m notes e q c.done.new.self (on_after c.args.here c.done.result) r.runs.carries.0 r.runs.carries.1 c.number-beside.ensures c.number-member.ensures c.number-owner.ensures filed (c.done.ensures.state, ap (on_after c.args.here) c.done.ensures.way)

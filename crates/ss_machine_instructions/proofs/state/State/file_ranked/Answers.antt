@@ -2,7 +2,7 @@ use Rattle.std.proofs.Common.{rules, ◌≡◌, ℤ, subst, to_z, of_z, w64, ap}
 use Rattle.ss_code_instructions.specs.declared.instruction.Instruction.TheVariants.{FileRanked as Runs}
 use Rattle.ss_meaning.specs.Sets.{ByRule}
 use Rattle.ss_machine_instructions.specs.Ways.{on_after}
-use Rattle.ss_machine_instructions.specs.Worldly.{Files}
+use Rattle.ss_machine_instructions.specs.Worldly.{HasFiled}
 use Rattle.ss_machine_instructions.proofs.Setwork.{files_ranked_in, files_ranked}
 use Rattle.ss_machine_instructions.proofs.state.State.file_ranked.Goals as goal
 
@@ -25,5 +25,5 @@ returns c = λ w core r.
     let e = c.put_ranked-answer.new.world in let q = c.put_ranked-answer.result in
     let same_n : to_z w64 (of_z w64 n) ≡ n = search rules in
     let same_m : to_z w64 (of_z w64 m) ≡ m = search rules in
-    let filed = subst (λ (y : ℤ). Files ByRule set notes s.world e q y n) same_m (subst (λ (x : ℤ). Files ByRule set notes s.world e q (to_z w64 (of_z w64 m)) x) same_n c.put_ranked-answer.ensures) in
+    let filed = subst (λ (y : ℤ). HasFiled ByRule set notes s.world e q y n) same_m (subst (λ (x : ℤ). HasFiled ByRule set notes s.world e q (to_z w64 (of_z w64 m)) x) same_n c.put_ranked-answer.ensures) in
     files_ranked w core c.args.here s (Runs c.args.set c.args.member.now c.args.owner.now c.args.noted) r c.args.set c.args.member.now c.args.owner.now n m notes e q c.done.new.self (on_after c.args.here c.done.result) r.runs.carries.0 r.runs.carries.1 c.number-member.ensures c.number-owner.ensures filed (c.done.ensures.state, ap (on_after c.args.here) c.done.ensures.way)

@@ -4,7 +4,7 @@ use Rattle.ss_code_instructions.specs.declared.instruction.Instruction.TheVarian
 use Rattle.ss_base.specs.declared.value.Value.TheVariants.{Whole}
 use Rattle.ss_program.specs.declared.sections.Subject.TheVariants.{OfVariable}
 use Rattle.ss_meaning.specs.Histories.{noted}
-use Rattle.ss_machine_world.specs.Seen.{Changes}
+use Rattle.ss_machine_world.specs.Seen.{HasChanged}
 use Rattle.ss_machine_instructions.specs.Ways.{on_after}
 use Rattle.ss_machine_instructions.proofs.Figuring.{keeps_in, kept_within, keeps}
 use Rattle.ss_machine_instructions.proofs.state.State.keep.Goals as goal
@@ -20,5 +20,5 @@ set_number_at-requires c =
 
 pub returns : goal.returns
 returns c = λ w core r.
-    let changed : Changes (noted (OfVariable c.args.variable) (pos 0) (Whole c.number-value.result)) c.args.self.now.world c.note_variable-answer.new.self c.note_variable-answer.result = search rules in
+    let changed : HasChanged (noted (OfVariable c.args.variable) (pos 0) (Whole c.number-value.result)) c.args.self.now.world c.note_variable-answer.new.self c.note_variable-answer.result = search rules in
     keeps w core c.args.here c.args.self.now (Runs c.args.from.now c.args.variable) r c.args.variable c.args.from.now c.number-value.result c.note_variable-answer.new.self c.note_variable-answer.result c.done.new.self (on_after c.args.here c.done.result) r.runs.carries c.number-value.ensures changed (search rules) (ap (on_after c.args.here) c.done.ensures.way)

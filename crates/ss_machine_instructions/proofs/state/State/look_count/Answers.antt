@@ -1,12 +1,12 @@
 use Rattle.std.proofs.Common.{rules, ap}
 use Rattle.ss_code_instructions.specs.declared.instruction.Instruction.TheVariants.{LookCount as Runs}
 use Rattle.ss_code_instructions.specs.Machine.{assignable_count}
-use Rattle.ss_machine_world.specs.Seen.{Looks}
+use Rattle.ss_machine_world.specs.Seen.{HasAnswer}
 use Rattle.ss_machine_instructions.specs.Ways.{on_after}
 use Rattle.ss_machine_instructions.proofs.Looking.{looks_at_count}
 use Rattle.ss_machine_instructions.proofs.state.State.look_count.Goals as goal
 
 pub returns : goal.returns
 returns c = λ w core r.
-    let looks : Looks (assignable_count c.args.class) c.args.self.now.world c.look_count-answer.result = search rules in
+    let looks : HasAnswer (assignable_count c.args.class) c.args.self.now.world c.look_count-answer.result = search rules in
     looks_at_count w core c.args.here c.args.self.now (Runs c.args.class) r c.args.class c.look_count-answer.result c.done.new.self (on_after c.args.here c.done.result) r.runs.carries looks c.done.ensures.state (ap (on_after c.args.here) c.done.ensures.way)

@@ -2,8 +2,8 @@ use Rattle.std.proofs.Common.{rules, Option, ap}
 use Rattle.ss_code_instructions.specs.declared.instruction.Instruction.TheVariants.{LookMean as Runs}
 use Rattle.ss_base.specs.declared.value.Value.{Value}
 use Rattle.ss_meaning.specs.Statistics.{mean}
-use Rattle.ss_machine_world.specs.Seen.{Looks, without_value}
-use Rattle.ss_machine_world.specs.Numbers.{RefersToSubject, HasValidSubject}
+use Rattle.ss_machine_world.specs.Seen.{HasAnswer, without_value}
+use Rattle.ss_machine_world.specs.Numbers.{IsReferenceToSubject, HasValidSubject}
 use Rattle.ss_machine_instructions.specs.Ways.{on_after}
 use Rattle.ss_machine_instructions.proofs.Figuring.{looks_in_mean, looks_at_mean, has_subject}
 use Rattle.ss_machine_instructions.proofs.state.State.look_mean.Goals as goal
@@ -19,5 +19,5 @@ look_mean-answer-requires c =
 
 pub returns : goal.returns
 returns c = λ w core r.
-    let looks : (o : Option Value) → RefersToSubject c.args.self.now.world c.args.statistic o c.number-entity.result → Looks (without_value (mean c.args.statistic o)) c.args.self.now.world c.look_mean-answer.result = search rules in
+    let looks : (o : Option Value) → IsReferenceToSubject c.args.self.now.world c.args.statistic o c.number-entity.result → HasAnswer (without_value (mean c.args.statistic o)) c.args.self.now.world c.look_mean-answer.result = search rules in
     looks_at_mean w core c.args.here c.args.self.now (Runs c.args.statistic c.args.entity.now) r c.args.statistic c.args.entity.now c.number-entity.result c.look_mean-answer.result c.done.new.self (on_after c.args.here c.done.result) r.runs.carries c.number-entity.ensures looks c.done.ensures.state (ap (on_after c.args.here) c.done.ensures.way)

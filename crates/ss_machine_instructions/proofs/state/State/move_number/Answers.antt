@@ -6,7 +6,7 @@ use Rattle.ss_code_instructions.specs.Machine.{act, is_due}
 use Rattle.ss_machine_frames.specs.Rows.{place_at}
 use Rattle.ss_machine_frames.proofs.Reading.{only_number}
 use Rattle.ss_machine_instructions.specs.Ways.{on_after}
-use Rattle.ss_machine_instructions.specs.Doing.{Delivers}
+use Rattle.ss_machine_instructions.specs.Doing.{IsDelivering}
 use Rattle.ss_machine_instructions.proofs.Placing.{calm}
 use Rattle.ss_machine_instructions.proofs.Calculating.{moves_in, moves}
 use Rattle.ss_machine_instructions.proofs.state.State.move_number.Goals as goal
@@ -21,7 +21,7 @@ put-requires c =
     let l = z.2.placed.line in
     let m = act z.0.code l z.2.placed.instruction z.1 in
     let same : to_z w64 (of_z w64 c.number-number.result) ≡ c.number-number.result = search rules in
-    (z.0, z.1, l, m, subst (λ (v : ℤ). Delivers z.0 z.1 l m c.args.here c.args.self.now c.args.to.now (Ok (Whole v))) (sym same) (moves z.0 z.1 c.args.here c.args.self.now (Runs c.args.from.now c.args.to.now) z.2 Integer c.args.from.now c.args.to.now (Whole c.number-number.result) z.2.runs.carries refl only))
+    (z.0, z.1, l, m, subst (λ (v : ℤ). IsDelivering z.0 z.1 l m c.args.here c.args.self.now c.args.to.now (Ok (Whole v))) (sym same) (moves z.0 z.1 c.args.here c.args.self.now (Runs c.args.from.now c.args.to.now) z.2 Integer c.args.from.now c.args.to.now (Whole c.number-number.result) z.2.runs.carries refl only))
 
 pub returns : goal.returns
 returns c = λ w core r.
@@ -30,5 +30,5 @@ returns c = λ w core r.
     let l = r.placed.line in
     let m = act w.code l r.placed.instruction core in
     let same : to_z w64 (of_z w64 c.number-number.result) ≡ c.number-number.result = search rules in
-    let handed = subst (λ (v : ℤ). Delivers w core l m c.args.here c.args.self.now c.args.to.now (Ok (Whole v))) (sym same) d in
+    let handed = subst (λ (v : ℤ). IsDelivering w core l m c.args.here c.args.self.now c.args.to.now (Ok (Whole v))) (sym same) d in
     calm w core c.args.here c.args.self.now (Runs c.args.from.now c.args.to.now) r c.put.new.self (on_after c.args.here c.put.result) (ap is_due r.runs.carries.2.1.2) (c.put.ensures w core l m handed)

@@ -4,7 +4,7 @@ use Rattle.ss_code_instructions.specs.Machine.{act, is_due}
 use Rattle.ss_meaning.specs.Sets.{set_answer}
 use Rattle.ss_machine_world.specs.Seen.{Seen, as_value}
 use Rattle.ss_machine_instructions.specs.Ways.{on_after}
-use Rattle.ss_machine_instructions.specs.Doing.{Delivers}
+use Rattle.ss_machine_instructions.specs.Doing.{IsDelivering}
 use Rattle.ss_machine_instructions.proofs.Forms.{asked_of_set}
 use Rattle.ss_machine_instructions.proofs.Setwork.{asks_set_in, asks_set, takes}
 use Rattle.ss_machine_instructions.proofs.state.State.of_set.Goals as goal
@@ -23,7 +23,7 @@ put-requires c =
     let same : to_z w64 (of_z w64 n) ≡ n = search rules in
     let e : q ≡ set_answer c.args.query s.world.heap c.args.set n = subst (λ (x : ℤ). q ≡ set_answer c.args.query s.world.heap c.args.set x) same c.ask_set-answer.ensures.value in
     let d = asks_set z.0 z.1 c.args.here s (asking_set c.args.query c.args.set c.args.owner.now c.args.to.now) z.2 c.args.query c.args.set c.args.owner.now c.args.to.now n q (asked_of_set z.0.code z.0.run.constants z.2.placed c.args.query c.args.set c.args.owner.now c.args.to.now z.2.runs.carries) c.number-owner.ensures e in
-    (z.0, z.1, l, m, subst (λ (v : Seen). Delivers z.0 z.1 l m c.args.here (record s { world = v }) c.args.to.now (as_value q)) (sym c.ask_set-answer.ensures.same) d)
+    (z.0, z.1, l, m, subst (λ (v : Seen). IsDelivering z.0 z.1 l m c.args.here (record s { world = v }) c.args.to.now (as_value q)) (sym c.ask_set-answer.ensures.same) d)
 
 pub returns : goal.returns
 returns c = λ w core r.
@@ -33,5 +33,5 @@ returns c = λ w core r.
     let same : to_z w64 (of_z w64 n) ≡ n = search rules in
     let e : q ≡ set_answer c.args.query s.world.heap c.args.set n = subst (λ (x : ℤ). q ≡ set_answer c.args.query s.world.heap c.args.set x) same c.ask_set-answer.ensures.value in
     let d = asks_set w core c.args.here s (asking_set c.args.query c.args.set c.args.owner.now c.args.to.now) r c.args.query c.args.set c.args.owner.now c.args.to.now n q (asked_of_set w.code w.run.constants r.placed c.args.query c.args.set c.args.owner.now c.args.to.now r.runs.carries) c.number-owner.ensures e in
-    let d' = subst (λ (v : Seen). Delivers w core l m c.args.here (record s { world = v }) c.args.to.now (as_value q)) (sym c.ask_set-answer.ensures.same) d in
+    let d' = subst (λ (v : Seen). IsDelivering w core l m c.args.here (record s { world = v }) c.args.to.now (as_value q)) (sym c.ask_set-answer.ensures.same) d in
     takes w core c.args.here s (asking_set c.args.query c.args.set c.args.owner.now c.args.to.now) r c.ask_set-answer.new.world c.put.new.self (on_after c.args.here c.put.result) (ap is_due (asked_of_set w.code w.run.constants r.placed c.args.query c.args.set c.args.owner.now c.args.to.now r.runs.carries).2.2) (c.put.ensures w core l m d')

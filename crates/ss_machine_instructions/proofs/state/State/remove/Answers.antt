@@ -1,7 +1,7 @@
 use Rattle.std.proofs.Common.{rules, ◌≡◌, ℤ, subst, to_z, of_z, w64, ap}
 use Rattle.ss_code_instructions.specs.declared.instruction.Instruction.TheVariants.{Remove as Runs}
 use Rattle.ss_machine_instructions.specs.Ways.{on_after}
-use Rattle.ss_machine_instructions.specs.Worldly.{Removes}
+use Rattle.ss_machine_instructions.specs.Worldly.{HasRemoved}
 use Rattle.ss_machine_instructions.proofs.Setwork.{removes_in, removes}
 use Rattle.ss_machine_instructions.proofs.state.State.remove.Goals as goal
 
@@ -21,5 +21,5 @@ returns c = λ w core r.
     let e = c.take_out-answer.new.world in let q = c.take_out-answer.result in
     let same_n : to_z w64 (of_z w64 n) ≡ n = search rules in
     let same_m : to_z w64 (of_z w64 m) ≡ m = search rules in
-    let filed = subst (λ (y : ℤ). Removes set notes s.world e q y n) same_m (subst (λ (x : ℤ). Removes set notes s.world e q (to_z w64 (of_z w64 m)) x) same_n c.take_out-answer.ensures) in
+    let filed = subst (λ (y : ℤ). HasRemoved set notes s.world e q y n) same_m (subst (λ (x : ℤ). HasRemoved set notes s.world e q (to_z w64 (of_z w64 m)) x) same_n c.take_out-answer.ensures) in
     removes w core c.args.here s (Runs c.args.set c.args.member.now c.args.owner.now c.args.noted) r c.args.set c.args.member.now c.args.owner.now n m notes e q c.done.new.self (on_after c.args.here c.done.result) r.runs.carries.0 r.runs.carries.1 c.number-member.ensures c.number-owner.ensures filed (c.done.ensures.state, ap (on_after c.args.here) c.done.ensures.way)

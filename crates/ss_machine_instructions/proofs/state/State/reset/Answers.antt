@@ -4,11 +4,11 @@ use Rattle.ss_code_instructions.specs.declared.instruction.Instruction.TheVarian
 use Rattle.ss_base.specs.declared.value.Value.{Value}
 use Rattle.ss_meaning.specs.Statistics.{reset}
 use Rattle.ss_machine_time.specs.Figures.{statistic_variable}
-use Rattle.ss_machine_world.specs.Seen.{ChangesWhere, IsRight}
-use Rattle.ss_machine_world.specs.Numbers.{RefersToSubject, HasValidSubject}
+use Rattle.ss_machine_world.specs.Seen.{HasChangedWhere, IsRight}
+use Rattle.ss_machine_world.specs.Numbers.{IsReferenceToSubject, HasValidSubject}
 use Rattle.ss_machine_instructions.specs.Ways.{on_after}
 use Rattle.ss_machine_instructions.proofs.Figuring.{has_subject, resets_in, resets, held_within}
-use Rattle.ss_machine_world.specs.Numbers.{HoldsSubject as VariableHolds}
+use Rattle.ss_machine_world.specs.Numbers.{IsHeldBySubject as VariableHolds}
 use Rattle.ss_machine_instructions.proofs.state.State.reset.Goals as goal
 
 pub number-entity-requires : goal.number-entity-requires
@@ -30,6 +30,6 @@ returns c = λ w core r.
     let held = c.held-held.result in
     let same_x : to_z w64 (of_z w64 x) ≡ x = search rules in
     let same_held : to_z w64 (of_z w64 held) ≡ held = search rules in
-    let changed_x = subst (λ (n : ℤ). (o : Option Value) → RefersToSubject c.args.self.now.world c.args.statistic o n → ChangesWhere (λ s. IsRight (reset c.args.statistic o s) × VariableHolds c.args.statistic (to_z w64 (of_z w64 held)) s) (reset c.args.statistic o) c.args.self.now.world c.reset-answer.new.self c.reset-answer.result) same_x c.reset-answer.ensures in
-    let changed = subst (λ (h : ℤ). (o : Option Value) → RefersToSubject c.args.self.now.world c.args.statistic o x → ChangesWhere (λ s. IsRight (reset c.args.statistic o s) × VariableHolds c.args.statistic h s) (reset c.args.statistic o) c.args.self.now.world c.reset-answer.new.self c.reset-answer.result) same_held changed_x in
+    let changed_x = subst (λ (n : ℤ). (o : Option Value) → IsReferenceToSubject c.args.self.now.world c.args.statistic o n → HasChangedWhere (λ s. IsRight (reset c.args.statistic o s) × VariableHolds c.args.statistic (to_z w64 (of_z w64 held)) s) (reset c.args.statistic o) c.args.self.now.world c.reset-answer.new.self c.reset-answer.result) same_x c.reset-answer.ensures in
+    let changed = subst (λ (h : ℤ). (o : Option Value) → IsReferenceToSubject c.args.self.now.world c.args.statistic o x → HasChangedWhere (λ s. IsRight (reset c.args.statistic o s) × VariableHolds c.args.statistic h s) (reset c.args.statistic o) c.args.self.now.world c.reset-answer.new.self c.reset-answer.result) same_held changed_x in
     resets w core c.args.here c.args.self.now (Runs c.args.statistic c.args.entity.now) r c.args.statistic c.args.entity.now c.number-entity.result c.held-held.result c.reset-answer.new.self c.reset-answer.result c.done.new.self (on_after c.args.here c.done.result) r.runs.carries c.number-entity.ensures at changed c.done.ensures.state (ap (on_after c.args.here) c.done.ensures.way)

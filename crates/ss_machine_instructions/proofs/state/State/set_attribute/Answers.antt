@@ -8,7 +8,7 @@ use Rattle.ss_world.specs.State.{modes_of, assigned}
 use Rattle.ss_records.specs.Attributes.{IsAssigned}
 use Rattle.ss_machine_world.specs.Seen.{Seen}
 use Rattle.ss_machine_world.specs.Numbers.{attribute_noted}
-use Rattle.ss_machine_instructions.specs.Noted.{Notes}
+use Rattle.ss_machine_instructions.specs.Noted.{HasNoted}
 use Rattle.ss_machine_instructions.proofs.Seeing.{mode_there, class_within}
 use Rattle.ss_machine_instructions.proofs.Assigning.{sets_in, sets}
 use Rattle.ss_machine_instructions.proofs.state.State.set_attribute.Goals as goal
@@ -52,6 +52,6 @@ returns c = λ w core r.
     let same_n : to_z w64 (of_z w64 n) ≡ n = search rules in
     let same_v : to_z w64 (of_z w64 v) ≡ v = search rules in
     let done : MatchResult q (λ _. IsAssigned s.world.heap c.args.attribute.class c.args.attribute.field n v e.heap) (λ kind. (assigned s.world.heap c.args.attribute.class c.args.attribute.field n (Whole v) ≡ Err kind) × (e.heap ≡ s.world.heap)) = simp (same_n, same_v) at c.assign_number-answer.ensures.done in
-    let noted : Notes c.args.attribute.noted (attribute_noted c.args.attribute.class c.args.attribute.field n) q (record s { world = e }) c.assigned.new.self c.assigned.result = simp same_n at c.assigned.ensures in
-    let after = subst (λ (x : Seen). Notes c.args.attribute.noted (attribute_noted c.args.attribute.class c.args.attribute.field n) q (record s { world = x }) c.assigned.new.self c.assigned.result) c.assign_number-answer.ensures.same noted in
+    let noted : HasNoted c.args.attribute.noted (attribute_noted c.args.attribute.class c.args.attribute.field n) q (record s { world = e }) c.assigned.new.self c.assigned.result = simp same_n at c.assigned.ensures in
+    let after = subst (λ (x : Seen). HasNoted c.args.attribute.noted (attribute_noted c.args.attribute.class c.args.attribute.field n) q (record s { world = x }) c.assigned.new.self c.assigned.result) c.assign_number-answer.ensures.same noted in
     sets w core c.args.here s (Runs c.args.attribute.class c.args.attribute.field c.args.entity.now c.args.from.now c.args.attribute.noted) r c.args.attribute.class c.args.attribute.field c.args.entity.now c.args.from.now c.args.attribute.noted n v q e.heap c.assigned.new.self c.assigned.result r.runs.carries.0 r.runs.carries.1 c.number-entity.ensures c.number-number.ensures done c.assign_number-answer.ensures.layout after

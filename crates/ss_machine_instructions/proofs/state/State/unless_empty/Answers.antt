@@ -1,6 +1,6 @@
 use Rattle.std.proofs.Common.{rules, ◌≡◌, ℤ, ap, ◌∙◌, subst, to_z, of_z, w64}
 use Rattle.ss_code_instructions.specs.declared.instruction.Instruction.TheVariants.{UnlessEmpty as Runs}
-use Rattle.ss_code_instructions.specs.Shape.{Suits}
+use Rattle.ss_code_instructions.specs.Shape.{IsSuited}
 use Rattle.ss_world.specs.Sets.{count_in}
 use Rattle.ss_machine_world.specs.Seen.{Seen}
 use Rattle.ss_machine_instructions.specs.Ways.{none_of, faulted_test, tested_at, test_of}
@@ -14,7 +14,7 @@ number-owner-requires c = let z = c.requires in empties_in z.1.0 z.1.1 c.args.he
 pub number_in-requires : goal.number_in-requires
 number_in-requires c =
     let z = c.requires in
-    let y = subst (Suits z.1.0.program z.1.0.code z.1.1.place z.1.2.placed.locals z.1.2.placed.cells) z.1.2.runs.carries.2 (suits z.1.0 z.1.1 c.args.here c.args.self.now (Runs c.args.set c.args.owner.now z.0 c.args.negated) z.1.2) in
+    let y = subst (IsSuited z.1.0.program z.1.0.code z.1.1.place z.1.2.placed.locals z.1.2.placed.cells) z.1.2.runs.carries.2 (suits z.1.0 z.1.1 c.args.here c.args.self.now (Runs c.args.set c.args.owner.now z.0 c.args.negated) z.1.2) in
     let lt = set_within z.1.0 z.1.1 c.args.here c.args.self.now (Runs c.args.set c.args.owner.now z.0 c.args.negated) z.1.2 c.args.set z.1.2.runs.carries.0 y.0 in
     record { set = search rules }
 

@@ -1,6 +1,6 @@
 use Rattle.std.proofs.Common.{rules, ◌≡◌, ap, ◌∙◌, subst, to_z, of_z, w64}
 use Rattle.ss_code_instructions.specs.declared.instruction.Instruction.TheVariants.{UnlessMember as Runs}
-use Rattle.ss_code_instructions.specs.Shape.{Suits}
+use Rattle.ss_code_instructions.specs.Shape.{IsSuited}
 use Rattle.ss_world.specs.Disciplines.{member_test}
 use Rattle.ss_machine_world.specs.Seen.{Seen}
 use Rattle.ss_machine_instructions.specs.Ways.{faulted_test, tested_at, test_of}
@@ -17,7 +17,7 @@ number-owner-requires c = let z = c.requires in (members_in z.1.0 z.1.1 c.args.h
 pub is_member-answer-requires : goal.is_member-answer-requires
 is_member-answer-requires c =
     let z = c.requires in
-    let y = subst (Suits z.1.0.program z.1.0.code z.1.1.place z.1.2.placed.locals z.1.2.placed.cells) z.1.2.runs.carries.2.2 (suits z.1.0 z.1.1 c.args.here c.args.self.now (Runs c.args.set c.args.both.0.now c.args.both.1.now z.0 c.args.negated) z.1.2) in
+    let y = subst (IsSuited z.1.0.program z.1.0.code z.1.1.place z.1.2.placed.locals z.1.2.placed.cells) z.1.2.runs.carries.2.2 (suits z.1.0 z.1.1 c.args.here c.args.self.now (Runs c.args.set c.args.both.0.now c.args.both.1.now z.0 c.args.negated) z.1.2) in
     let lt = set_within z.1.0 z.1.1 c.args.here c.args.self.now (Runs c.args.set c.args.both.0.now c.args.both.1.now z.0 c.args.negated) z.1.2 c.args.set z.1.2.runs.carries.2.0 y.0 in
     record { set = search rules }
 

@@ -5,7 +5,7 @@ use Rattle.ss_world.specs.PendingList.{cancelled}
 use Rattle.ss_world.specs.State.{known_in}
 use Rattle.ss_machine_time.specs.Times.{Times}
 use Rattle.ss_meaning.specs.Events.{unscheduled}
-use Rattle.ss_machine_world.specs.Seen.{Seen, Changes}
+use Rattle.ss_machine_world.specs.Seen.{Seen, HasChanged}
 use Rattle.ss_machine_world.proofs.Leaving.{there_in, cancelled_changes, not_cancelled, cancelled_statistics}
 use Rattle.ss_machine_world.proofs.Starting.{seen_of}
 use Rattle.ss_machine_world.proofs.Said.{said_still}
@@ -20,7 +20,7 @@ returns-in-Ok c =
     let same : to_z w64 (of_z w64 n) ≡ n = search rules in
     let within : class < length i.population.layout.classes = subst (λ (v : Seen). class < length v.heap.layout.classes) (sym c.self.view_is) c.requires.class in
     let is : Ok tt ≡ known_in i.population class n = subst (λ (z : ℤ). Ok tt ≡ known_in i.population class z) same c.in-Ok.ensures in
-    subst (λ (old : Seen). Changes (unscheduled class (Whole n)) old f r) c.self.view_is
+    subst (λ (old : Seen). HasChanged (unscheduled class (Whole n)) old f r) c.self.view_is
     (cancelled_changes i.disciplines.items i.notices.items i.population t class n (there_in i.population.layout.classes class within) tt is w r
     (subst (λ (z : ℤ). MatchResult r (λ _. (cancelled z t.pending ≡ Ok w.pending) × (w ≡ record t { pending = w.pending })) (λ k. (cancelled z t.pending ≡ Err k) × (w ≡ t))) same c.cancel.ensures))
 
@@ -32,7 +32,7 @@ returns-in-Err c =
     let same : to_z w64 (of_z w64 n) ≡ n = search rules in
     let within : class < length i.population.layout.classes = subst (λ (v : Seen). class < length v.heap.layout.classes) (sym c.self.view_is) c.requires.class in
     let is : Err k ≡ known_in i.population class n = subst (λ (z : ℤ). Err k ≡ known_in i.population class z) same c.in-Err.ensures in
-    subst (λ (old : Seen). Changes (unscheduled class (Whole n)) old old (Err k)) c.self.view_is
+    subst (λ (old : Seen). HasChanged (unscheduled class (Whole n)) old old (Err k)) c.self.view_is
     (not_cancelled i.disciplines.items i.notices.items i.population i.timeline class n (there_in i.population.layout.classes class within) k is)
 
 pub invariant_of-self : goal.invariant_of-self

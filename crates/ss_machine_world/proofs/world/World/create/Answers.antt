@@ -6,7 +6,7 @@ use Rattle.ss_machine_time.specs.Records.{is_home, columns_of}
 use Rattle.ss_meaning.specs.Entities.{is_single, made_one}
 use Rattle.ss_machine_world.specs.declared.class.ClassEntry.{ClassEntry}
 use Rattle.ss_machine_world.specs.Classes.{AreSaid}
-use Rattle.ss_machine_world.specs.Seen.{Seen, Makes}
+use Rattle.ss_machine_world.specs.Seen.{Seen, HasMade}
 use Rattle.ss_machine_world.proofs.Said.{none_start, said_still}
 use Rattle.ss_machine_world.proofs.Starting.{one_alone, seen_of}
 use Rattle.ss_machine_world.proofs.world.World.create.Goals as goal
@@ -27,14 +27,14 @@ returns-then-not-is_watched c =
     subst (λ (entries : List ClassEntry). AreSaid i.population.layout i.notices.items i.timeline.histories.statistics entries) (sym c.deref.ensures.value) c.self.invariant in
     let none : list_any (is_home i.population.layout (Class class)) i.timeline.histories.statistics ≡ false = sym (c.is_watched.ensures _ _ _ said) ∙ c.if-not-is_watched.true in
     let single : is_single (slice_get e.heap.layout.classes class) ≡ true = subst (λ (v : Seen). is_single (slice_get v.heap.layout.classes class) ≡ true) (sym c.self.view_is) c.requires.single in
-    subst (λ (old : Seen). Makes (made_one class) old (record e { heap = c.create.new.self }) c.create.result) c.self.view_is
+    subst (λ (old : Seen). HasMade (made_one class) old (record e { heap = c.create.new.self }) c.create.result) c.self.view_is
     (one_alone e class single c.create.new.self c.create.result (λ here now. none_start i.population.layout (Class class) here now i.timeline.histories.statistics (columns_of i.timeline.histories.rows) none) c.create.ensures.done)
 
 pub returns-in-None : goal.returns-in-None
 returns-in-None c =
     let class = c.args.class in
     let same : c.create_watched.new.self ≡ c.args.self.now = c.in-None.ensures.same refl in
-    subst (λ (e : Seen). Makes (made_one class) e c.create_watched.new.self (Err c.uncreated.result)) same
+    subst (λ (e : Seen). HasMade (made_one class) e c.create_watched.new.self (Err c.uncreated.result)) same
     (c.uncreated.ensures class (subst (λ (e : Seen). is_single (slice_get e.heap.layout.classes class) ≡ true) (sym same) c.requires.single))
 
 pub invariant_of-self : goal.invariant_of-self

@@ -2,12 +2,12 @@ use Rattle.std.proofs.Common.{rules, ◌≡◌, ◌≤ℤ◌, ℤ, true, length,
 use Rattle.std.specs.Prelude.{pos, slice_get}
 use Rattle.ss_base.specs.declared.layout.Layout.{Layout}
 use Rattle.ss_base.specs.declared.layout.Owner.TheVariants.{Class}
-use Rattle.ss_world.specs.State.{State, RefusedFor, created_all, records_in}
+use Rattle.ss_world.specs.State.{State, IsRefusalOf, created_all, records_in}
 use Rattle.ss_machine_time.specs.Records.{HasRooms, is_up_to}
 use Rattle.ss_meaning.specs.Entities.{is_permanent}
 use Rattle.ss_meaning.specs.Histories.{starting}
 use Rattle.ss_machine_world.specs.Numbers.{created_all_known}
-use Rattle.ss_machine_world.specs.Seen.{Seen, ChangesWithMemory, with_seen}
+use Rattle.ss_machine_world.specs.Seen.{Seen, HasChangedWithMemory, with_seen}
 use Rattle.ss_machine_time.specs.Times.{Times, columns}
 use Rattle.ss_machine_world.proofs.Starting.{all_made, all_refused, less_room, many_made, seen_of, seen_moved}
 use Rattle.ss_machine_world.proofs.Said.{said_still}
@@ -59,9 +59,9 @@ returns-in-Err c =
     let back : seen_of i.disciplines.items i.notices.items h u ≡ e =
     ap (λ (h : State). seen_of i.disciplines.items i.notices.items h u) c.in-Err.ensures.done.0
     ∙ ap (λ (u : Times). seen_of i.disciplines.items i.notices.items i.population u) c.reserve.ensures.same in
-    let due : RefusedFor (created_all e.heap class count) c.in-Err.refused = subst (λ (z : ℤ). RefusedFor (created_all e.heap class z) c.in-Err.refused) asked c.in-Err.ensures.done.1 in
-    subst (λ (old : Seen). ChangesWithMemory (created_all_known class count) old (seen_of i.disciplines.items i.notices.items h u) (Err c.in-Err.refused)) c.self.view_is
-    (subst (λ (new : Seen). ChangesWithMemory (created_all_known class count) e new (Err c.in-Err.refused)) (sym back) (all_refused e class count permanent c.in-Err.refused due))
+    let due : IsRefusalOf (created_all e.heap class count) c.in-Err.refused = subst (λ (z : ℤ). IsRefusalOf (created_all e.heap class z) c.in-Err.refused) asked c.in-Err.ensures.done.1 in
+    subst (λ (old : Seen). HasChangedWithMemory (created_all_known class count) old (seen_of i.disciplines.items i.notices.items h u) (Err c.in-Err.refused)) c.self.view_is
+    (subst (λ (new : Seen). HasChangedWithMemory (created_all_known class count) e new (Err c.in-Err.refused)) (sym back) (all_refused e class count permanent c.in-Err.refused due))
 
 pub invariant_of-self : goal.invariant_of-self
 invariant_of-self c =

@@ -6,7 +6,7 @@ use Rattle.ss_machine_time.specs.Records.{HasRooms}
 use Rattle.ss_machine_time.specs.Times.{Times, columns}
 use Rattle.ss_meaning.specs.Entities.{is_single, made_one}
 use Rattle.ss_meaning.specs.Histories.{starting}
-use Rattle.ss_machine_world.specs.Seen.{Seen, Makes}
+use Rattle.ss_machine_world.specs.Seen.{Seen, HasMade}
 use Rattle.ss_machine_world.proofs.Starting.{one_made, seen_of, seen_moved}
 use Rattle.ss_machine_world.proofs.Said.{said_still}
 use Rattle.ss_machine_world.proofs.world.World.create_watched.Goals as goal
@@ -35,8 +35,8 @@ returns-in-Ok-clause-made c =
     ∙ ap (λ (z : ℤ). starting h.layout (Class class) (int_eq z) u.time u.histories.statistics (columns u)) number
     ∙ ap (λ (u : Times). starting h.layout (Class class) (int_eq n) u.time u.histories.statistics (columns u)) same in
     let single : is_single (slice_get e.heap.layout.classes class) ≡ true = subst (λ (v : Seen). is_single (slice_get v.heap.layout.classes class) ≡ true) (sym c.self.view_is) c.requires.single in
-    subst (λ (z : ℤ). Makes (made_one class) c.args.self.now (seen_of i.disciplines.items i.notices.items h w) (Ok z)) (sym number)
-    (subst (λ (old : Seen). Makes (made_one class) old (seen_of i.disciplines.items i.notices.items h w) (Ok n)) c.self.view_is
+    subst (λ (z : ℤ). HasMade (made_one class) c.args.self.now (seen_of i.disciplines.items i.notices.items h w) (Ok z)) (sym number)
+    (subst (λ (old : Seen). HasMade (made_one class) old (seen_of i.disciplines.items i.notices.items h w) (Ok n)) c.self.view_is
     (one_made e class single (seen_of i.disciplines.items i.notices.items h w) h n moved c.in-Ok.ensures.done started))
 
 pub invariant_of-self : goal.invariant_of-self

@@ -3,7 +3,7 @@ use Rattle.ss_base.specs.declared.value.Value.TheVariants.{Whole}
 use Rattle.ss_world.specs.PendingList.{is_pending}
 use Rattle.ss_meaning.specs.Entities.{gone, without}
 use Rattle.ss_meaning.specs.Values.{Fails}
-use Rattle.ss_machine_world.specs.Seen.{Changes, with_seen}
+use Rattle.ss_machine_world.specs.Seen.{HasChanged, with_seen}
 use Rattle.ss_machine_world.proofs.Leaving.{gone_without}
 use Rattle.ss_machine_world.proofs.world.World.destroy.Goals as goal
 
@@ -26,4 +26,4 @@ returns c =
     let same : to_z w64 (of_z w64 n) ≡ n = search rules in
     let free : is_pending n e.pending.entries ≡ false = search rules in
     gone_without e class n c.requires.single c.remove_entity.new.self c.remove_entity.result free
-    (subst (λ (z : ℤ). Changes (gone class (Whole z)) e c.remove_entity.new.self c.remove_entity.result) same c.remove_entity.ensures)
+    (subst (λ (z : ℤ). HasChanged (gone class (Whole z)) e c.remove_entity.new.self c.remove_entity.result) same c.remove_entity.ensures)

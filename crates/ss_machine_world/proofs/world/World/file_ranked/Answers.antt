@@ -3,8 +3,8 @@ use Rattle.std.specs.Prelude.{slice_get}
 use Rattle.std.proofs.lemmas.Option.{slice_get_read, slice_get_past}
 use Rattle.ss_base.specs.declared.layout.Discipline.{Discipline}
 use Rattle.ss_world.specs.State.{State}
-use Rattle.ss_world.specs.Disciplines.{FitsMembers, filed}
-use Rattle.ss_machine_world.specs.Seen.{Seen, Rearranges}
+use Rattle.ss_world.specs.Disciplines.{HasMemberKeys, filed}
+use Rattle.ss_machine_world.specs.Seen.{Seen, HasRearranged}
 use Rattle.ss_machine_world.proofs.Ruling.{ruled_by}
 use Rattle.ss_machine_world.proofs.Starting.{seen_of}
 use Rattle.ss_machine_world.proofs.Said.{said_still}
@@ -16,7 +16,7 @@ file-requires-clause-keys c =
     let at = slice_get_read c.deref.result.now (length c.deref.result.now) c.args.set d refl c.in-Some.ensures.lookup.3.0 c.in-Some.ensures.lookup.1 in
     let has : slice_get c.args.self.now.disciplines c.args.set ≡ Some d =
     sym (ap (λ (v : Seen). slice_get v.disciplines c.args.set) c.self.view_is) ∙ subst (λ (ds : List Discipline). slice_get ds c.args.set ≡ Some d) c.deref.ensures.value at in
-    subst (λ (h : State). FitsMembers h.layout c.args.set d) (sym (ap (λ (v : Seen). v.heap) c.self.view_is)) (c.requires.keys d has)
+    subst (λ (h : State). HasMemberKeys h.layout c.args.set d) (sym (ap (λ (v : Seen). v.heap) c.self.view_is)) (c.requires.keys d has)
 
 pub returns-in-Some : goal.returns-in-Some
 returns-in-Some c = λ d has.
@@ -28,7 +28,7 @@ returns-in-Some c = λ d has.
     let at = slice_get_read c.deref.result.now (length c.deref.result.now) c.args.set k refl c.in-Some.ensures.lookup.3.0 c.in-Some.ensures.lookup.1 in
     let here : slice_get e.disciplines c.args.set ≡ Some k = subst (λ (ds : List Discipline). slice_get ds c.args.set ≡ Some k) c.deref.ensures.value at in
     let has_here : slice_get e.disciplines c.args.set ≡ Some d = ap (λ (v : Seen). slice_get v.disciplines c.args.set) c.self.view_is ∙ has in
-    subst (λ (old : Seen). Rearranges (λ h. filed h d c.args.set o x) old (record e { heap = c.file.new.self }) c.file.result) c.self.view_is
+    subst (λ (old : Seen). HasRearranged (λ h. filed h d c.args.set o x) old (record e { heap = c.file.new.self }) c.file.result) c.self.view_is
     (ruled_by e c.args.set o x k d c.file.new.self c.file.result here has_here (simp (same_o, same_x) at c.file.ensures.done))
 
 pub returns-in-None : goal.returns-in-None

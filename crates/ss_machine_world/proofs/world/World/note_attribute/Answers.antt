@@ -6,7 +6,7 @@ use Rattle.ss_base.specs.declared.value.Value.TheVariants.{Whole}
 use Rattle.ss_program.specs.declared.sections.Subject.TheVariants.{OfAttribute}
 use Rattle.ss_world.specs.State.{modes_of, value_in}
 use Rattle.ss_machine_world.specs.Numbers.{attribute_noted, or_full}
-use Rattle.ss_machine_world.specs.Seen.{Seen, Changes}
+use Rattle.ss_machine_world.specs.Seen.{Seen, HasChanged}
 use Rattle.ss_machine_world.proofs.Noting.{noted_changes, attribute_changes, attribute_not, noted_statistics}
 use Rattle.ss_machine_world.proofs.Starting.{seen_of}
 use Rattle.ss_machine_world.proofs.Said.{said_still}
@@ -23,8 +23,8 @@ returns-in-Ok c =
     let mode : slice_get (modes_of i.population.layout class) field ≡ Some Integer = subst (λ (v : Seen). slice_get (modes_of v.heap.layout class) field ≡ Some Integer) (sym c.self.view_is) c.requires.mode in
     let is : value_in i.population class field x ≡ Ok (Whole n) = subst (λ (z : ℤ). value_in i.population class field z ≡ Ok (Whole n)) same_x c.in-Ok.ensures in
     let noted_it = noted_changes i.disciplines.items i.notices.items i.population (OfAttribute class field) x (Whole n) t w c.note.result (simp (same_x, same_n) at c.note.ensures) in
-    subst (λ (r : OkOr (Unit {0}) FaultKind). Changes (attribute_noted class field x) c.args.self.now f r) (sym c.or_full.ensures)
-    (subst (λ (old : Seen). Changes (attribute_noted class field x) old f (or_full c.note.result)) c.self.view_is
+    subst (λ (r : OkOr (Unit {0}) FaultKind). HasChanged (attribute_noted class field x) c.args.self.now f r) (sym c.or_full.ensures)
+    (subst (λ (old : Seen). HasChanged (attribute_noted class field x) old f (or_full c.note.result)) c.self.view_is
     (attribute_changes e class field x mode f (Whole n) (or_full c.note.result) is noted_it))
 
 pub returns-in-Err : goal.returns-in-Err
@@ -35,7 +35,7 @@ returns-in-Err c =
     let e : Seen = seen_of i.disciplines.items i.notices.items i.population i.timeline in
     let mode : slice_get (modes_of i.population.layout class) field ≡ Some Integer = subst (λ (v : Seen). slice_get (modes_of v.heap.layout class) field ≡ Some Integer) (sym c.self.view_is) c.requires.mode in
     let is : value_in i.population class field x ≡ Err k = subst (λ (z : ℤ). value_in i.population class field z ≡ Err k) same_x c.in-Err.ensures in
-    subst (λ (old : Seen). Changes (attribute_noted class field x) old old (Err k)) c.self.view_is (attribute_not e class field x mode k is)
+    subst (λ (old : Seen). HasChanged (attribute_noted class field x) old old (Err k)) c.self.view_is (attribute_not e class field x mode k is)
 
 pub invariant_of-self : goal.invariant_of-self
 invariant_of-self c =

@@ -6,7 +6,7 @@ use Rattle.ss_program.specs.declared.sections.Subject.TheVariants.{OfCount}
 use Rattle.ss_world.specs.State.{State}
 use Rattle.ss_world.specs.Sets.{count_in}
 use Rattle.ss_machine_world.specs.Numbers.{count_noted, or_full}
-use Rattle.ss_machine_world.specs.Seen.{Seen, Changes}
+use Rattle.ss_machine_world.specs.Seen.{Seen, HasChanged}
 use Rattle.ss_machine_world.proofs.Noting.{noted_changes, counted_changes, not_counted, noted_statistics}
 use Rattle.ss_machine_world.proofs.Starting.{seen_of}
 use Rattle.ss_machine_world.proofs.Said.{said_still}
@@ -23,9 +23,9 @@ returns-in-Ok c =
     let is : Ok n ≡ count_in i.population set o = subst (λ (z : ℤ). Ok n ≡ count_in i.population set z) same_o c.in-Ok.ensures.value in
     let noted_it = noted_changes i.disciplines.items i.notices.items i.population (OfCount set) o (Whole n) t w c.note_count.result (simp (same_o, same_n) at c.note_count.ensures) in
     let done = counted_changes e set o (seen_of i.disciplines.items i.notices.items i.population w) n (or_full c.note_count.result) is noted_it in
-    subst (λ (r : OkOr (Unit {0}) FaultKind). Changes (count_noted set o) c.args.self.now (seen_of i.disciplines.items i.notices.items h w) r) (sym c.or_full.ensures)
-    (subst (λ (old : Seen). Changes (count_noted set o) old (seen_of i.disciplines.items i.notices.items h w) (or_full c.note_count.result)) c.self.view_is
-    (subst (λ (h : State). Changes (count_noted set o) e (seen_of i.disciplines.items i.notices.items h w) (or_full c.note_count.result)) (sym stays) done))
+    subst (λ (r : OkOr (Unit {0}) FaultKind). HasChanged (count_noted set o) c.args.self.now (seen_of i.disciplines.items i.notices.items h w) r) (sym c.or_full.ensures)
+    (subst (λ (old : Seen). HasChanged (count_noted set o) old (seen_of i.disciplines.items i.notices.items h w) (or_full c.note_count.result)) c.self.view_is
+    (subst (λ (h : State). HasChanged (count_noted set o) e (seen_of i.disciplines.items i.notices.items h w) (or_full c.note_count.result)) (sym stays) done))
 
 pub returns-in-Err : goal.returns-in-Err
 returns-in-Err c =
@@ -34,8 +34,8 @@ returns-in-Err c =
     let same_o : to_z w64 (of_z w64 o) ≡ o = search rules in
     let e : Seen = seen_of i.disciplines.items i.notices.items i.population i.timeline in
     let is : Err k ≡ count_in i.population set o = subst (λ (z : ℤ). Err k ≡ count_in i.population set z) same_o c.in-Err.ensures.value in
-    subst (λ (old : Seen). Changes (count_noted set o) old (seen_of i.disciplines.items i.notices.items h i.timeline) (Err k)) c.self.view_is
-    (subst (λ (h : State). Changes (count_noted set o) e (seen_of i.disciplines.items i.notices.items h i.timeline) (Err k)) (sym c.in-Err.ensures.same) (not_counted e set o k is))
+    subst (λ (old : Seen). HasChanged (count_noted set o) old (seen_of i.disciplines.items i.notices.items h i.timeline) (Err k)) c.self.view_is
+    (subst (λ (h : State). HasChanged (count_noted set o) e (seen_of i.disciplines.items i.notices.items h i.timeline) (Err k)) (sym c.in-Err.ensures.same) (not_counted e set o k is))
 
 pub invariant_of-self : goal.invariant_of-self
 invariant_of-self c =

@@ -5,8 +5,8 @@ use Rattle.ss_base.specs.declared.value.Value.TheVariants.{Whole}
 use Rattle.ss_program.specs.declared.sections.Subject.TheVariants.{OfVariable}
 use Rattle.ss_meaning.specs.Histories.{noted}
 use Rattle.ss_machine_world.specs.Numbers.{or_full}
-use Rattle.ss_machine_world.specs.Seen.{Seen, Changes}
-use Rattle.ss_machine_time.specs.Times.{Noted}
+use Rattle.ss_machine_world.specs.Seen.{Seen, HasChanged}
+use Rattle.ss_machine_time.specs.Times.{IsNoted}
 use Rattle.ss_machine_world.proofs.Noting.{noted_changes, noted_statistics}
 use Rattle.ss_machine_world.proofs.Starting.{seen_of}
 use Rattle.ss_machine_world.proofs.Said.{said_still}
@@ -18,9 +18,9 @@ returns c =
     let i = c.self.inside in let t = i.timeline in let w = c.note.new.self in
     let same : to_z w64 (of_z w64 v) ≡ v = search rules in
     let f : Seen = seen_of i.disciplines.items i.notices.items i.population w in
-    subst (λ (r : OkOr (Unit {0}) FaultKind). Changes (noted subject (pos 0) (Whole v)) c.args.self.now f r) (sym c.or_full.ensures)
-    (subst (λ (old : Seen). Changes (noted subject (pos 0) (Whole v)) old f (or_full c.note.result)) c.self.view_is
-    (noted_changes i.disciplines.items i.notices.items i.population subject (pos 0) (Whole v) t w c.note.result (subst (λ (z : ℤ). Noted subject (pos 0) (Whole z) t w c.note.result) same c.note.ensures)))
+    subst (λ (r : OkOr (Unit {0}) FaultKind). HasChanged (noted subject (pos 0) (Whole v)) c.args.self.now f r) (sym c.or_full.ensures)
+    (subst (λ (old : Seen). HasChanged (noted subject (pos 0) (Whole v)) old f (or_full c.note.result)) c.self.view_is
+    (noted_changes i.disciplines.items i.notices.items i.population subject (pos 0) (Whole v) t w c.note.result (subst (λ (z : ℤ). IsNoted subject (pos 0) (Whole z) t w c.note.result) same c.note.ensures)))
 
 pub invariant_of-self : goal.invariant_of-self
 invariant_of-self c =

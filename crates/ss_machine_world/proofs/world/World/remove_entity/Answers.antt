@@ -8,7 +8,7 @@ use Rattle.ss_meaning.specs.Entities.{is_single, gone}
 use Rattle.ss_meaning.specs.Histories.{ending}
 use Rattle.ss_machine_world.specs.declared.class.ClassEntry.{ClassEntry}
 use Rattle.ss_machine_world.specs.Classes.{AreSaid}
-use Rattle.ss_machine_world.specs.Seen.{Seen, Changes}
+use Rattle.ss_machine_world.specs.Seen.{Seen, HasChanged}
 use Rattle.ss_machine_world.proofs.Leaving.{gone_ended, gone_not}
 use Rattle.ss_machine_world.proofs.Starting.{seen_of, seen_moved}
 use Rattle.ss_machine_world.proofs.Said.{said_still}
@@ -43,7 +43,7 @@ returns-in-Ok c =
     c.end_histories.ensures.ended
     ∙ ap (λ (l : Layout). ending l class (to_z w64 (of_z w64 n)) t.histories.statistics (columns t)) c.layout.ensures
     ∙ ap (λ (z : ℤ). ending h.layout class z t.histories.statistics (columns t)) same in
-    subst (λ (old : Seen). Changes (gone class (Whole n)) old f (Ok tt)) c.self.view_is (gone_ended e class n single f h moved done ended)
+    subst (λ (old : Seen). HasChanged (gone class (Whole n)) old f (Ok tt)) c.self.view_is (gone_ended e class n single f h moved done ended)
 
 pub returns-in-Err : goal.returns-in-Err
 returns-in-Err c =
@@ -53,7 +53,7 @@ returns-in-Err c =
     let same : to_z w64 (of_z w64 n) ≡ n = search rules in
     let single : is_single (slice_get e.heap.layout.classes class) ≡ true = subst (λ (v : Seen). is_single (slice_get v.heap.layout.classes class) ≡ true) (sym c.self.view_is) c.requires.single in
     let no : destroyed e.heap class n ≡ Err k = subst (λ (z : ℤ). destroyed e.heap class z ≡ Err k) same c.in-Err.ensures.done.0 in
-    subst (λ (old : Seen). Changes (gone class (Whole n)) old (record e { heap = h }) (Err k)) c.self.view_is (gone_not e class n single h k no c.in-Err.ensures.done.1)
+    subst (λ (old : Seen). HasChanged (gone class (Whole n)) old (record e { heap = h }) (Err k)) c.self.view_is (gone_not e class n single h k no c.in-Err.ensures.done.1)
 
 pub invariant_of-self : goal.invariant_of-self
 invariant_of-self c =

@@ -6,7 +6,7 @@ use Rattle.ss_machine_time.specs.Figures.{renewed_known}
 use Rattle.ss_machine_time.specs.Records.{renewed_where}
 use Rattle.ss_machine_time.specs.Times.{columns}
 use Rattle.ss_meaning.specs.Histories.{renewed}
-use Rattle.ss_machine_world.specs.Seen.{Seen, Changes}
+use Rattle.ss_machine_world.specs.Seen.{Seen, HasChanged}
 use Rattle.ss_machine_world.proofs.Figured.{renew_changes, renew_wrong}
 use Rattle.ss_machine_world.proofs.Starting.{seen_of}
 use Rattle.ss_machine_world.proofs.Said.{said_still}
@@ -23,12 +23,12 @@ returns c =
     let f : Seen = seen_of i.disciplines.items i.notices.items i.population w in
     elim c.if-renew.branch [
       | then-renew b ↦
-          subst (λ (r : OkOr (Unit {0}) FaultKind). Changes (renewed_known j x p) c.args.self.now f r) (sym b.result-is)
-          (subst (λ (old : Seen). Changes (renewed_known j x p) old f (Ok tt)) c.self.view_is
+          subst (λ (r : OkOr (Unit {0}) FaultKind). HasChanged (renewed_known j x p) c.args.self.now f r) (sym b.result-is)
+          (subst (λ (old : Seen). HasChanged (renewed_known j x p) old f (Ok tt)) c.self.view_is
           (renew_changes i.disciplines.items i.notices.items i.population t w j x p (subst (λ b. renewed j x t.time p (columns t) ≡ renewed_where b (columns w)) b.if-renew.true is) c.renew.ensures.same))
       | else-renew b ↦
-          subst (λ (r : OkOr (Unit {0}) FaultKind). Changes (renewed_known j x p) c.args.self.now f r) (sym b.result-is)
-          (subst (λ (old : Seen). Changes (renewed_known j x p) old f (Err NoEntity)) c.self.view_is
+          subst (λ (r : OkOr (Unit {0}) FaultKind). HasChanged (renewed_known j x p) c.args.self.now f r) (sym b.result-is)
+          (subst (λ (old : Seen). HasChanged (renewed_known j x p) old f (Err NoEntity)) c.self.view_is
           (renew_wrong i.disciplines.items i.notices.items i.population t w j x p (subst (λ b. renewed j x t.time p (columns t) ≡ renewed_where b (columns w)) b.if-renew.false is) (c.renew.ensures.unchanged b.if-renew.false)))
     ]
 

@@ -3,7 +3,7 @@ use Rattle.std.proofs.lemmas.Result.{err_from_is_err_and}
 use Rattle.ss_tree.specs.View.{view_clause}
 use Rattle.ss_parse.specs.ReadPreambles.{clause}
 use Rattle.ss_parse.proofs.Clauses.{clauses_loop}
-use Rattle.ss_parse_expressions.specs.Reading.{FailsReading}
+use Rattle.ss_parse_expressions.specs.Reading.{HasFailedReading}
 use Rattle.ss_parse_expressions.proofs.Rows.{grows, breaks, is_done}
 use Rattle.ss_parse.proofs.reading.preambles.clause_list.Goals as goal
 
@@ -19,4 +19,4 @@ returns c = is_done view_clause clauses_loop _ _ _ (sym c.begins_more_clauses.en
 pub returns-in_err-next : goal.returns-in_err-next
 returns-in_err-next c =
     let p = err_from_is_err_and c.from_residual-in_err-next.result c.from_residual-in_err-next.ensures.1 in
-    rw (p.1, p.2) (breaks view_clause clauses_loop _ _ _ _ (sym c.begins_more_clauses.ensures ∙ c.more-test.true) (subst (λ r. FailsReading c.in_err-next.field-0.0 (clause r)) c.skip_separator.ensures c.in_err-next.ensures) c.more.invariant)
+    rw (p.1, p.2) (breaks view_clause clauses_loop _ _ _ _ (sym c.begins_more_clauses.ensures ∙ c.more-test.true) (subst (λ r. HasFailedReading c.in_err-next.field-0.0 (clause r)) c.skip_separator.ensures c.in_err-next.ensures) c.more.invariant)

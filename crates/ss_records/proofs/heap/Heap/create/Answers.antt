@@ -1,7 +1,7 @@
 use Rattle.std.proofs.Common.{◌≡◌, ◌*◌, ap, subst, ◌∙◌}
 use Rattle.std.specs.Prelude.{MatchResult, Ok}
 use Rattle.ss_base.specs.declared.layout.Owner.TheVariants.{Class}
-use Rattle.ss_world.specs.State.{Heaped, State, RefusedFor, created}
+use Rattle.ss_world.specs.State.{Heaped, State, IsRefusalOf, created}
 use Rattle.ss_records_words.specs.Shape.{set_places}
 use Rattle.ss_records_entities.specs.Parts.{state}
 use Rattle.ss_records.proofs.heap.Heap.create.Goals as goal
@@ -9,7 +9,7 @@ use Rattle.ss_records.proofs.heap.Heap.create.Goals as goal
 pub returns-clause-done : goal.returns-clause-done
 returns-clause-done c =
     let e : state c.start.new.self ≡ c.args.self.now.state = ap state c.start.ensures ∙ ap (λ (w : Heaped). w.state) c.self.view_is in
-    subst (λ (s : State). MatchResult c.create.result (λ n. created s c.args.class ≡ Ok (n, state c.create.new.self)) (λ r. (state c.create.new.self ≡ s) × RefusedFor (created s c.args.class) r)) e c.create.ensures.done
+    subst (λ (s : State). MatchResult c.create.result (λ n. created s c.args.class ≡ Ok (n, state c.create.new.self)) (λ r. (state c.create.new.self ≡ s) × IsRefusalOf (created s c.args.class) r)) e c.create.ensures.done
 
 pub returns-clause-links : goal.returns-clause-links
 returns-clause-links c =

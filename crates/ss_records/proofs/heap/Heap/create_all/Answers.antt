@@ -2,7 +2,7 @@ use Rattle.std.proofs.Common.{◌≡◌, ◌*◌, ap, subst, ◌∙◌}
 use Rattle.std.specs.Prelude.{nat_abs, MatchResult, Ok}
 use Rattle.std.proofs.lemmas.Int.{to_z-of_z}
 use Rattle.ss_base.specs.declared.layout.Owner.TheVariants.{Class}
-use Rattle.ss_world.specs.State.{Heaped, State, RefusedFor, created_all}
+use Rattle.ss_world.specs.State.{Heaped, State, IsRefusalOf, created_all}
 use Rattle.ss_records_words.specs.Shape.{set_places}
 use Rattle.ss_records_entities.specs.Parts.{state}
 use Rattle.ss_records.proofs.heap.Heap.create_all.Goals as goal
@@ -11,7 +11,7 @@ pub returns-clause-done : goal.returns-clause-done
 returns-clause-done c =
     let e : state c.start.new.self ≡ c.args.self.now.state = ap state c.start.ensures ∙ ap (λ (w : Heaped). w.state) c.self.view_is in
     let fits = c.ranges.n in let h = simp to_z-of_z at c.create_all.ensures.done in
-    subst (λ (s : State). MatchResult c.create_all.result (λ _. created_all s c.args.class c.args.n ≡ Ok (state c.create_all.new.self)) (λ r. (state c.create_all.new.self ≡ s) × RefusedFor (created_all s c.args.class c.args.n) r)) e h
+    subst (λ (s : State). MatchResult c.create_all.result (λ _. created_all s c.args.class c.args.n ≡ Ok (state c.create_all.new.self)) (λ r. (state c.create_all.new.self ≡ s) × IsRefusalOf (created_all s c.args.class c.args.n) r)) e h
 
 pub returns-clause-links : goal.returns-clause-links
 returns-clause-links c =

@@ -2,7 +2,7 @@ use Rattle.std.proofs.Common.{◌≡◌, ◌+◌, length, slice_get, slice_set, 
 use Rattle.std.specs.Ordering.{nat_cmp}
 use Rattle.std.specs.BTreeMap.{is_at}
 use Rattle.std.specs.Map.{set_value}
-use Rattle.ss_records_blocks.specs.Pages.{Page, Pages, Spots, Rises, under, page_of, pages_held}
+use Rattle.ss_records_blocks.specs.Pages.{Page, Pages, Spots, AreRising, under, page_of, pages_held}
 use Rattle.ss_records_blocks.proofs.Rising.{read_is, rises_written}
 use Rattle.ss_records_blocks.proofs.Holding.{page_in, no_page, none_is, page_written, written_updates, written_count}
 use Rattle.ss_records_blocks.proofs.pages.PageMap.clear.Goals as goal
@@ -30,7 +30,7 @@ put c page was = let e = read c page was in λ z. slice_set c.self.inside.spots.
 pub invariant_of-self : goal.invariant_of-self
 invariant_of-self c =
     let ss = c.self.inside.spots.items in let page = c.requires.there.0 in let was = c.requires.there.2 in
-    subst (λ (rs : Spots). Rises rs × (c.self.inside.empty + length (pages_held rs) ≡ length rs)) (sym (put c page was))
+    subst (λ (rs : Spots). AreRising rs × (c.self.inside.empty + length (pages_held rs) ≡ length rs)) (sym (put c page was))
     (rises_written ss c.self.invariant.0 c.in-Some.at c.args.number (Some page) (had c page was) (Some (slice_set page c.args.k None)), written_count ss c.self.invariant.0 c.in-Some.at c.args.number page (had c page was) (slice_set page c.args.k None) c.self.inside.empty c.self.invariant.1)
 
 pub returns-in-Some-clause-cleared : goal.returns-in-Some-clause-cleared

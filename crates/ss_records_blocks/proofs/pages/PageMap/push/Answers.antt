@@ -1,5 +1,5 @@
 use Rattle.std.proofs.Common.{◌≡◌, ◌+◌, ◌++◌, ◌∷◌, [], length, Some, sym, ap, subst, ◌∙◌}
-use Rattle.ss_records_blocks.specs.Pages.{Page, Pages, Spots, Rises, pages_held}
+use Rattle.ss_records_blocks.specs.Pages.{Page, Pages, Spots, AreRising, pages_held}
 use Rattle.ss_records_blocks.proofs.Rising.{rises_push}
 use Rattle.ss_records_blocks.proofs.Holding.{held_pushed, count_pushed}
 use Rattle.ss_records_blocks.proofs.pages.PageMap.push.Goals as goal
@@ -11,7 +11,7 @@ pushed c = c.push_reserved.ensures.items ∙ ap (λ (ss : Spots). ss ++ (c.args.
 pub invariant_of-self-2 : goal.invariant_of-self-2
 invariant_of-self-2 c =
     let ss : Spots = c.tidy-self-inside.new.spots.items in let e = c.tidy-self-inside.ensures in
-    subst (λ (rs : Spots). Rises rs × (c.tidy-self-inside.result + length (pages_held rs) ≡ length rs)) (sym (pushed c))
+    subst (λ (rs : Spots). AreRising rs × (c.tidy-self-inside.result + length (pages_held rs) ≡ length rs)) (sym (pushed c))
     (rises_push ss c.args.number (Some c.replace-full.result) e.rises e.above, count_pushed c.tidy-self-inside.result ss c.args.number c.replace-full.result e.count)
 
 pub returns : goal.returns

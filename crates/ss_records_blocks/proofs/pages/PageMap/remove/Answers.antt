@@ -2,7 +2,7 @@ use Rattle.std.proofs.Common.{◌≡◌, ◌+◌, length, slice_get, slice_set, 
 use Rattle.std.specs.Ordering.{nat_cmp}
 use Rattle.std.specs.BTreeMap.{is_at}
 use Rattle.std.specs.Map.{remove_entry}
-use Rattle.ss_records_blocks.specs.Pages.{Page, Pages, Spots, Rises, under, page_of, pages_held}
+use Rattle.ss_records_blocks.specs.Pages.{Page, Pages, Spots, AreRising, under, page_of, pages_held}
 use Rattle.ss_records_blocks.proofs.Rising.{read_is, rises_written}
 use Rattle.ss_records_blocks.proofs.Holding.{page_in, no_page, page_gone, gone_count, gone_updates, same_again, none_gone}
 use Rattle.ss_records_blocks.proofs.pages.PageMap.remove.Goals as goal
@@ -46,7 +46,7 @@ none c =
 pub invariant_of-self : goal.invariant_of-self
 invariant_of-self c =
     let ss = c.self.inside.spots.items in
-    subst (λ (rs : Spots). Rises rs × (c.self.inside.empty + 1 + length (pages_held rs) ≡ length rs)) (sym (put c))
+    subst (λ (rs : Spots). AreRising rs × (c.self.inside.empty + 1 + length (pages_held rs) ≡ length rs)) (sym (put c))
     (rises_written ss c.self.invariant.0 c.in-Some.at c.args.number (Some c.in-Some-take._page) (had c) None, gone_count ss c.self.invariant.0 c.in-Some.at c.args.number c.in-Some-take._page (had c) c.self.inside.empty c.self.invariant.1)
 
 pub returns-in-Some-take-clause-entries : goal.returns-in-Some-take-clause-entries

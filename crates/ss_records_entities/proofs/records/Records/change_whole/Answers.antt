@@ -6,7 +6,7 @@ use Rattle.ss_base.specs.declared.layout.Mode.TheVariants.{Integer}
 use Rattle.ss_base.specs.Arithmetic.{plus_of, minus_of}
 use Rattle.ss_world.specs.State.{and_then}
 use Rattle.ss_records_entities.specs.Attributes.{changed_number}
-use Rattle.ss_records_words.specs.Reading.{PutsValue}
+use Rattle.ss_records_words.specs.Reading.{IsValuePut}
 use Rattle.ss_records_entities.proofs.Attributes.{found_first, found_second, found_value, found_kept, found_length, found_assigned, found_reads}
 use Rattle.ss_records_entities.proofs.Still.{few_fields}
 use Rattle.ss_records_entities.proofs.records.Records.change_whole.Goals as goal
@@ -37,7 +37,7 @@ returns-in-Ok-changed-clause-done c =
     let r = c.args.self.now in let f = c.in-Ok.ensures.found in let fits = c.ranges.r in let f = simp to_z-of_z at c.in-Ok.ensures.found in let before : to_z w64 (of_z w64 c.whole.result) ≡ c.whole.result = search rules in
     let change = if c.args.subtract then minus_of else plus_of in let by : to_z w64 (of_z w64 c.args.n) ≡ c.args.n = search rules in
     let changed : to_z w64 (of_z w64 c.in-Ok-changed.number) ≡ c.in-Ok-changed.number = search rules in
-    let written = subst (λ z. PutsValue r.blocks.cells c.set_whole.new.blocks.cells c.in-Ok.place.at c.value_start-k.result (Whole z)) changed c.set_whole.ensures.written in
+    let written = subst (λ z. IsValuePut r.blocks.cells c.set_whole.new.blocks.cells c.in-Ok.place.at c.value_start-k.result (Whole z)) changed c.set_whole.ensures.written in
     let read = found_value r c.requires.kept c.args.class c.args.r c.in-Ok.place f c.args.field c.value_start-k.result c.value_start-k.ensures.at Integer c.requires.mode ∙ ap Ok (sym c.whole.ensures) in
     record {
       number = c.in-Ok-changed.number;

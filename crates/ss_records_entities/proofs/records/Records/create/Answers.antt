@@ -3,10 +3,10 @@ use Rattle.std.specs.Prelude.{pos}
 use Rattle.std.proofs.lemmas.Int.{ints}
 use Rattle.std.specs.Int.{cast_signed}
 use mir.Syntax.{w64}
-use Rattle.ss_records_words.specs.Laid.{Laid}
+use Rattle.ss_records_words.specs.Laid.{IsLaid}
 use Rattle.ss_records_blocks.specs.Cells.{blanks}
 use Rattle.ss_world.specs.State.{LAST_NUMBER}
-use Rattle.ss_records_words.specs.Kept.{Kept, state_of}
+use Rattle.ss_records_words.specs.Kept.{ArePartsKept, state_of}
 use Rattle.ss_records_entities.specs.Parts.{places}
 use Rattle.ss_records_blocks.proofs.Puts.{words_new, word_blank, length-blanks}
 use Rattle.ss_records_entities.proofs.Creates.{room_for_one, kept_created, is_created}
@@ -33,7 +33,7 @@ pub returns-in-Ok-push-clause-kept : goal.returns-in-Ok-push-clause-kept
 returns-in-Ok-push-clause-kept c =
     let r = c.args.self.now in let l = r.layout in let cs = r.blocks.cells in let q = c.in-Ok.place in let w = c.block_words-words.result in let ds = c.lay.new.blocks.cells in
     let n : c.len-i.result + 1 ≡ length r.directory.places + 1 = ap (λ k. k + 1) c.len-i.ensures in
-    let laid = subst (λ k. Laid l ((q.at, blanks w) ∷ cs) ds r.system.at q.at c.args.class k) n (subst (λ bs. Laid l bs ds r.system.at q.at c.args.class (c.len-i.result + 1)) c.in-Ok.ensures.placed.1 c.lay.ensures.laid) in
+    let laid = subst (λ k. IsLaid l ((q.at, blanks w) ∷ cs) ds r.system.at q.at c.args.class k) n (subst (λ bs. IsLaid l bs ds r.system.at q.at c.args.class (c.len-i.result + 1)) c.in-Ok.ensures.placed.1 c.lay.ensures.laid) in
     let room : length r.directory.places < LAST_NUMBER = omega (arith, c.len-i.ensures, c.if-i-ge-LAST_NUMBER.false) in
     rw c.in-Ok-push.ensures (kept_created l cs r.system.at (places r) r.notes.lists c.requires.kept q c.in-Ok.ensures.placed.0 w c.args.class c.block_words-words.ensures.size ds laid c.requires.kind c.requires.class room)
 
@@ -41,7 +41,7 @@ pub returns-in-Ok-push-clause-done : goal.returns-in-Ok-push-clause-done
 returns-in-Ok-push-clause-done c =
     let r = c.args.self.now in let l = r.layout in let cs = r.blocks.cells in let q = c.in-Ok.place in let w = c.block_words-words.result in let ds = c.lay.new.blocks.cells in
     let n : c.len-i.result + 1 ≡ length r.directory.places + 1 = ap (λ k. k + 1) c.len-i.ensures in
-    let laid = subst (λ k. Laid l ((q.at, blanks w) ∷ cs) ds r.system.at q.at c.args.class k) n (subst (λ bs. Laid l bs ds r.system.at q.at c.args.class (c.len-i.result + 1)) c.in-Ok.ensures.placed.1 c.lay.ensures.laid) in
+    let laid = subst (λ k. IsLaid l ((q.at, blanks w) ∷ cs) ds r.system.at q.at c.args.class k) n (subst (λ bs. IsLaid l bs ds r.system.at q.at c.args.class (c.len-i.result + 1)) c.in-Ok.ensures.placed.1 c.lay.ensures.laid) in
     let room : length r.directory.places < LAST_NUMBER = omega (arith, c.len-i.ensures, c.if-i-ge-LAST_NUMBER.false) in
     let z : cast_signed w64 (c.len-i.result + 1) ≡ pos (length r.directory.places + 1) = omega (arith, ints, n, room) in
     rw c.in-Ok-push.ensures (is_created l cs r.system.at (places r) r.notes.lists c.requires.kept q c.in-Ok.ensures.placed.0 w c.args.class c.block_words-words.ensures.size ds laid c.requires.kind c.requires.class room _ z)
@@ -70,7 +70,7 @@ pub returns-in_default : goal.returns-in_default
 returns-in_default c =
     let r = c.args.self.now in
     record {
-      kept = subst (λ bs. Kept r.layout bs r.system.at (places r) r.notes.lists) (sym c.in_default.ensures.placed) c.requires.kept;
+      kept = subst (λ bs. ArePartsKept r.layout bs r.system.at (places r) r.notes.lists) (sym c.in_default.ensures.placed) c.requires.kept;
       done = (ap (λ bs. state_of r.layout bs (places r) r.notes.lists) c.in_default.ensures.placed, one_left r.layout r.blocks.cells (places r) r.notes.lists c.args.class c.len-i.result c.len-i.ensures c.if-i-ge-LAST_NUMBER.false);
       touches = let b = c.place.new.self in rests r.blocks.touches r.blocks.total b.touches b.total c.requires.touches c.in_default.ensures.touches;
       links = c.in_default.ensures.touches.0 ∙ c.requires.touches;

@@ -8,7 +8,7 @@ use Rattle.ss_records_entities.specs.declared.records.Records.{Records}
 use Rattle.ss_records_blocks.specs.Cells.{without_block, words_at}
 use Rattle.ss_records_words.specs.Places.{lying}
 use Rattle.ss_records_words.specs.Shape.{block_words, set_places}
-use Rattle.ss_records_words.specs.Kept.{Kept, state_of}
+use Rattle.ss_records_words.specs.Kept.{ArePartsKept, state_of}
 use Rattle.ss_world.specs.State.{destroyed}
 use Rattle.ss_records_entities.specs.Parts.{places, state, uncounted}
 use Rattle.ss_records_entities.proofs.Destroys.{its_size, kept_destroyed, is_destroyed}
@@ -47,7 +47,7 @@ returns-in-Ok c =
     record {
       kept =
           let k = kept_destroyed r.layout r.blocks.cells r.system.at (places r) r.notes.lists c.requires.kept f.index p m0 (free_by r.layout r.blocks.cells r.system.at (places r) r.notes.lists c.requires.kept f.index p m0 c.args.class f.class c.in-Ok.ensures.found.1 c.in-Ok.ensures.found.2) in
-          rw (c.give_back.ensures.cells, c.clear.ensures, n) (subst (λ (z : Records). Kept z.layout (without_block q.blocks.cells p.at) z.system.at (lying (slice_set z.directory.places f.index None) z.permanents.items) z.notes.lists) (sym whole) (rw cells k));
+          rw (c.give_back.ensures.cells, c.clear.ensures, n) (subst (λ (z : Records). ArePartsKept z.layout (without_block q.blocks.cells p.at) z.system.at (lying (slice_set z.directory.places f.index None) z.permanents.items) z.notes.lists) (sym whole) (rw cells k));
       done =
           let fits = c.ranges.r in let h = simp to_z-of_z at c.in-Ok.ensures.found in
           let k = is_destroyed r.layout r.blocks.cells r.system.at (places r) r.notes.lists c.requires.kept f.index p m0 c.args.class c.args.r h.0.is h.0.entity c.in-Ok.ensures.found.1 c.in-Ok.ensures.found.2 in

@@ -1,7 +1,7 @@
 use Rattle.std.proofs.Common.{◌≡◌, arith, refl, sym, ap, subst}
 use Rattle.std.proofs.lemmas.Int.{ints, to_z-of_z}
 use Rattle.ss_records_blocks.specs.Cells.{link, word_at}
-use Rattle.ss_records_blocks.specs.Links.{Leads}
+use Rattle.ss_records_blocks.specs.Links.{HasLink}
 use Rattle.ss_records_entities.specs.Parts.{state}
 use Rattle.ss_records_entities.proofs.Looks.{end_leads, end_small, end_value, no_end}
 use Rattle.ss_records_entities.proofs.Still.{reads_only, kept_still, room_first, one_touch, no_touch}
@@ -17,7 +17,7 @@ pub follow-end-requires : goal.follow-end-requires
 follow-end-requires c =
     let r = c.args.self.now in let e = c.in-Ok.owner in let base = c.owner_base-base in
     record {
-      leads = subst (λ k. Leads r.blocks.cells e.place.at k) (sym c.beside.ensures) (end_leads r c.requires.kept c.args.s c.requires.set e c.in-Ok.ensures.found.0 base.result base.ensures.at c.args.is_last);
+      leads = subst (λ k. HasLink r.blocks.cells e.place.at k) (sym c.beside.ensures) (end_leads r c.requires.kept c.args.s c.requires.set e c.in-Ok.ensures.found.0 base.result base.ensures.at c.args.is_last);
       room = room_first r.blocks.touches r.blocks.total 0 0 c.requires.touches;
     }
 

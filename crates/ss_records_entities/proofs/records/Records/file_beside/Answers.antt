@@ -2,7 +2,7 @@ use Rattle.std.proofs.Common.{◌≡◌, ◌+◌, ◌∷◌, ◌++◌, true, fal
 use Rattle.std.specs.Prelude.{if◌then◌else◌}
 use Rattle.std.proofs.lemmas.Int.{to_z-of_z}
 use Rattle.ss_records_blocks.specs.Cells.{link, number, word_at}
-use Rattle.ss_records_blocks.specs.Links.{Leads}
+use Rattle.ss_records_blocks.specs.Links.{HasLink}
 use Rattle.ss_world.specs.State.{State}
 use Rattle.ss_world.specs.Sets.{with_list_of}
 use Rattle.ss_records_entities.specs.Parts.{state, uncounted}
@@ -70,7 +70,7 @@ follow-neighbour-requires c =
     record {
       leads =
           let there = listed_still p1 r (sym h1) c.args.s o y.number true (sym c.is_in.ensures.value ∙ c.if-not-is_in.false) in let cells : p.blocks.cells ≡ r.blocks.cells = c.is_in.ensures.cells ∙ c.is_filed.ensures.cells in
-          rw cells (subst (λ k. Leads r.blocks.cells y.place.at k) (sym c.beside-word.ensures) (beside_found r c.requires.kept c.args.s c.requires.set y j base.result base.ensures.at o there c.args.is_before));
+          rw cells (subst (λ k. HasLink r.blocks.cells y.place.at k) (sym c.beside-word.ensures) (beside_found r c.requires.kept c.args.s c.requires.set y j base.result base.ensures.at o there c.args.is_before));
       room = then_room r.blocks.touches r.blocks.total p1.blocks.touches p1.blocks.total c.requires.touches c.is_filed.ensures.touches p.blocks.touches p.blocks.total c.is_in.ensures.touches;
     }
 

@@ -2,7 +2,7 @@ use Rattle.std.proofs.Common.{◌≡◌, ℕ, refl, ◌<◌, ◌+◌, ◌*◌, i
 use Rattle.ss_base.specs.declared.layout.Owner.TheVariants.{Class}
 use Rattle.ss_records_entities.specs.declared.records.Records.{Records}
 use Rattle.ss_records_blocks.specs.Cells.{link, number, word_at}
-use Rattle.ss_records_blocks.specs.Links.{Leads}
+use Rattle.ss_records_blocks.specs.Links.{HasLink}
 use Rattle.ss_records_words.specs.Shape.{links_start}
 use Rattle.ss_records_entities.proofs.Linked.{Here, here, at_first, room, found, after, at_last, few_touched}
 use Rattle.ss_records_entities.proofs.OwnLinks.{leads_on, filed_there, filed_nowhere}
@@ -33,7 +33,7 @@ links-init c = record {
 pub follow-next-requires-clause-leads : goal.follow-next-requires-clause-leads
 follow-next-requires-clause-leads c =
     let r = c.args.self.now in let e = c.requires.entry in let h = links_here (goal.at.follow-next-requires-clause-leads c).In-links in
-    subst (λ cs. Leads cs c.args.place.at c.links.k) (sym c.links.invariant.cells)
+    subst (λ cs. HasLink cs c.args.place.at c.links.k) (sym c.links.invariant.cells)
     (leads_on r c.requires.kept h.at h.set h.there e.0 c.args.place e.1 (c.requires.class ∙ sym h.joined) c.links.k h.base)
 
 pub follow-next-requires-clause-room : goal.follow-next-requires-clause-room

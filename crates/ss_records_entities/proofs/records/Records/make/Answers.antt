@@ -1,7 +1,7 @@
 use Rattle.std.proofs.Common.{◌≡◌, ◌≤◌, ◌*◌, ◌^◌, length, ap, subst, ◌∙◌, arith}
 use Rattle.ss_base.specs.declared.layout.Owner.TheVariants.{Class}
 use Rattle.ss_records_words.specs.Shape.{set_places}
-use Rattle.ss_records_words.specs.Laid.{LaidTo}
+use Rattle.ss_records_words.specs.Laid.{AreLaidTo}
 use Rattle.ss_records_entities.specs.Parts.{places}
 use Rattle.ss_records_entities.proofs.Made.{kept_unchanged, state_unchanged, room_for_all, kept_made, state_made}
 use Rattle.ss_records_entities.proofs.records.Records.make.Goals as goal
@@ -18,13 +18,13 @@ returns-in_default-clause-done c = let r = c.args.self.now in state_unchanged r.
 pub returns-clause-kept : goal.returns-clause-kept
 returns-clause-kept c =
     let r = c.args.self.now in let ps = c.in-Ok.places.items in let few : length ps ≤ 2 ^ 20 = omega (arith, c.in-Ok.ensures.placed.0, c.requires.few) in
-    let laid = subst (λ us. LaidTo r.layout c.place_all.new.blocks.cells c.lay_all.new.blocks.cells r.system.at us c.args.class (length us)) c.deref.ensures.value c.lay_all.ensures.laid in
+    let laid = subst (λ us. AreLaidTo r.layout c.place_all.new.blocks.cells c.lay_all.new.blocks.cells r.system.at us c.args.class (length us)) c.deref.ensures.value c.lay_all.ensures.laid in
     rw c.of.ensures (kept_made r.layout r.blocks.cells r.system.at (places r) r.notes.lists c.requires.kept c.args.class c.requires.kind c.requires.class c.requires.free c.place_all.new.blocks.cells c.lay_all.new.blocks.cells c.block_words-words.result ps c.in-Ok.ensures.placed.1 laid few)
 
 pub returns-clause-done : goal.returns-clause-done
 returns-clause-done c =
     let r = c.args.self.now in let ps = c.in-Ok.places.items in let few : length ps ≤ 2 ^ 20 = omega (arith, c.in-Ok.ensures.placed.0, c.requires.few) in
-    let laid = subst (λ us. LaidTo r.layout c.place_all.new.blocks.cells c.lay_all.new.blocks.cells r.system.at us c.args.class (length us)) c.deref.ensures.value c.lay_all.ensures.laid in
+    let laid = subst (λ us. AreLaidTo r.layout c.place_all.new.blocks.cells c.lay_all.new.blocks.cells r.system.at us c.args.class (length us)) c.deref.ensures.value c.lay_all.ensures.laid in
     rw c.of.ensures (state_made r.layout r.blocks.cells r.system.at (places r) r.notes.lists c.requires.kept c.args.class c.requires.kind c.requires.class c.requires.free c.place_all.new.blocks.cells c.lay_all.new.blocks.cells c.block_words-words.result ps c.in-Ok.ensures.placed.1 laid few c.args.count c.in-Ok.ensures.placed.0)
 
 pub returns-clause-links : goal.returns-clause-links

@@ -2,7 +2,7 @@ use Rattle.std.proofs.Common.{rules, ◌≡◌, ◌+◌, ◌≤◌, ◌<◌, ◌
 use Rattle.std.proofs.lemmas.Int.{ints, of_z-to_z}
 use Rattle.std.proofs.lemmas.Option.{none-some}
 use Rattle.ss_records_blocks.specs.Cells.{link, number, word_at}
-use Rattle.ss_records_blocks.specs.Links.{Leads}
+use Rattle.ss_records_blocks.specs.Links.{HasLink}
 use Rattle.ss_records_entities.proofs.Looks.{owner_leads, owner_small, owner_has}
 use Rattle.ss_records_entities.proofs.Onward.{beside_leads, beside_small, beside_free, beside_filed, beside_value, in_its, in_none, its_only}
 use Rattle.ss_records_entities.specs.declared.records.Records.{Records}
@@ -22,7 +22,7 @@ pub follow-neighbour-requires-clause-leads : goal.follow-neighbour-requires-clau
 follow-neighbour-requires-clause-leads c =
     let r = c.args.self.now in let e = c.args.member in let b = c.member_base-base in
     let h = beside_leads r c.requires.kept c.args.s c.requires.set e c.requires.joins b.result b.ensures.at c.args.reverse in
-    subst (λ k. Leads r.blocks.cells e.place.at k) (sym c.beside.ensures) h
+    subst (λ k. HasLink r.blocks.cells e.place.at k) (sym c.beside.ensures) h
 
 pub follow-neighbour-requires-clause-room : goal.follow-neighbour-requires-clause-room
 follow-neighbour-requires-clause-room c = let b = c.args.self.now.blocks in room_first b.touches b.total 0 0 c.requires.touches

@@ -6,8 +6,8 @@ use Rattle.ss_base.specs.declared.layout.Owner.TheVariants.{System}
 use Rattle.ss_records_blocks.specs.Cells.{blanks}
 use Rattle.ss_world.specs.State.{first_state}
 use Rattle.ss_records_words.specs.Shape.{block_words, set_places}
-use Rattle.ss_records_words.specs.Kept.{Small}
-use Rattle.ss_records_words.specs.Laid.{LaidSystem}
+use Rattle.ss_records_words.specs.Kept.{IsSmall}
+use Rattle.ss_records_words.specs.Laid.{IsSystemLaid}
 use Rattle.ss_records_blocks.proofs.Puts.{words_new, word_blank, length-blanks}
 use Rattle.ss_records_entities.proofs.Living.{kept_first, none_made}
 use Rattle.ss_records_entities.proofs.records.Records.new.Goals as goal
@@ -32,8 +32,8 @@ returns c =
     record {
       made =
           let x = c.in_ok-held.held in let n = c.block_words-words.result in let l = x.0.0.0 in let plan : l ≡ c.in_ok-layout.layout = (λ i. (d.0 i).0.0) ∙ (λ i. (b.0 i).0) ∙ a.0 in
-          let e : l ≡ c.args.layout = plan ∙ c.in_ok-layout.ensures.0 in let small : Small l = subst Small (sym e) c.in_ok-layout.ensures.1 in
-          let laid = subst (λ bs. LaidSystem l bs c.lay_system.new.blocks.cells x.1.1.at) one.0 c.lay_system.ensures.laid in
+          let e : l ≡ c.args.layout = plan ∙ c.in_ok-layout.ensures.0 in let small : IsSmall l = subst IsSmall (sym e) c.in_ok-layout.ensures.1 in
+          let laid = subst (λ bs. IsSystemLaid l bs c.lay_system.new.blocks.cells x.1.1.at) one.0 c.lay_system.ensures.laid in
           let size : n ≡ block_words l System = c.block_words-words.ensures.size ∙ ap (λ (z : Layout). block_words z System) (sym plan) in
           let count : c.classes.result ≡ length l.classes = c.classes.ensures ∙ ap (λ (z : Layout). length z.classes) (sym plan) in
           let rows : x.0.0.1.items ≡ replicate (length l.classes) None = (λ i. (d.0 i).0.1.items) ∙ (λ i. (b.0 i).1.items) ∙ MatchResult-at_ok _ _ _ a.1 c.not_made-permanents.ensures ∙ ap (λ k. replicate k None) count in

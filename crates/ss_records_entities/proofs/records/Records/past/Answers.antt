@@ -5,7 +5,7 @@ use Rattle.ss_world.specs.State.{members_of}
 use Rattle.ss_world.specs.Sets.{member_class}
 use Rattle.ss_records_entities.specs.declared.records.Records.{Records}
 use Rattle.ss_records_blocks.specs.Cells.{word_at}
-use Rattle.ss_records_blocks.specs.Links.{Leads}
+use Rattle.ss_records_blocks.specs.Links.{HasLink}
 use Rattle.ss_records_entities.specs.Parts.{state}
 use Rattle.ss_records_entities.specs.Passing.{ranks_past, first_where}
 use Rattle.ss_records_entities.proofs.Looks.{first_leads}
@@ -56,7 +56,7 @@ follow-member-requires-in-members-clause-leads c =
     let r = c.args.self.now in let m = c.members in
     let v : ℤ = to_z w64 (of_z w64 c.args.own) in let e : v ≡ c.args.own = search rules in
     let t = ranks_past (state r) (member_class r.layout c.args.s) c.args.field c.args.high (Whole v) in
-    subst (λ cs. Leads cs m.member.place.at c.member_base-next.result) (sym m.invariant.cells)
+    subst (λ cs. HasLink cs m.member.place.at c.member_base-next.result) (sym m.invariant.cells)
     (next_leads r c.requires.kept c.args.s c.requires.set c.args.owner.number t m.member m.self.blocks.touches m.invariant.walk c.members-test.true c.member_base-next.result c.member_base-next.ensures.at)
 
 pub follow-member-requires-in-members-clause-room : goal.follow-member-requires-in-members-clause-room

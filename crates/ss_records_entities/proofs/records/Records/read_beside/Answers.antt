@@ -1,7 +1,7 @@
 use Rattle.std.proofs.Common.{◌≡◌, arith, refl, sym, subst}
 use Rattle.std.proofs.lemmas.Int.{ints, to_z-of_z}
 use Rattle.ss_records_blocks.specs.Cells.{link, word_at}
-use Rattle.ss_records_blocks.specs.Links.{Leads}
+use Rattle.ss_records_blocks.specs.Links.{HasLink}
 use Rattle.ss_records_entities.specs.Parts.{state}
 use Rattle.ss_records_entities.proofs.Looks.{none_beside}
 use Rattle.ss_records_entities.proofs.Onward.{beside_leads, beside_fits, beside_is}
@@ -18,7 +18,7 @@ pub follow-next-requires : goal.follow-next-requires
 follow-next-requires c =
     let r = c.args.self.now in let e = c.in-Ok.member in let base = c.member_base-base in
     record {
-      leads = subst (λ k. Leads r.blocks.cells e.place.at k) (sym c.beside.ensures) (beside_leads r c.requires.kept c.args.s c.requires.set e c.in-Ok.ensures.found.0 base.result base.ensures.at c.args.reverse);
+      leads = subst (λ k. HasLink r.blocks.cells e.place.at k) (sym c.beside.ensures) (beside_leads r c.requires.kept c.args.s c.requires.set e c.in-Ok.ensures.found.0 base.result base.ensures.at c.args.reverse);
       room = room_first r.blocks.touches r.blocks.total 0 0 c.requires.touches;
     }
 

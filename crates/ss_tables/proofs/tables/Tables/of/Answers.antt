@@ -1,6 +1,6 @@
 use Rattle.std.proofs.Common.{refl, ◌∙◌}
 use Rattle.ss_tree.specs.View.{view_program_tree}
-use Rattle.ss_tables.specs.Tables.{ReportsTableError}
+use Rattle.ss_tables.specs.Tables.{IsReportedError}
 use Rattle.ss_tables.proofs.Refused.{refused_so}
 use Rattle.ss_tables.proofs.tables.Tables.of.Goals as goal
 
@@ -9,7 +9,7 @@ names_of-requires c = c.deref.ensures.value ∙ c.in_ok-declarations.ensures
 
 pub returns-in_err-names-clause-refused : goal.returns-in_err-names-clause-refused
 returns-in_err-names-clause-refused c =
-    refused_so ReportsTableError c.from_residual-in_err-names.result c.in_err-names.field-0.0 _ _ c.from_residual-in_err-names.ensures.1 c.in_err-names.ensures.refused refl
+    refused_so IsReportedError c.from_residual-in_err-names.result c.in_err-names.field-0.0 _ _ c.from_residual-in_err-names.ensures.1 c.in_err-names.ensures.refused refl
 
 pub returns-clause-made : goal.returns-clause-made
 returns-clause-made c = c.in_ok-names.ensures.made

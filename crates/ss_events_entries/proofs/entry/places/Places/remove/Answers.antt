@@ -4,7 +4,7 @@ use Rattle.std.specs.Prelude.{◌==◌}
 use Rattle.std.specs.Vec.{with_items}
 use Rattle.ss_events_entries.specs.declared.entry.slots.Slot.{Slot}
 use Rattle.ss_events_entries.specs.declared.entry.slots.HeapNode.{HeapNode}
-use Rattle.ss_events_entries.specs.HeapEntries.{HeadsAndFollowers, RemovesEntry}
+use Rattle.ss_events_entries.specs.HeapEntries.{HeadsAndFollowers, HasRemovedEntry}
 use Rattle.ss_events_entries.specs.Slots.{slot_at, node, no_entry, no_slot, not_plain, at_put, exchanged, IsGuess}
 use Rattle.ss_events_entries.proofs.Lists.{written}
 use Rattle.ss_events_entries.proofs.HeadsAndFollowers.{long_heads}
@@ -173,7 +173,7 @@ returns-clause-removed c =
     let time = fits ∙ ap (λ (y : HeapNode). y.mark.time) (its_node e) ∙ out_time n f xs ws ss d h k (k_in e) in
     let notice = noticed e ∙ out_notice n f xs ws ss d h k (k_in e) in
     let then = lines c.if-next.self-inside.count c.if-next.self-inside.slots.items c.if-next.self-inside.entries.items c.if-next.self-inside.nodes.items in
-    subst (λ old. RemovesEntry old then k (to_z w64 (of_z w64 c.index-node.result.now.mark.time), to_z w64 (of_z w64 c.index.result.now.notice))) c.self.view_is
+    subst (λ old. HasRemovedEntry old then k (to_z w64 (of_z w64 c.index-node.result.now.mark.time), to_z w64 (of_z w64 c.index.result.now.notice))) c.self.view_is
     (record {
       entry = it;
       there = out_there n f xs ws ss d h k (k_in e) it;
