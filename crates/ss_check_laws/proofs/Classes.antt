@@ -2,30 +2,18 @@
 use Rattle.std.proofs.Common.{◌≡◌, ℕ, Bool, true, false, not, [], length, Option, Some, None, refl, ap, subst, ◌∙◌}
 use Rattle.std.specs.Prelude.{◌||◌, get_or}
 use Rattle.std.proofs.lemmas.Bool.{not-true}
-use Rattle.ss_base.specs.declared.line.Line.{Line}
-use Rattle.ss_base.specs.declared.layout.ClassKind.{ClassKind}
+use Rattle.ss_check_laws.proofs.Common.{CanTakeMode, ClassKind, Integer, is_kind, IsLinked, IsResolvedClass, Line, Meaning, meaning_mode, meaning_of_name, NameBytes, NamedClass, Scope, ToVariable, unless, use_breaks, value_for, variable_named, variable_of, where_holds}
 use Rattle.ss_base.specs.declared.layout.ClassKind.TheVariants as kinds
-use Rattle.ss_base.specs.declared.layout.Mode.TheVariants.{Integer}
-use Rattle.ss_tree.specs.Names.{NameBytes}
-use Rattle.ss_program.specs.Program.{ToVariable}
-use Rattle.ss_program.specs.WellTyped.{TypedScope as Place, CanTakeMode}
-use Rattle.ss_names_declarations.specs.NameTable.{value_for}
+use Rattle.ss_program.specs.WellTyped.{TypedScope as Place}
 use Rattle.ss_names_uses.specs.Uses.{class_used}
 use Rattle.ss_names_uses.specs.declared.used.ClassNeed.{ClassNeed}
 use Rattle.ss_names_uses.specs.declared.used.ClassNeed.TheVariants as needs
-use Rattle.ss_names.specs.declared.meaning.Meaning.{Meaning}
 use Rattle.ss_names.specs.declared.meaning.Meaning.TheVariants as meanings
-use Rattle.ss_names_scopes.specs.Scopes.{Scope, is_kind, meaning_of_name, variable_of}
 use Rattle.ss_check_rules.specs.Kinds.{suits_class}
-use Rattle.ss_check_rules.specs.Modes.{is_text, meaning_mode}
-use Rattle.ss_names_declarations.specs.Earliest.{unless}
-use Rattle.ss_check_rules.specs.Refusal.{use_breaks}
+use Rattle.ss_check_rules.specs.Modes.{is_text}
 use Rattle.ss_check_rules.specs.declared.error.CheckError.TheVariants as errors
-use Rattle.ss_names_meaning.specs.Answers.{where_holds}
-use Rattle.ss_names_meaning.specs.Classes.{class_number, variable_named}
-use Rattle.ss_names_meaning.specs.declared.classes.NamedClass.{NamedClass}
-use Rattle.ss_check_laws.specs.BodyLaws.{IsResolvedClass, ClassesResolve}
-use Rattle.ss_check_laws.specs.Links.{IsLinked}
+use Rattle.ss_names_meaning.specs.Classes.{class_number}
+use Rattle.ss_check_laws.specs.BodyLaws.{ClassesResolve}
 use Rattle.ss_check_laws.proofs.Steps.{alike, first_holds, goes, holds_unless, two_steps}
 use Rattle.ss_check_laws.proofs.Linked.{IsVariable, class_variable, meant_here}
 

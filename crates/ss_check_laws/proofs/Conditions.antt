@@ -1,19 +1,15 @@
 -- Conditions whose uses break no rule resolve, and are well typed.
 use Rattle.std.proofs.Common.{true, false, List, Some, refl, subst}
 use Rattle.std.specs.List.{AllByRecursion as Every, flat_map}
-use Rattle.ss_base.specs.declared.line.Line.{Line}
-use Rattle.ss_tree.specs.Tree.{TestTree, compare, empty, member, data_ended, ConditionTree}
+use Rattle.ss_check_laws.proofs.Common.{AreValid, ConditionTree, expression, HasMode, in_named, IsLinked, Line, mode_of_use, Scope, set_named}
+use Rattle.ss_tree.specs.Tree.{TestTree, compare, empty, member, data_ended}
 use Rattle.ss_program.specs.Program.{Test, Compare, DataEnded, Empty, Member}
-use Rattle.ss_program.specs.WellTyped.{TypedScope as Place, IsTypedTest, HasMode}
-use Rattle.ss_names_uses.specs.Uses.{in_condition, in_expression, in_named, in_test, expression_tree_mode}
+use Rattle.ss_program.specs.WellTyped.{TypedScope as Place, IsTypedTest}
+use Rattle.ss_names_uses.specs.Uses.{in_condition, in_expression, in_test, expression_tree_mode}
 use Rattle.ss_names_uses.specs.declared.used.Role.TheVariants as roles
-use Rattle.ss_names_scopes.specs.Scopes.{Scope}
-use Rattle.ss_check_rules.specs.Modes.{mode_of_use}
 use Rattle.ss_check_rules.specs.declared.error.CheckError.TheVariants as errors
 use Rattle.ss_names_meaning.specs.Conditions.{conjunction, one_test}
-use Rattle.ss_names_meaning.specs.Expressions.{expression, set_named}
 use Rattle.ss_check_laws.specs.BodyLaws.{IsResolvedCondition, ConditionsResolve}
-use Rattle.ss_check_laws.specs.Links.{IsLinked, AreValid}
 use Rattle.ss_check_laws.proofs.Steps.{GoesWell, agree, each_resolves, goes, two_parts, two_steps}
 use Rattle.ss_check_laws.proofs.Expressions.{number_kept, resolves}
 use Rattle.ss_check_laws.proofs.Targets.{set_resolves}

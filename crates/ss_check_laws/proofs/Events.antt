@@ -8,47 +8,32 @@ use Rattle.std.proofs.lemmas.Bool.{and_parts, leb-true}
 use Rattle.std.proofs.lemmas.List.{length-take-le}
 use Rattle.std.proofs.lemmas.Map.Entries.{length-keys_of}
 use Rattle.std.proofs.lemmas.Option.{cond_some, get_or_from_slice_get, none-some, same_Some, slice_get-get_or, slice_get_within}
-use Rattle.ss_base.specs.declared.line.Line.{Line}
-use Rattle.ss_base.specs.declared.layout.ClassKind.{ClassKind}
+use Rattle.ss_check_laws.proofs.Common.{at_item, at_place, ClassKind, CountedClass, declarations, Done, each, each_at, Event, event_by, event_from, every_first, firsts_once, given_by, Global, got, Integer, is_main, IsTypedBlock, Line, local_mode, local_modes, locals_of, Meaning, meaning_mode, Mode, mode_of_use, NameBytes, numbers_at, Parts, place_from, place_in, PlainClass, PlainLayout, Program, ResolvedLayout, Scope, Table, table, there, upto, Use, use_breaks, value_for}
 use Rattle.ss_base.specs.declared.layout.ClassKind.TheVariants as kinds
-use Rattle.ss_base.specs.declared.layout.Mode.{Mode}
-use Rattle.ss_base.specs.declared.layout.Mode.TheVariants.{Integer}
 use Rattle.ss_base.specs.declared.layout.RankKey.{RankKey}
 use Rattle.ss_base.specs.Layout.{is_layout, is_sound}
-use Rattle.ss_base.specs.Plain.{PlainClass, PlainLayout}
-use Rattle.ss_tree.specs.Names.{NameBytes}
 use Rattle.ss_tree.specs.Tree as tree
-use Rattle.ss_names_declarations.specs.Declarations.{declarations}
-use Rattle.ss_names_declarations.specs.NameTable.{place_in, value_for}
-use Rattle.ss_names_declarations.proofs.Entries.{entry_of_key, firsts_once, key_at, place_from, place_of_value, there, value_at, value_from_place}
+use Rattle.ss_names_declarations.proofs.Entries.{entry_of_key, key_at, place_of_value, value_at, value_from_place}
 use Rattle.ss_names_uses.specs.Uses as uses
 use Rattle.ss_names_uses.specs.declared.used.CountNeed.TheVariants as counts
 use Rattle.ss_names_uses.specs.declared.used.ModeOf.TheVariants as modes
-use Rattle.ss_names_uses.specs.declared.used.Use.{Use}
 use Rattle.ss_names.specs.declared.entry.EventSection.{EventSection}
-use Rattle.ss_names.specs.declared.meaning.Meaning.{Meaning}
 use Rattle.ss_names.specs.declared.meaning.Meaning.TheVariants as m
-use Rattle.ss_names.specs.Entries.{event_by, given_by}
-use Rattle.ss_names.specs.Table.{Table, mode_of_attribute, table}
-use Rattle.ss_names_scopes.specs.Locals.{defined, local_used, locals_of, moded_in}
-use Rattle.ss_names_scopes.specs.Scopes.{Scope, hidden_by, is_main, known_mode, local_mode, scope_of}
-use Rattle.ss_program.specs.declared.expression.Variable.TheVariants.{Global}
-use Rattle.ss_program.specs.declared.statement.CountedClass.{CountedClass}
-use Rattle.ss_program.specs.Program.{Done, Event, Program}
-use Rattle.ss_program.specs.WellTyped.{IsTypedBlock, IsTypedEvent, AreTypedKeys, IsPlain}
+use Rattle.ss_names.specs.Table.{mode_of_attribute}
+use Rattle.ss_names_scopes.specs.Locals.{defined, local_used, moded_in}
+use Rattle.ss_names_scopes.specs.Scopes.{hidden_by, known_mode, scope_of}
+use Rattle.ss_program.specs.WellTyped.{IsTypedEvent, AreTypedKeys, IsPlain}
 use Rattle.ss_check_rules.specs.Counts.{suits_count}
-use Rattle.ss_check_rules.specs.Modes.{attribute_mode, meaning_mode, mode_of_use}
-use Rattle.ss_check_rules.specs.Refusal.{eventless, eventless_of, in_preamble, use_breaks}
+use Rattle.ss_check_rules.specs.Modes.{attribute_mode}
+use Rattle.ss_check_rules.specs.Refusal.{eventless, eventless_of, in_preamble}
 use Rattle.ss_check_rules.specs.declared.error.CheckError.TheVariants as errors
-use Rattle.ss_names_meaning.specs.Answers.{◌>>=◌, each, upto}
-use Rattle.ss_names_meaning.specs.Layouts.{ResolvedLayout, class_layout, disciplines, layout, set_layout, statistics, tie_keys}
-use Rattle.ss_names_meaning.specs.Resolved.{Parts, class_variable, event_from, event_of_class, local_modes, saved}
+use Rattle.ss_names_meaning.specs.Answers.{◌>>=◌}
+use Rattle.ss_names_meaning.specs.Layouts.{class_layout, disciplines, layout, set_layout, statistics, tie_keys}
+use Rattle.ss_names_meaning.specs.Resolved.{class_variable, event_of_class, saved}
 use Rattle.ss_names_laws.specs.ValidTables.{IsNamedClass, parameters_of}
-use Rattle.ss_names_laws.proofs.Each.{at_place, each_empty, every_first, from_places, in_parts}
-use Rattle.ss_names_laws.proofs.Items.{at_item}
+use Rattle.ss_names_laws.proofs.Each.{each_empty, from_places, in_parts}
 use Rattle.ss_names_laws.proofs.Parts.{class_parts, numbers_length}
 use Rattle.ss_names_laws.proofs.Results.{each_made}
-use Rattle.ss_names_laws.proofs.Steps.{each_at, got, numbers_at}
 use Rattle.ss_check_laws.proofs.Steps.{agree, holds_unless}
 use Rattle.ss_check_laws.proofs.Ranks.{IsNotice, notice_is_ranked, ranks_are_notices}
 use Rattle.ss_check_laws.proofs.Routines.{IsUnbroken, IsWhole, Keeps, body_good, laid_with, none_listed, preamble_kept, program_with, section, section_modes, section_valid, uses_kept}

@@ -1,21 +1,16 @@
 -- Expressions, items of PRINT, targets and sets.
 use Rattle.std.proofs.Common.{ℕ, ◌+◌, ◌≤◌, Option, Some, None, option_map, arith}
-use Rattle.ss_base.specs.declared.layout.Owner.{Owner}
+use Rattle.ss_check_laws.proofs.Common.{and_expression, and_term, Designator, entity_of, Expression, ExpressionRow, ExpressionTree, Fetch, item, Meaning, meaning_of, meaning_of_class, meaning_with_entity, named, NamedTree, no_expression, no_term, option_nodes, Owner, owner_of_meaning, parenthesised, place_named, Scope, set_named, set_owner, subscript, TermRow, Variable, variable_of}
 use Rattle.ss_base.specs.declared.layout.Owner.TheVariants as owners
-use Rattle.ss_tree.specs.declared.expression.Designator.{Designator}
 use Rattle.ss_tree.specs.declared.expression.Function.TheVariants.{One, Two}
 use Rattle.ss_tree.specs.Nodes as tree
-use Rattle.ss_tree.specs.Tree.{ExpressionTree, named, call, parenthesised, product, signed, sum, ExpressionRow, no_expression, and_expression, TermRow, no_term, and_term, NamedTree}
+use Rattle.ss_tree.specs.Tree.{call, product, signed, sum}
 use Rattle.ss_base.specs.declared.words.Operator.TheVariants.{Multiply}
-use Rattle.ss_program.specs.declared.expression.Variable.{Variable}
-use Rattle.ss_program.specs.Nodes.{option_nodes, unless_plain, expression_nodes, subscript_nodes, item_nodes, set_nodes, place_nodes}
-use Rattle.ss_program.specs.Program.{Expression, Fetch, Calculate, AValue, SetOwner}
-use Rattle.ss_names.specs.declared.meaning.Meaning.{Meaning}
+use Rattle.ss_program.specs.Nodes.{unless_plain, expression_nodes, subscript_nodes, item_nodes, set_nodes, place_nodes}
+use Rattle.ss_program.specs.Program.{Calculate, AValue, SetOwner}
 use Rattle.ss_names.specs.declared.meaning.Meaning.TheVariants as meanings
-use Rattle.ss_names.specs.Table.{owner_of_meaning}
-use Rattle.ss_names_scopes.specs.Scopes.{Scope, meaning_of, meaning_of_class, variable_of}
 use Rattle.ss_names_meaning.specs.Answers.{of_one}
-use Rattle.ss_names_meaning.specs.Expressions.{entity_implied, entity_of, expression, factors, item, of_owner, one, set_owner, place_named, place_of, resolved_item, resolved_operator, resolved_value, set_named, set_of_name, subscript, target, terms, two, value_alone, value_of_entity, meaning_with_entity}
+use Rattle.ss_names_meaning.specs.Expressions.{entity_implied, expression, factors, of_owner, one, place_of, resolved_item, resolved_operator, resolved_value, set_of_name, target, terms, two, value_alone, value_of_entity}
 use Rattle.ss_check_laws.proofs.Within.{Within, so, followed, looked}
 
 plain_less : (e : Expression) (n : ℕ) → unless_plain e n ≤ n

@@ -3,25 +3,20 @@ use Rattle.std.proofs.Common.{◌≡◌, ◌⊎◌, inl, inr, ℕ, zero, suc, �
 use Rattle.std.specs.Prelude.{nat_le, option_map, if◌then◌else◌}
 use Rattle.std.proofs.lemmas.Bool.{both_ways, leb-true}
 use Rattle.std.proofs.lemmas.Option.{none-some}
-use Rattle.ss_base.specs.declared.line.Line.{Line}
+use Rattle.ss_check_laws.proofs.Common.{AreValid, Designator, Expression, expression, ExpressionRow, ExpressionTree, has_value, if_means, IsLinked, item, Line, Meaning, meaning_of, named, parenthesised, place_named, row_length, Scope, use_breaks}
 use Rattle.ss_picture.specs.declared.field.Field.{Field}
-use Rattle.ss_tree.specs.Tree.{ExpressionTree, named, parenthesised, ExpressionRow}
-use Rattle.ss_tree.specs.declared.expression.Designator.{Designator}
-use Rattle.ss_program.specs.Program.{Expression, PrintItem, AValue, AMean, AMeanOf}
+use Rattle.ss_program.specs.Program.{PrintItem, AValue, AMean, AMeanOf}
 use Rattle.ss_program.specs.WellTyped.{TypedScope as Place, CanTakeItem}
-use Rattle.ss_names_uses.specs.Uses.{as_mean, in_item, place_use, row_length, with_decimals}
+use Rattle.ss_names_uses.specs.Uses.{as_mean, in_item, place_use, with_decimals}
 use Rattle.ss_names_uses.specs.declared.used.Role.TheVariants as roles
 use Rattle.ss_names_uses.specs.declared.used.Used.{Used}
 use Rattle.ss_names_uses.specs.declared.used.Used.TheVariants.{Mean, Unfit}
-use Rattle.ss_names.specs.declared.meaning.Meaning.{Meaning}
 use Rattle.ss_names.specs.declared.meaning.Meaning.TheVariants as meanings
-use Rattle.ss_names_scopes.specs.Scopes.{Scope, meaning_of}
-use Rattle.ss_check_rules.specs.Kinds.{has_value, if_means, is_mean}
-use Rattle.ss_check_rules.specs.Refusal.{use_breaks, used_breaks}
+use Rattle.ss_check_rules.specs.Kinds.{is_mean}
+use Rattle.ss_check_rules.specs.Refusal.{used_breaks}
 use Rattle.ss_check_rules.specs.declared.error.CheckError.TheVariants as errors
-use Rattle.ss_names_meaning.specs.Expressions.{expression, item, place_named, resolved_item}
+use Rattle.ss_names_meaning.specs.Expressions.{resolved_item}
 use Rattle.ss_check_laws.specs.BodyLaws.{IsResolvedItem, ItemsResolve, IsResolved}
-use Rattle.ss_check_laws.specs.Links.{IsLinked, AreValid}
 use Rattle.ss_check_laws.proofs.Steps.{goes, holds_unless}
 use Rattle.ss_check_laws.proofs.Linked.{IsHere}
 use Rattle.ss_check_laws.proofs.Places.{EntityFits, Numbers, in_role, named_statistic_fits, placed}

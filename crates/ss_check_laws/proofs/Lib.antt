@@ -1,3 +1,4 @@
+mod Common
 mod Steps
 mod Linked
 mod Places

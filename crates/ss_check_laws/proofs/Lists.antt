@@ -3,12 +3,9 @@ use Rattle.std.proofs.Common.{◌≡◌, ℕ, zero, suc, ◌+◌, ◌≤◌, Boo
 use Rattle.std.specs.Prelude.{slice_get}
 use Rattle.std.specs.List.{AllZip}
 use Rattle.std.proofs.lemmas.Option.{same_Some}
-use Rattle.ss_names_uses.specs.declared.used.Use.{Use}
+use Rattle.ss_check_laws.proofs.Common.{AreValid, got, Scope, Use, where_holds}
 use Rattle.ss_names_uses.specs.Uses.{in_places}
-use Rattle.ss_names_scopes.specs.Scopes.{Scope}
-use Rattle.ss_names_meaning.specs.Answers.{◌>>=◌, each, where_holds}
-use Rattle.ss_names_laws.proofs.Steps.{got}
-use Rattle.ss_check_laws.specs.Links.{AreValid}
+use Rattle.ss_names_meaning.specs.Answers.{◌>>=◌, each}
 use Rattle.ss_check_laws.proofs.Steps.{GoesWell, two_parts}
 
 -- ---- steps

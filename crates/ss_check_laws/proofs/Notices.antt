@@ -3,39 +3,26 @@ use Rattle.std.proofs.Common.{◌≡◌, ℕ, ◌<◌, ◌≤◌, Bool, true, fa
 use Rattle.std.specs.Prelude.{option_and_then, slice_get}
 use Rattle.std.specs.Option.{option_map_or}
 use Rattle.std.proofs.lemmas.Option.{slice_get_within}
-use Rattle.ss_base.specs.declared.layout.ClassKind.{ClassKind}
+use Rattle.ss_check_laws.proofs.Common.{AreValid, cancel_statement, ClassKind, each, each_at, Expression, expression, ExpressionTree, HasMode, is_kind, IsLinked, IsResolvedClass, IsTypedStatement, Line, Mode, NameBytes, NamedClass, NamedTree, place_in, PlainClass, PlainLayout, reset_statement, schedule_new, schedule_statement, Scope, Statement, Table, there, unless, where_holds}
 use Rattle.ss_base.specs.declared.layout.ClassKind.TheVariants as kinds
-use Rattle.ss_base.specs.declared.layout.Mode.{Mode}
-use Rattle.ss_base.specs.declared.line.Line.{Line}
-use Rattle.ss_base.specs.Plain.{PlainClass, PlainLayout}
-use Rattle.ss_tree.specs.Names.{NameBytes}
-use Rattle.ss_tree.specs.Tree.{ExpressionTree, NamedTree, WhenTree, at_time, in_units, now, schedule_new, schedule_statement, cancel_statement, reset_statement}
-use Rattle.ss_names_declarations.specs.NameTable.{place_in}
-use Rattle.ss_names_declarations.proofs.Entries.{there}
+use Rattle.ss_tree.specs.Tree.{WhenTree, at_time, in_units, now}
 use Rattle.ss_names_uses.specs.declared.used.ClassNeed.TheVariants as needs
 use Rattle.ss_names_uses.specs.declared.used.ModeOf.TheVariants as modes
 use Rattle.ss_names_uses.specs.declared.used.Role.TheVariants as roles
 use Rattle.ss_names_uses.specs.Uses as uses
 use Rattle.ss_names.specs.declared.meaning.Meaning.TheVariants as meanings
-use Rattle.ss_names.specs.Table.{Table, mode_of_attribute}
-use Rattle.ss_names_scopes.specs.Scopes.{Scope, is_kind}
+use Rattle.ss_names.specs.Table.{mode_of_attribute}
 use Rattle.ss_check_rules.specs.declared.error.CheckError.TheVariants as errors
 use Rattle.ss_check_rules.specs.Modes.{attribute_mode}
-use Rattle.ss_program.specs.Program.{Expression, Now, When, Restart, Statement, ScheduleNew, Schedule}
-use Rattle.ss_program.specs.WellTyped.{TypedScope as Place, HasMode, HaveModes, IsTypedWhen, AreTypedGiven, IsTypedRestart, IsTypedStatement}
-use Rattle.ss_names_meaning.specs.declared.classes.NamedClass.{NamedClass}
-use Rattle.ss_names_meaning.specs.Answers.{◌>>=◌, each, where_holds}
-use Rattle.ss_names_meaning.specs.Expressions.{expression}
+use Rattle.ss_program.specs.Program.{Now, When, Restart, ScheduleNew, Schedule}
+use Rattle.ss_program.specs.WellTyped.{TypedScope as Place, HaveModes, IsTypedWhen, AreTypedGiven, IsTypedRestart}
+use Rattle.ss_names_meaning.specs.Answers.{◌>>=◌}
 use Rattle.ss_names_meaning.specs.Statements.{restart, simple_statement, when}
-use Rattle.ss_names_laws.proofs.Steps.{each_at}
-use Rattle.ss_check_laws.specs.Links.{IsLinked, AreValid}
-use Rattle.ss_check_laws.specs.BodyLaws.{IsResolvedClass}
 use Rattle.ss_check_laws.proofs.Steps.{GoesWell, each_resolves, holds_unless, three_parts}
 use Rattle.ss_check_laws.proofs.Expressions.{number_kept}
 use Rattle.ss_check_laws.proofs.Lists.{after, after_one, each_length, holds, in_order}
 use Rattle.ss_check_laws.proofs.Parts.{classes_resolve, restarts_resolve}
 use Rattle.ss_check_laws.proofs.Values.{value_resolves}
-use Rattle.ss_names_declarations.specs.Earliest.{unless}
 use Rattle.ss_check_laws.proofs.Entities.{class_is, new_resolves, old_resolves}
 
 notice_kind : (kind : ClassKind) → is_kind needs.Notice kind ≡ true → kind ≡ kinds.Notice

@@ -3,18 +3,13 @@ use Rattle.std.proofs.Common.{◌≡◌, ℕ, Bool, true, false, List, [], ◌�
 use Rattle.std.specs.Prelude.{◌==◌}
 use Rattle.std.specs.List.{AllZip}
 use Rattle.std.proofs.lemmas.Option.{none-some}
-use Rattle.ss_base.specs.declared.line.Line.{Line}
+use Rattle.ss_check_laws.proofs.Common.{AreValid, each, ExpressionTree, IsLinked, IsTypedStatement, item, Line, print_statement, Scope}
 use Rattle.ss_picture.specs.declared.field.Field.{Field}
-use Rattle.ss_tree.specs.Tree.{ExpressionTree, print_statement}
 use Rattle.ss_names_uses.specs.Uses as uses
-use Rattle.ss_names_scopes.specs.Scopes.{Scope}
 use Rattle.ss_check_rules.specs.declared.error.CheckError.TheVariants as errors
 use Rattle.ss_program.specs.Program.{PrintItem}
-use Rattle.ss_program.specs.WellTyped.{TypedScope as Place, CanTakeItem, IsTypedStatement}
-use Rattle.ss_names_meaning.specs.Answers.{each}
-use Rattle.ss_names_meaning.specs.Expressions.{item}
+use Rattle.ss_program.specs.WellTyped.{TypedScope as Place, CanTakeItem}
 use Rattle.ss_names_meaning.specs.Statements.{simple_statement}
-use Rattle.ss_check_laws.specs.Links.{IsLinked, AreValid}
 use Rattle.ss_check_laws.proofs.Steps.{GoesWell, two_parts}
 use Rattle.ss_check_laws.proofs.Lists.{after_one, in_order}
 use Rattle.ss_check_laws.proofs.Parts.{items_resolve}

@@ -7,32 +7,21 @@ use Rattle.std.proofs.lemmas.List.Folds.{Any-from_list_any}
 use Rattle.std.proofs.lemmas.List.Sums.{fails_before_first, list_all-from_AllPass, passes_at_first}
 use Rattle.std.proofs.lemmas.Option.{get_or_from_slice_get, same_Some, slice_get-get_or, slice_get-map, slice_get_within}
 use Rattle.ss_base.specs.declared.layout.ClassKind.TheVariants as kinds
-use Rattle.ss_base.specs.Plain.{PlainClass, PlainLayout}
+use Rattle.ss_check_laws.proofs.Common.{at_item, BodiesResolve, CheckError, each, each_at, each_item, Event, event_from, is_main, IsTypedBlock, kind_of_class, locals_of, Meaning, Moded, Parts, parts_with_locals, PlainClass, PlainLayout, Program, resolved_layout, ResolvedLayout, routine_from, Table, table, value_by_place, value_for}
 use Rattle.ss_tree.specs.Tree as tree
-use Rattle.ss_names_declarations.specs.NameTable.{value_for}
-use Rattle.ss_names_declarations.proofs.Entries.{value_by_place}
 use Rattle.ss_names_uses.specs.declared.used.ClassNeed.TheVariants as needs
-use Rattle.ss_names.specs.declared.meaning.Meaning.{Meaning}
 use Rattle.ss_names.specs.declared.meaning.Meaning.TheVariants as m
 use Rattle.ss_names.specs.Entries.{is_notice_class}
-use Rattle.ss_names.specs.Table.{Table, table}
-use Rattle.ss_names_scopes.specs.Locals.{Moded, locals_of}
-use Rattle.ss_names_scopes.specs.Scopes.{is_main, is_main_section}
-use Rattle.ss_program.specs.Program.{Event, Program, Routine}
-use Rattle.ss_program.specs.WellTyped.{IsTypedBlock, IsTypedEvent, IsTypedRoutine, IsWellTyped, kind_of_class}
-use Rattle.ss_check_rules.specs.declared.error.CheckError.{CheckError}
+use Rattle.ss_names_scopes.specs.Scopes.{is_main_section}
+use Rattle.ss_program.specs.Program.{Routine}
+use Rattle.ss_program.specs.WellTyped.{IsTypedEvent, IsTypedRoutine, IsWellTyped}
 use Rattle.ss_check_rules.specs.Kinds.{suits_class}
 use Rattle.ss_check_rules.specs.Order.{check_error_order}
 use Rattle.ss_check_rules.specs.Refusal.{breaches}
-use Rattle.ss_names_meaning.specs.Answers.{each}
-use Rattle.ss_names_meaning.specs.Layouts.{ResolvedLayout, resolved_layout}
-use Rattle.ss_names_meaning.specs.Resolved.{Parts, event_from, is_known, is_known_kind, parts_with_locals, resolved, resolved_with_locals, routine_from}
+use Rattle.ss_names_meaning.specs.Resolved.{is_known, is_known_kind, resolved, resolved_with_locals}
 use Rattle.ss_names_laws.specs.Laws.{LayoutsAreWellTyped, RoutinesAreThere, SectionsAreValid, TablesAreThere, TablesAreValid}
-use Rattle.ss_check_laws.specs.BodyLaws.{BodiesResolve}
 use Rattle.ss_check_laws.specs.ProgramLaws.{ProgramsResolve}
-use Rattle.ss_names_laws.proofs.Items.{at_item, each_item}
 use Rattle.ss_names_laws.proofs.Kept.{nothing_found}
-use Rattle.ss_names_laws.proofs.Steps.{each_at}
 use Rattle.ss_check_laws.proofs.Steps.{first_holds}
 use Rattle.ss_check_laws.proofs.Events.{class_is_ranked, class_there, event_kept, event_there, events_there, laid_classes}
 use Rattle.ss_check_laws.proofs.Routines.{IsUnbroken, IsWhole, body_good, laid_with, main_kept, mapped_from, program_with, routines_there, section, section_modes}

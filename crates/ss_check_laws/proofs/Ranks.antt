@@ -3,18 +3,14 @@ use Rattle.std.proofs.Common.{◌≡◌, ℕ, Bool, true, false, cond, ◌||◌,
 use Rattle.std.specs.List.{AllByRecursion as Every, fold, list_any}
 use Rattle.std.proofs.lemmas.Bool.{eq-eqb, eqb-true, false≢true, or_cases, or_left, or_right}
 use Rattle.std.proofs.lemmas.List.Folds.{list_any-append}
-use Rattle.ss_base.specs.declared.layout.ClassKind.{ClassKind}
+use Rattle.ss_check_laws.proofs.Common.{at_item, at_place, class_by, ClassKind, Declared, each_item, every_first, firsts_once, given_by, NameBytes, place_from, place_in, value_by_place, value_for}
 use Rattle.ss_base.specs.declared.layout.ClassKind.TheVariants.{Notice}
-use Rattle.ss_tree.specs.Names.{NameBytes}
-use Rattle.ss_names_declarations.specs.NameTable.{place_in, value_for}
-use Rattle.ss_names_declarations.specs.declared.declaration.Declared.{Declared}
 use Rattle.ss_names_declarations.specs.declared.declaration.Declared.TheVariants as d
 use Rattle.ss_names_declarations.specs.declared.declaration.Declaration.{Declaration}
-use Rattle.ss_names_declarations.proofs.Entries.{firsts_once, place_from, value_by_place, value_from_place}
+use Rattle.ss_names_declarations.proofs.Entries.{value_from_place}
 use Rattle.std.specs.Prelude.{option_to_list}
-use Rattle.ss_names.specs.Entries.{class_by, classes, given_by, is_notice_class, notice_by, notice_number, priority_by, ranks, number_added}
-use Rattle.ss_names_laws.proofs.Each.{at_place, every_first, every_piece, joined}
-use Rattle.ss_names_laws.proofs.Items.{at_item, each_item}
+use Rattle.ss_names.specs.Entries.{classes, is_notice_class, notice_by, notice_number, priority_by, ranks, number_added}
+use Rattle.ss_names_laws.proofs.Each.{every_piece, joined}
 
 -- ---- numbers, each once
 

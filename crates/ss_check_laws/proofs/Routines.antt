@@ -3,35 +3,23 @@ use Rattle.std.proofs.Common.{◌≡◌, ℕ, ◌+◌, ◌≤◌, Bool, false, L
 use Rattle.std.specs.List.{AllByRecursion as Every}
 use Rattle.std.specs.Map.{values_of}
 use Rattle.std.proofs.lemmas.Option.{none-some, same_Some, slice_get-map}
-use Rattle.ss_base.specs.declared.layout.Mode.{Mode}
-use Rattle.ss_tree.specs.Names.{NameBytes}
+use Rattle.ss_check_laws.proofs.Common.{AreValid, at_item, at_place, Block, BodiesResolve, declarations, Done, each, each_at, each_item, Event, every_first, given_by, is_main, IsLinked, IsTypedBlock, local_mode, local_modes, locals_of, Mode, Moded, NameBytes, Parts, parts_with_locals, Program, ResolvedLayout, routine_by, routine_from, RoutineSection, Table, table, Use, use_breaks}
 use Rattle.ss_tree.specs.Tree as tree
-use Rattle.ss_names_declarations.specs.Declarations.{declarations}
 use Rattle.ss_names_declarations.proofs.Entries.{entry_of_value}
 use Rattle.ss_names_uses.specs.Uses as uses
-use Rattle.ss_names_uses.specs.declared.used.Use.{Use}
-use Rattle.ss_names.specs.declared.entry.RoutineSection.{RoutineSection}
-use Rattle.ss_names.specs.Entries.{given_by, routine_by}
-use Rattle.ss_names.specs.Table.{Table, table}
 use Rattle.std.specs.Prelude.{option_to_list}
-use Rattle.ss_names_scopes.specs.Locals.{Moded, locals_of}
-use Rattle.ss_names_scopes.specs.Scopes.{is_main, local_mode, scope_of}
-use Rattle.ss_program.specs.Program.{Block, Done, Event, Program, Routine}
-use Rattle.ss_program.specs.WellTyped.{TypedScope as Place, IsTypedBlock, IsTypedRoutine}
-use Rattle.ss_check_rules.specs.Refusal.{breaches, breaks, in_preamble, in_program, breaches_in_section, use_breaks}
-use Rattle.ss_names_meaning.specs.Answers.{◌>>=◌, each}
-use Rattle.ss_names_meaning.specs.Layouts.{ResolvedLayout}
-use Rattle.ss_names_meaning.specs.Resolved.{Parts, resolved_body, local_modes, parts_with_locals, routine_from, routine_of}
+use Rattle.ss_names_scopes.specs.Scopes.{scope_of}
+use Rattle.ss_program.specs.Program.{Routine}
+use Rattle.ss_program.specs.WellTyped.{TypedScope as Place, IsTypedRoutine}
+use Rattle.ss_check_rules.specs.Refusal.{breaches, breaks, in_preamble, in_program, breaches_in_section}
+use Rattle.ss_names_meaning.specs.Answers.{◌>>=◌}
+use Rattle.ss_names_meaning.specs.Resolved.{resolved_body, routine_of}
 use Rattle.ss_names_laws.specs.Laws.{HasLayout, IsWellLaid}
 use Rattle.ss_names_laws.specs.ValidTables.{HasRoutines, IsValidSection, IsValidTable}
-use Rattle.ss_names_laws.proofs.Each.{at_place, each_empty, every_first, from_places, in_parts}
-use Rattle.ss_names_laws.proofs.Items.{at_item, each_item}
+use Rattle.ss_names_laws.proofs.Each.{each_empty, from_places, in_parts}
 use Rattle.ss_names_laws.proofs.Kept.{both_empty}
 use Rattle.ss_names_laws.proofs.Parts.{numbers_length}
 use Rattle.ss_names_laws.proofs.Results.{each_made}
-use Rattle.ss_names_laws.proofs.Steps.{each_at}
-use Rattle.ss_check_laws.specs.BodyLaws.{BodiesResolve}
-use Rattle.ss_check_laws.specs.Links.{IsLinked, AreValid}
 use Rattle.ss_check_laws.proofs.TableSections.{every_declared, head_of, routines_quiet}
 
 -- what is known of a program that breaks no rule

@@ -10,25 +10,18 @@ use Rattle.std.proofs.lemmas.List.Sums.{get_or-le-sum_by, passes_at_first, sum_b
 use Rattle.std.proofs.lemmas.Map.Entries.{sum_by-remove_entry}
 use Rattle.std.proofs.lemmas.Map.Keys.{IsDistinct-head, IsDistinct-push, IsDistinct-tail}
 use Rattle.std.proofs.lemmas.Option.{same_Some, slice_get-get_or}
-use Rattle.ss_base.specs.declared.layout.ClassKind.{ClassKind}
-use Rattle.ss_tree.specs.Names.{NameBytes}
+use Rattle.ss_check_laws.proofs.Common.{at_item, class_by, ClassKind, declarations, Declared, each_item, event_by, event_from, firsts_once, given_by, is_main, local_modes, locals_of, Moded, NameBytes, option_nodes, Parts, parts_with_locals, place_from, resolved_layout, routine_by, routine_from, RoutineSection, StatementTree, table, there, value_for, where_holds}
 use Rattle.ss_tree.specs.Nodes as tree
-use Rattle.ss_tree.specs.Tree.{SectionKindTree, main, routine, event, SectionTree, StatementTree, statement_row, ProgramTree}
-use Rattle.ss_names_declarations.specs.Declarations.{declarations, flat_map_from}
-use Rattle.ss_names_declarations.specs.NameTable.{entry_beside, first_entries, same_name, value_for, with_first}
-use Rattle.ss_names_declarations.specs.declared.declaration.Declared.{Declared}
-use Rattle.ss_names_declarations.proofs.Entries.{entry_of_key, firsts_once, place_from, there}
+use Rattle.ss_tree.specs.Tree.{SectionKindTree, main, routine, event, SectionTree, statement_row, ProgramTree}
+use Rattle.ss_names_declarations.specs.Declarations.{flat_map_from}
+use Rattle.ss_names_declarations.specs.NameTable.{entry_beside, first_entries, same_name, with_first}
+use Rattle.ss_names_declarations.proofs.Entries.{entry_of_key}
 use Rattle.ss_names.specs.declared.entry.EventSection.{EventSection}
-use Rattle.ss_names.specs.declared.entry.RoutineSection.{RoutineSection}
-use Rattle.ss_names.specs.Entries.{class_by, event_by, given_by, notice_by, priority_by, routine_by, number_added}
-use Rattle.ss_names.specs.Table.{table}
-use Rattle.ss_names_scopes.specs.Locals.{Moded, locals_of}
-use Rattle.ss_names_scopes.specs.Scopes.{is_main, is_main_section}
-use Rattle.ss_program.specs.Nodes.{option_nodes, block_nodes, routine_nodes, event_nodes, nodes}
-use Rattle.ss_names_meaning.specs.Answers.{where_holds}
-use Rattle.ss_names_meaning.specs.Layouts.{resolved_layout, tie_keys}
-use Rattle.ss_names_meaning.specs.Resolved.{Parts, event_from, is_known, local_modes, parts_with_locals, resolved_with_locals, routine_from, saved}
-use Rattle.ss_names_laws.proofs.Items.{at_item, each_item}
+use Rattle.ss_names.specs.Entries.{notice_by, priority_by, number_added}
+use Rattle.ss_names_scopes.specs.Scopes.{is_main_section}
+use Rattle.ss_program.specs.Nodes.{block_nodes, routine_nodes, event_nodes, nodes}
+use Rattle.ss_names_meaning.specs.Layouts.{tie_keys}
+use Rattle.ss_names_meaning.specs.Resolved.{is_known, resolved_with_locals, saved}
 use Rattle.ss_check_laws.specs.SizeLaws.{ProgramsStaySmall}
 use Rattle.ss_check_laws.proofs.Within.{Within, at_most, followed, held, looked, there_within, each_small}
 use Rattle.ss_check_laws.proofs.StatementSizes.{row_small}

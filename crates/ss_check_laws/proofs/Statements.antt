@@ -2,17 +2,15 @@
 use Rattle.std.proofs.Common.{List, Some, refl}
 use Rattle.std.specs.List.{AllByRecursion as Every}
 use Rattle.ss_base.specs.declared.words.Sign.TheVariants.{Plus, Minus}
-use Rattle.ss_tree.specs.Tree.{HeadTree, for_head, StatementTree, let_statement, add_statement, subtract_statement, call_statement, return_statement, stop_statement, read_statement, start_simulation, if_statement, loop_statement, find_statement, find_if_statement, create_statement, create_every, destroy_statement, file_statement, remove_end, remove_statement, schedule_new, schedule_statement, cancel_statement, reset_statement, print_statement, skip_statement}
+use Rattle.ss_check_laws.proofs.Common.{AreValid, call_statement, cancel_statement, create_every, create_statement, destroy_statement, Done, each, file_statement, find_if_statement, for_head, HeadTree, if_statement, IsLinked, IsResolvedForHead, IsTypedStatement, let_statement, loop_statement, phrases_of, print_statement, read_statement, remove_end, remove_statement, reset_statement, resolved_phrase, schedule_new, schedule_statement, Scope, Statement, StatementTree}
+use Rattle.ss_tree.specs.Tree.{add_statement, subtract_statement, return_statement, stop_statement, start_simulation, find_statement, skip_statement}
 use Rattle.ss_names_uses.specs.Uses as uses
-use Rattle.ss_names_scopes.specs.Scopes.{Scope}
 use Rattle.ss_check_rules.specs.declared.error.CheckError.TheVariants as errors
-use Rattle.ss_program.specs.Program.{Head, Phrase, Statement, Find, Return, Simulate, Stop, Done}
-use Rattle.ss_program.specs.WellTyped.{TypedScope as Place, IsTypedStatement, IsTypedHead, IsTypedPhrase}
-use Rattle.ss_names_meaning.specs.Answers.{◌>>=◌, each}
-use Rattle.ss_names_meaning.specs.Heads.{head, phrases_of, resolved_phrase}
+use Rattle.ss_program.specs.Program.{Head, Phrase, Find, Return, Simulate, Stop}
+use Rattle.ss_program.specs.WellTyped.{TypedScope as Place, IsTypedHead, IsTypedPhrase}
+use Rattle.ss_names_meaning.specs.Answers.{◌>>=◌}
+use Rattle.ss_names_meaning.specs.Heads.{head}
 use Rattle.ss_names_meaning.specs.Statements.{simple_statement, statement}
-use Rattle.ss_check_laws.specs.Links.{IsLinked, AreValid}
-use Rattle.ss_check_laws.specs.BodyLaws.{IsResolvedForHead}
 use Rattle.ss_check_laws.proofs.Steps.{GoesWell, holds_unless}
 use Rattle.ss_check_laws.proofs.Expressions.{number_kept}
 use Rattle.ss_check_laws.proofs.Lists.{after_one, after_two}

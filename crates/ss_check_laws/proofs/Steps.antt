@@ -3,17 +3,10 @@ use Rattle.std.proofs.Common.{◌≡◌, Bool, true, false, not, List, [], ◌�
 use Rattle.std.specs.Prelude.{if◌then◌else◌}
 use Rattle.std.specs.List.{AllByRecursion as Every, flat_map}
 use Rattle.std.proofs.lemmas.Bool.{not-true}
-use Rattle.ss_base.specs.declared.layout.Mode.{Mode}
-use Rattle.ss_base.specs.declared.layout.Mode.TheVariants.{Integer, Alpha}
-use Rattle.ss_names_uses.specs.declared.used.Use.{Use}
-use Rattle.ss_names.specs.declared.meaning.Meaning.{Meaning}
-use Rattle.ss_names_scopes.specs.Scopes.{Scope}
-use Rattle.ss_check_rules.specs.Kinds.{if_means}
+use Rattle.ss_check_laws.proofs.Common.{AreValid, CheckError, if_means, Integer, Meaning, Mode, Scope, unless, Use}
+use Rattle.ss_base.specs.declared.layout.Mode.TheVariants.{Alpha}
 use Rattle.ss_check_rules.specs.Modes.{differ}
-use Rattle.ss_check_rules.specs.declared.error.CheckError.{CheckError}
 use Rattle.ss_names_meaning.specs.Answers.{◌>>=◌, each}
-use Rattle.ss_names_declarations.specs.Earliest.{unless}
-use Rattle.ss_check_laws.specs.Links.{AreValid}
 
 -- ---- tests that break nothing
 

@@ -3,32 +3,21 @@ use Rattle.std.proofs.Common.{◌≡◌, ℕ, Bool, true, false, Option, Some, N
 use Rattle.std.specs.Prelude.{is_some}
 use Rattle.std.proofs.lemmas.Bool.{not-false}
 use Rattle.std.proofs.lemmas.Option.{none-some}
-use Rattle.ss_base.specs.declared.line.Line.{Line}
-use Rattle.ss_base.specs.declared.layout.Mode.{Mode}
-use Rattle.ss_base.specs.declared.layout.Mode.TheVariants.{Integer}
-use Rattle.ss_tree.specs.Tree.{ExpressionRow, NamedTree}
-use Rattle.ss_tree.specs.declared.expression.Designator.{Designator}
+use Rattle.ss_check_laws.proofs.Common.{AreValid, CanTakeMode, Designator, entity_of, Expression, ExpressionRow, Global, has_value, in_named, Integer, IsLinked, Line, Meaning, meaning_mode, meaning_of_name, Mode, mode_of_meaning, NamedTree, owner_of_subject, place_in, place_named, row_length, Scope, set_owner, Subject, subscript, ToVariable, value_for}
 use Rattle.ss_tree.specs.declared.expression.Designator.TheVariants.{Name, TimeV, TimeA}
-use Rattle.ss_program.specs.Program.{Expression, Place as Target, ToVariable, ToAttribute, ToCount, InputTarget as ReadTarget, SetOwner, Restart}
-use Rattle.ss_program.specs.WellTyped.{TypedScope as Place, CanTakeMode}
+use Rattle.ss_program.specs.Program.{Place as Target, ToAttribute, ToCount, InputTarget as ReadTarget, SetOwner, Restart}
+use Rattle.ss_program.specs.WellTyped.{TypedScope as Place}
 use Rattle.ss_program.specs.declared.expression.SetQuery.TheVariants.{MemberCount}
-use Rattle.ss_program.specs.declared.expression.Variable.TheVariants.{Global}
-use Rattle.ss_program.specs.declared.sections.Subject.{Subject}
-use Rattle.ss_names_declarations.specs.NameTable.{place_in, value_for}
-use Rattle.ss_names_uses.specs.Uses.{in_named, row_length}
 use Rattle.ss_names_uses.specs.declared.used.Role.TheVariants as roles
-use Rattle.ss_names.specs.declared.meaning.Meaning.{Meaning}
 use Rattle.ss_names.specs.declared.meaning.Meaning.TheVariants as meanings
-use Rattle.ss_names.specs.Table.{owner_of_subject, subject_of}
-use Rattle.ss_names_scopes.specs.Scopes.{Scope, history_of, meaning_of_name, mode_of_meaning, unless_hidden}
-use Rattle.ss_check_rules.specs.Kinds.{has_value, is_set, takes_values}
-use Rattle.ss_check_rules.specs.Modes.{meaning_mode}
+use Rattle.ss_names.specs.Table.{subject_of}
+use Rattle.ss_names_scopes.specs.Scopes.{history_of, unless_hidden}
+use Rattle.ss_check_rules.specs.Kinds.{is_set, takes_values}
 use Rattle.ss_check_rules.specs.Refusal.{place_breaks}
 use Rattle.ss_check_rules.specs.declared.error.CheckError.TheVariants as errors
 use Rattle.ss_names_meaning.specs.Answers.{◌>>=◌}
-use Rattle.ss_names_meaning.specs.Expressions.{entity_of, set_owner, place_named, place_of, set_number, set_of_name, subscript}
+use Rattle.ss_names_meaning.specs.Expressions.{place_of, set_number, set_of_name}
 use Rattle.ss_check_laws.specs.BodyLaws.{IsResolvedRestart, RestartsResolve, IsResolvedSet, SetsResolve, IsResolvedTarget, TargetsResolve}
-use Rattle.ss_check_laws.specs.Links.{IsLinked, AreValid}
 use Rattle.ss_check_laws.proofs.Steps.{goes, meant, two_steps}
 use Rattle.ss_check_laws.proofs.Linked.{IsHere, meant_here, named_here, seen, watched_here}
 use Rattle.ss_check_laws.proofs.Places.{EntityFits, Numbers, OwnerHas, in_place, in_role, number_mode, owner_fits, place_kept, placed, said_is, statistic_fits}

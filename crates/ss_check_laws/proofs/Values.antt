@@ -5,38 +5,26 @@ use Rattle.std.specs.Option.{option_map_or}
 use Rattle.std.specs.List.{AllZip}
 use Rattle.std.specs.Map.{values_of}
 use Rattle.std.proofs.lemmas.Option.{slice_get_within}
-use Rattle.ss_base.specs.declared.line.Line.{Line}
-use Rattle.ss_base.specs.declared.layout.Mode.{Mode}
-use Rattle.ss_base.specs.declared.layout.Mode.TheVariants.{Integer}
+use Rattle.ss_check_laws.proofs.Common.{AreValid, call_statement, CanTakeMode, CheckError, expression, ExpressionTree, HasMode, if_means, Integer, IsLinked, IsTypedStatement, let_statement, Line, local_mode, local_modes, Meaning, Mode, mode_of_use, Moded, NameBytes, NamedTree, numbers_at, read_statement, RoutineSection, Scope, Statement, unless, upto, value_for}
 use Rattle.ss_base.specs.declared.words.Sign.{Sign}
-use Rattle.ss_tree.specs.Names.{NameBytes}
-use Rattle.ss_tree.specs.Tree.{ExpressionTree, NamedTree, let_statement, read_statement, call_statement}
-use Rattle.ss_names_declarations.specs.NameTable.{value_for}
 use Rattle.ss_names_uses.specs.declared.used.ModeOf.{ModeOf}
 use Rattle.ss_names_uses.specs.declared.used.ModeOf.TheVariants as modes
 use Rattle.ss_names_uses.specs.declared.used.Role.TheVariants as roles
 use Rattle.ss_names_uses.specs.Uses as uses
-use Rattle.ss_names.specs.declared.entry.RoutineSection.{RoutineSection}
-use Rattle.ss_names.specs.declared.meaning.Meaning.{Meaning}
 use Rattle.ss_names.specs.declared.meaning.Meaning.TheVariants as meanings
-use Rattle.ss_names_scopes.specs.Locals.{Moded}
-use Rattle.ss_names_scopes.specs.Scopes.{Scope, local_mode, local_mode_at, mode_given, parameter_mode}
-use Rattle.ss_check_rules.specs.declared.error.CheckError.{CheckError}
+use Rattle.ss_names_scopes.specs.Scopes.{local_mode_at, mode_given, parameter_mode}
 use Rattle.ss_check_rules.specs.declared.error.CheckError.TheVariants as errors
-use Rattle.ss_check_rules.specs.Kinds.{if_means, is_routine}
-use Rattle.ss_check_rules.specs.Modes.{mode_of_use}
-use Rattle.ss_program.specs.Program.{Statement, Change, Call, InputTarget}
-use Rattle.ss_program.specs.WellTyped.{TypedScope as Place, HasMode, CanTakeMode, IsTypedStatement}
-use Rattle.ss_names_meaning.specs.Answers.{◌>>=◌, upto}
-use Rattle.ss_names_meaning.specs.Expressions.{expression, target}
-use Rattle.ss_names_meaning.specs.Resolved.{local_modes}
+use Rattle.ss_check_rules.specs.Kinds.{is_routine}
+use Rattle.ss_program.specs.Program.{Change, Call, InputTarget}
+use Rattle.ss_program.specs.WellTyped.{TypedScope as Place}
+use Rattle.ss_names_meaning.specs.Answers.{◌>>=◌}
+use Rattle.ss_names_meaning.specs.Expressions.{target}
 use Rattle.ss_names_meaning.specs.Statements.{reader, routine_number, simple_statement}
-use Rattle.ss_names_laws.proofs.Steps.{numbers_at, upto_length}
-use Rattle.ss_check_laws.specs.Links.{IsLinked, IsRoutineAt, AreValid}
+use Rattle.ss_names_laws.proofs.Steps.{upto_length}
+use Rattle.ss_check_laws.specs.Links.{IsRoutineAt}
 use Rattle.ss_check_laws.proofs.Steps.{GoesWell, agree, each_resolves, holds_unless, two_parts}
 use Rattle.ss_check_laws.proofs.Expressions.{number_kept}
 use Rattle.ss_check_laws.proofs.Lists.{after, after_first, after_one, after_two, each_length, holds, in_order}
-use Rattle.ss_names_declarations.specs.Earliest.{unless}
 use Rattle.ss_check_laws.proofs.Parts.{expressions_resolve, targets_resolve}
 
 -- ---- routines

@@ -1,23 +1,10 @@
 -- What the generator emits where something is assigned.
 use Rattle.std.proofs.Common.{◌≡◌, ℕ, ◌≤◌, Bool, true, false, List, [], ◌∷◌, ◌++◌, Some, None, refl, sym, ap, ◌∙◌, subst, append-nil, if◌then◌else◌}
-use Rattle.ss_base.specs.declared.layout.Mode.{Mode}
-use Rattle.ss_base.specs.declared.layout.Mode.TheVariants.{Integer, Alpha}
-use Rattle.ss_program.specs.declared.expression.Variable.{Variable}
-use Rattle.ss_program.specs.declared.expression.Variable.TheVariants.{Global}
-use Rattle.ss_program.specs.declared.sections.Subject.TheVariants.{OfAttribute}
-use Rattle.ss_program.specs.Program.{Program, Expression, Place, ToVariable, ToAttribute, ToCount}
-use Rattle.ss_program.specs.WellTyped.{TypedScope, field_mode}
-use Rattle.ss_code_instructions.specs.declared.address.Address.{Address}
-use Rattle.ss_code_instructions.specs.Facts.{watch}
-use Rattle.ss_code_instructions.specs.Instructions.{Operand, Taken, Target, Into, Placed}
+use Rattle.ss_code_generator.proofs.Common.{above, Address, after_place, Alpha, AttributeSpot, code_of, Expression, field_mode, Final, Global, HasPrintModes, height, Integer, is_kept, IsRunBy, IsSiteOperand, IsVariable, IsWatchedAs, landed_code, landing, Mode, mode_here, moving, next, OfAttribute, Operand, Place, place, place_code, Placed, Program, Site, storing, Taken, Target, to_place_code, ToAttribute, ToCount, ToVariable, TypedScope, Variable, VariableSpot, watch}
+use Rattle.ss_code_instructions.specs.Instructions.{Into}
 use Rattle.ss_code_instructions.specs.Instructions as i
-use Rattle.ss_code_instructions.specs.Translation.{Site, height, place, above, next, is_kept, assignment, place_code, after_place, to_place_code, code_of}
-use Rattle.ss_code_instructions.specs.Carried.{mode_here}
-use Rattle.ss_code_generator.specs.declared.targets.VariableSpot.{VariableSpot}
-use Rattle.ss_code_generator.specs.declared.targets.AttributeSpot.{AttributeSpot}
-use Rattle.ss_code_instructions.specs.Forms.{moving, storing}
-use Rattle.ss_code_generator.specs.Emitted.{Final, HasPrintModes, IsRunBy, IsSiteOperand}
-use Rattle.ss_code_generator.specs.Spots.{IsWatchedAs, IsVariable, IsAttribute, landing, landed_code}
+use Rattle.ss_code_instructions.specs.Translation.{assignment}
+use Rattle.ss_code_generator.specs.Spots.{IsAttribute}
 use Rattle.ss_code_generator.proofs.Forms as forms
 use Rattle.ss_code_generator.proofs.Modes.{has_field}
 

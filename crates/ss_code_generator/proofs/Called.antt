@@ -2,25 +2,16 @@
 use Rattle.std.proofs.Common.{◌≡◌, ℕ, zero, suc, ◌+◌, ◌-◌, ◌<◌, ◌≤◌, ◌^◌, List, [], ◌∷◌, ◌++◌, length, drop, Some, refl, sym, ap, ◌∙◌, subst, arith, append_assoc, append-nil, length-drop}
 use Rattle.std.specs.Prelude.{slice_get}
 use Rattle.std.specs.List.{AllZip, AllByRecursion as Every}
-use Rattle.ss_base.specs.declared.line.Line.{Line}
-use Rattle.ss_base.specs.declared.layout.Mode.{Mode}
-use Rattle.ss_base.specs.declared.layout.Mode.TheVariants.{Integer}
+use Rattle.ss_code_generator.proofs.Common.{after, after_values, CanTakeMode, code_of, Expression, Final, Generator, HasEmitted, HasMode, HasPrintModes, HasReadOperand, height, Integer, IsAround, IsCarriedOut, IsTyped, IsTypedPlace, IsTypedStatement, Line, Lined, Mode, on_line, Operand, operand, operand_code, Place, place, Placed, Site, TypedScope, values_code, values_high, with_operand}
 use Rattle.ss_program.specs.Program as p
-use Rattle.ss_program.specs.Program.{Expression, Place}
-use Rattle.ss_program.specs.WellTyped.{TypedScope, HasMode, HaveModes, CanTakeMode, IsTypedStatement}
+use Rattle.ss_program.specs.WellTyped.{HaveModes}
 use Rattle.ss_code_instructions.specs.declared.instruction.Instruction.{Instruction as Running}
 use Rattle.ss_code_instructions.specs.declared.instruction.Instruction.TheVariants as r
-use Rattle.ss_code_instructions.specs.Instructions.{Operand, Placed}
 use Rattle.ss_code_instructions.specs.Instructions as i
-use Rattle.ss_code_instructions.specs.Translation.{Site, height, place, operand, operand_code, after, with_operand, values_code, after_values, with_results, give_code, gives_code, code_of}
-use Rattle.ss_code_instructions.specs.Carried.{IsOperandAt, IsCarriedOut}
-use Rattle.ss_code_instructions.proofs.Stacked.{values_high}
+use Rattle.ss_code_instructions.specs.Translation.{with_results, give_code, gives_code}
+use Rattle.ss_code_instructions.specs.Carried.{IsOperandAt}
 use Rattle.ss_code_generator.specs.declared.expressions.Operand.{Operand as Read}
-use Rattle.ss_code_generator.specs.declared.generator.Generator.{Generator}
 use Rattle.ss_code_generator.specs.declared.generator.Site.{Site as Here}
-use Rattle.ss_code_pieces.specs.Lined.{Lined, on_line}
-use Rattle.ss_code_generator.specs.Emitted.{Final, IsAround, HasPrintModes, HasEmitted, IsTyped, HasReadOperand}
-use Rattle.ss_code_generator.specs.Spots.{IsTypedPlace}
 use Rattle.ss_code_generator.proofs.Emitting.{around_old, grows_then, stands_old, stands_above, adds_then, adds_one, adds_same}
 
 -- ## What is yielded

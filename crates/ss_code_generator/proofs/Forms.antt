@@ -1,7 +1,6 @@
 -- What an instruction carries out that is chosen by operator, mode, relation, ordering or end.
 use Rattle.std.proofs.Common.{◌≡◌, ℕ, Bool, List, refl}
-use Rattle.ss_base.specs.declared.value.Value.{Value}
-use Rattle.ss_base.specs.declared.layout.Mode.{Mode}
+use Rattle.ss_code_generator.proofs.Common.{Address, calculating, IsCarriedOut, Mode, moving, OfAttribute, OfCount, Placed, storing, Value}
 use Rattle.ss_base.specs.declared.layout.Mode.TheVariants as modes
 use Rattle.ss_base.specs.declared.words.Operator.{Operator}
 use Rattle.ss_base.specs.declared.words.Operator.TheVariants as operators
@@ -11,18 +10,15 @@ use Rattle.ss_program.specs.declared.expression.MemberQuery.{MemberQuery}
 use Rattle.ss_program.specs.declared.expression.MemberQuery.TheVariants as member_queries
 use Rattle.ss_base.specs.declared.words.Relation.{Relation}
 use Rattle.ss_base.specs.declared.words.Relation.TheVariants as relations
-use Rattle.ss_program.specs.declared.sections.Subject.TheVariants.{OfAttribute, OfCount}
 use Rattle.ss_base.specs.declared.words.End.{End}
 use Rattle.ss_base.specs.declared.words.End.TheVariants as ends
-use Rattle.ss_code_instructions.specs.declared.address.Address.{Address}
-use Rattle.ss_code_instructions.specs.Instructions.{Placed}
 use Rattle.ss_code_instructions.specs.Instructions as i
 use Rattle.ss_code_instructions.specs.Machine.{Code}
-use Rattle.ss_code_instructions.specs.Carried.{IsCarriedOut, HasOperand, HasBearer, HasTarget, Is, IsCalculating, IsMovingValue, IsComparing, IsReadingAttribute, IsSettingAttribute, IsNotedIfWatched, IsUnwatched, IsFilingMember}
+use Rattle.ss_code_instructions.specs.Carried.{HasOperand, HasBearer, HasTarget, Is, IsCalculating, IsMovingValue, IsComparing, IsReadingAttribute, IsSettingAttribute, IsNotedIfWatched, IsUnwatched, IsFilingMember}
 use Rattle.ss_code_pieces.specs.declared.facts.Ordering.{Ordering}
 use Rattle.ss_code_pieces.specs.declared.facts.Ordering.TheVariants as orderings
 use Rattle.ss_code_pieces.specs.Preamble.{filing_of}
-use Rattle.ss_code_instructions.specs.Forms.{calculating, asking_set, asking_member, moving, fetching, storing, reading, comparing, removing}
+use Rattle.ss_code_instructions.specs.Forms.{asking_set, asking_member, fetching, reading, comparing, removing}
 use Rattle.ss_code_generator.specs.Filings.{filing_instruction}
 
 module _ (code : Code) (constants : List Value) (x : Placed) where

@@ -1,34 +1,20 @@
 -- LET, ADD and SUBTRACT, and what takes a value that an instruction leaves.
 use Rattle.std.proofs.Common.{◌≡◌, ℕ, ◌+◌, ◌<◌, ◌≤◌, ◌^◌, Bool, true, false, List, [], ◌∷◌, ◌++◌, length, Some, refl, sym, ap, ◌∙◌, subst, arith, if◌then◌else◌}
-use Rattle.ss_base.specs.declared.layout.Mode.{Mode}
-use Rattle.ss_base.specs.declared.layout.Mode.TheVariants.{Integer}
+use Rattle.ss_code_generator.proofs.Common.{above, Address, after, after_place, Assignment, AttributeSpot, calculating, CanTakeMode, code_of, CountedClass, entity_code, Expression, expression_code, Final, Generator, Global, HasAssigned, HasAssignedLanded, HasEmitted, HasGenerated, HasGrown, HasHeldMode, HasMode, HasPrintModes, HasReadOperand, HasTargetRoom, height, Held, Instruction, Integer, is_kept, IsAround, IsCarriedOut, IsInFrame, IsInteger, IsLocated, IsSiteOperand, IsSiteTarget, IsSpot, IsTyped, IsTypedPlace, IsTypedStatement, IsVariable, IsWatchedAs, landed_code, landing, Lined, Mode, mode_at, mode_here, next, OfAttribute, on_line, operand, operand_code, or_integer, Place, place, place_code, Placed, Program, RunningLines, Site, Spot, spot_cells, storing, Taken, Taking, Target, to_place_code, ToAttribute, ToCount, ToVariable, Variable, VariableSpot, watch, with_operand}
 use Rattle.ss_base.specs.declared.words.Sign.{Sign}
-use Rattle.ss_program.specs.declared.expression.Variable.{Variable}
-use Rattle.ss_program.specs.declared.expression.Variable.TheVariants.{Global}
-use Rattle.ss_program.specs.declared.sections.Subject.TheVariants.{OfAttribute}
-use Rattle.ss_program.specs.declared.statement.CountedClass.{CountedClass}
-use Rattle.ss_program.specs.Program.{Program, Expression, Place, ToVariable, ToAttribute, ToCount, Let, Change}
-use Rattle.ss_program.specs.WellTyped.{HasMode, CanTakeMode, IsTypedStatement, mode_at}
+use Rattle.ss_program.specs.Program.{Let, Change}
 use Rattle.ss_meaning.specs.Values.{operator_of}
-use Rattle.ss_code_instructions.specs.declared.address.Address.{Address}
 use Rattle.ss_code_instructions.specs.declared.instruction.Instruction.{Instruction as Running}
 use Rattle.ss_code_instructions.specs.declared.instruction.Instruction.TheVariants as r
-use Rattle.ss_code_instructions.specs.Facts.{watch, must_look}
-use Rattle.ss_code_instructions.specs.Instructions.{Held, Taken, Target, Instruction, Leave, Placed}
+use Rattle.ss_code_instructions.specs.Facts.{must_look}
+use Rattle.ss_code_instructions.specs.Instructions.{Leave}
 use Rattle.ss_code_instructions.specs.Instructions as i
-use Rattle.ss_code_instructions.specs.Translation.{Site, height, place, above, next, operand, operand_code, after, with_operand, expression_code, is_kept, entity_code, place_code, place_mode, after_place, count_code, let_code, change_code, to_place_code, give_code, or_integer, code_of}
-use Rattle.ss_code_instructions.specs.Carried.{RunningLines, IsInFrame, IsCarriedOut, mode_here}
+use Rattle.ss_code_instructions.specs.Translation.{place_mode, count_code, let_code, change_code, give_code}
 use Rattle.ss_code_generator.specs.declared.expressions.Operand.{Operand as Read}
-use Rattle.ss_code_generator.specs.declared.generator.Generator.{Generator}
 use Rattle.ss_code_generator.specs.declared.generator.Site.{Site as Here}
-use Rattle.ss_code_generator.specs.declared.targets.VariableSpot.{VariableSpot}
-use Rattle.ss_code_generator.specs.declared.targets.AttributeSpot.{AttributeSpot}
-use Rattle.ss_code_generator.specs.declared.targets.Spot.{Spot}
 use Rattle.ss_code_generator.specs.declared.targets.Spot.TheVariants as spots
-use Rattle.ss_code_pieces.specs.Lined.{Lined, on_line}
-use Rattle.ss_code_instructions.specs.Forms.{calculating, storing}
-use Rattle.ss_code_generator.specs.Emitted.{Final, IsAround, HasGrown, IsLocated, HasPrintModes, HasGenerated, HasNoMore, HasEmitted, IsSiteOperand, IsSiteTarget, IsTyped, IsInteger, HasReadOperand}
-use Rattle.ss_code_generator.specs.Spots.{IsWatchedAs, IsVariable, IsSpot, IsTypedPlace, HasTargetRoom, HasHeldMode, Assignment, HasAssigned, Taking, HasAssignedLanded, Changed, place_variable, IsHeldBy, spot_cells, spot_code, landing, assigned_code, landed_code}
+use Rattle.ss_code_generator.specs.Emitted.{HasNoMore}
+use Rattle.ss_code_generator.specs.Spots.{Changed, place_variable, IsHeldBy, spot_code, assigned_code}
 use Rattle.ss_code_generator.proofs.Emitting.{around_old, grows_then, stands_old, stands_above, adds_then, adds_one, adds_same}
 use Rattle.ss_code_generator.proofs.Forms as forms
 use Rattle.ss_code_generator.proofs.Modes.{same_some, on_top, operand_mode, mode_after}

@@ -1,3 +1,4 @@
+mod Common
 pub mod Emitting
 pub mod Forms
 pub mod Modes

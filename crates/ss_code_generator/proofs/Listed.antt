@@ -2,16 +2,11 @@
 use Rattle.std.proofs.Common.{◌≡◌, ℕ, ◌+◌, ◌<◌, List, [], ◌∷◌, ◌++◌, length, map, take, drop, get_or, refl, ap, sym, ◌∙◌, arith, append_assoc, append-nil}
 use Rattle.std.proofs.lemmas.List.{take_more, drop_more, map-append}
 use Rattle.std.specs.List.{AllByRecursion as Every}
-use Rattle.ss_program.specs.declared.statement.CountedClass.{CountedClass}
-use Rattle.ss_program.specs.Program.{InputTarget, Restart}
-use Rattle.ss_program.specs.WellTyped.{TypedScope}
+use Rattle.ss_code_generator.proofs.Common.{after_bearer, bearer, bearer_code, CountedClass, creates_code, Generator, HasEmitted, Lined, on_line, place, Placed, reads_code, Restart, restarts_code, Site, to_place_code, TypedScope}
+use Rattle.ss_program.specs.Program.{InputTarget}
 use Rattle.ss_code_instructions.specs.declared.instruction.Instruction.TheVariants.{CreateAll as CreatesAll}
-use Rattle.ss_code_instructions.specs.Instructions.{Placed, Read, CreateAll, Reset}
-use Rattle.ss_code_instructions.specs.Translation.{Site, place, bearer, bearer_code, after_bearer, to_place_code, reads_code, creates_code, restarts_code}
-use Rattle.ss_code_generator.specs.declared.generator.Generator.{Generator}
+use Rattle.ss_code_instructions.specs.Instructions.{Read, CreateAll, Reset}
 use Rattle.ss_code_generator.specs.declared.generator.Site.{Site as Here}
-use Rattle.ss_code_pieces.specs.Lined.{Lined, on_line}
-use Rattle.ss_code_generator.specs.Emitted.{HasEmitted}
 use Rattle.ss_code_generator.proofs.Emitting.{around_old, grows_then, stands_old, adds_then, adds_one, adds_same}
 
 -- what is so of all things, with one of them more

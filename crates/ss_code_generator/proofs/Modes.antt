@@ -4,25 +4,15 @@ use Rattle.std.proofs.lemmas.Bool.{eqb-true, eq-eqb, ne_eqb}
 use Rattle.std.specs.Prelude.{slice_get, ◌==◌}
 use Rattle.std.specs.List.{fold}
 use Rattle.std.specs.Option.{option_map, option_and_then}
-use Rattle.ss_base.specs.declared.layout.Mode.{Mode}
-use Rattle.ss_base.specs.declared.value.Value.{Value}
+use Rattle.ss_code_generator.proofs.Common.{above, after, code_of, Expression, expression_mode, field_mode, Final, Generator, Global, HasGrown, HasMode, height, Held, Instruction, IsAround, IsLocated, Local, Mode, mode_at, mode_here, Operand, operand, or_integer, place, Placed, Program, scope_for_modes, Site, Stays, Taken, TypedScope, Value, Variable, view_program}
 use Rattle.ss_base.specs.declared.layout.ClassLayout.{ClassLayout}
 use Rattle.ss_world.specs.State.{modes_in}
-use Rattle.ss_program.specs.declared.expression.Variable.{Variable}
-use Rattle.ss_program.specs.declared.expression.Variable.TheVariants.{Global, Local}
-use Rattle.ss_program.specs.Program.{Program, Expression, Constant, Fetch, Attribute, OfSystemSet, OfSet, OfMember, Clock, TimeOf, Figure, FigureOf, Signed, Unary, Calculate}
-use Rattle.ss_program.specs.View.{view_program}
-use Rattle.ss_program.specs.WellTyped.{TypedScope, HasMode, mode_at, field_mode}
-use Rattle.ss_code_instructions.specs.Instructions.{Operand, Instruction, Held, Taken, Stays, Placed}
+use Rattle.ss_program.specs.Program.{Constant, Fetch, Attribute, OfSystemSet, OfSet, OfMember, Clock, TimeOf, Figure, FigureOf, Signed, Unary, Calculate}
 use Rattle.ss_code_instructions.specs.Instructions as i
 use Rattle.ss_code_instructions.specs.States.{cell_at}
-use Rattle.ss_code_instructions.specs.Translation.{Site, height, place, operand, after, above, or_integer, expression_mode, code_of}
-use Rattle.ss_code_instructions.specs.Carried.{mode_here, HasFieldMode}
+use Rattle.ss_code_instructions.specs.Carried.{HasFieldMode}
 use Rattle.ss_code_instructions.proofs.Shaping.{mode_so}
-use Rattle.ss_code_generator.specs.declared.generator.Generator.{Generator}
 use Rattle.ss_code_generator.specs.declared.generator.Site.{Site as Here}
-use Rattle.ss_code_pieces.specs.Preamble.{scope_for_modes}
-use Rattle.ss_code_generator.specs.Emitted.{Final, IsAround, HasGrown, IsLocated}
 
 -- ## What the definition's facts say of a program that is well typed
 

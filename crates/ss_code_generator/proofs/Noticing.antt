@@ -3,32 +3,18 @@ use Rattle.std.proofs.Common.{◌≡◌, ◌≢◌, ℕ, zero, suc, ◌+◌, ◌
 use Rattle.std.proofs.lemmas.Bool.{true≢false, eqb-true, eq-eqb}
 use Rattle.std.specs.Prelude.{◌==◌}
 use Rattle.std.specs.List.{AllZip, AllByRecursion as Every}
-use Rattle.ss_base.specs.declared.layout.Mode.{Mode}
-use Rattle.ss_base.specs.declared.layout.Mode.TheVariants.{Integer}
+use Rattle.ss_code_generator.proofs.Common.{above, Address, after, after_bearer, after_place, after_values, AreNumbers, Assignment, AttributeSpot, bearer, bearer_code, CanTakeMode, entity_code, Expression, Final, Generator, HasAdded, HasAssigned, HasAssignedLanded, HasBorne, HasEmitted, HasGrown, HasHeldMode, HasMode, HasReadOperand, HasTargetRoom, height, Held, Instruction, Integer, is_kept, IsAround, IsInFrame, IsLocated, IsRunBy, IsSiteOperand, IsSiteTarget, IsSpot, IsTyped, IsTypedRestart, IsTypedStatement, landing, Lined, Mode, next, OfAttribute, on_line, Operand, operand, operand_code, Place, place, place_code, Placed, Program, Restart, restarts_code, Site, Spot, spot_cells, stay, Stays, storing, Taken, Taking, Target, ToAttribute, ToCount, ToVariable, TypedScope, values_code, values_high, VariableSpot, watch, with_operand}
 use Rattle.ss_program.specs.declared.sections.Statistic.{Statistic}
-use Rattle.ss_program.specs.declared.sections.Subject.TheVariants.{OfAttribute}
-use Rattle.ss_program.specs.Program.{Program, Expression, Place, ToVariable, ToAttribute, ToCount, When, At, In, Restart, ScheduleNew, Schedule}
-use Rattle.ss_program.specs.WellTyped.{TypedScope, HasMode, IsTypedWhen, IsTypedRestart, AreTypedGiven, IsTypedStatement, CanTakeMode}
-use Rattle.ss_code_instructions.specs.declared.address.Address.{Address}
+use Rattle.ss_program.specs.Program.{When, At, In, ScheduleNew, Schedule}
+use Rattle.ss_program.specs.WellTyped.{IsTypedWhen, AreTypedGiven}
 use Rattle.ss_code_instructions.specs.declared.instruction.Instruction.{Instruction as Running}
 use Rattle.ss_code_instructions.specs.declared.instruction.Instruction.TheVariants as r
-use Rattle.ss_code_instructions.specs.Facts.{watch}
-use Rattle.ss_code_instructions.specs.Instructions.{Operand, Held, Taken, Stays, Target, Instruction, Placed}
 use Rattle.ss_code_instructions.specs.Instructions as i
-use Rattle.ss_code_instructions.specs.Translation.{Site, height, place, above, next, forget, operand, operand_code, after, with_operand, stay, is_kept, bearer, bearer_code, after_bearer, entity_code, values_code, after_values, when_code, place_code, after_place, count_code, notice_code, schedule_new_code, schedule_code, restarts_code}
-use Rattle.ss_code_instructions.specs.Carried.{IsInFrame}
-use Rattle.ss_code_instructions.proofs.Stacked.{values_high}
+use Rattle.ss_code_instructions.specs.Translation.{forget, when_code, count_code, notice_code, schedule_new_code, schedule_code}
 use Rattle.ss_code_generator.specs.declared.expressions.Operand.{Operand as Read}
-use Rattle.ss_code_generator.specs.declared.generator.Generator.{Generator}
 use Rattle.ss_code_generator.specs.declared.generator.Site.{Site as Here}
-use Rattle.ss_code_generator.specs.declared.targets.VariableSpot.{VariableSpot}
-use Rattle.ss_code_generator.specs.declared.targets.AttributeSpot.{AttributeSpot}
-use Rattle.ss_code_generator.specs.declared.targets.Spot.{Spot}
 use Rattle.ss_code_generator.specs.declared.targets.Spot.TheVariants as spots
-use Rattle.ss_code_pieces.specs.Lined.{Lined, on_line}
-use Rattle.ss_code_instructions.specs.Forms.{storing}
-use Rattle.ss_code_generator.specs.Emitted.{Final, IsAround, HasGrown, IsLocated, IsRunBy, HasAdded, HasEmitted, IsSiteTarget, IsSiteOperand, IsTyped, AreNumbers, IsRead, HasReadOperand, HasBorne}
-use Rattle.ss_code_generator.specs.Spots.{IsSpot, HasTargetRoom, HasHeldMode, Assignment, HasAssigned, Taking, HasAssignedLanded, spot_cells, landing}
+use Rattle.ss_code_generator.specs.Emitted.{IsRead}
 use Rattle.ss_code_generator.specs.Notices.{any_watched, named_at, named_code, HasNamed}
 use Rattle.ss_code_generator.proofs.Emitting.{around_old, grows_same, grows_then, stands_old, stands_above, adds_then, adds_one, adds_same}
 use Rattle.ss_code_generator.proofs.Modes.{on_top}

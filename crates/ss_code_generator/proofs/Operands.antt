@@ -1,19 +1,12 @@
 -- Operands, and instructions that read them.
 use Rattle.std.proofs.Common.{◌≡◌, suc, ◌+◌, ◌<◌, ◌^◌, List, [], ◌∷◌, ◌++◌, length, Option, Some, None, Result, Ok, Err, refl, sym, ap, ◌∙◌, subst, arith}
 use Rattle.std.specs.Prelude.{IfOk}
-use Rattle.ss_base.specs.declared.layout.Mode.{Mode}
-use Rattle.ss_program.specs.Program.{Expression}
-use Rattle.ss_program.specs.WellTyped.{TypedScope}
-use Rattle.ss_code_instructions.specs.declared.address.Address.{Address}
+use Rattle.ss_code_generator.proofs.Common.{Address, after, Constant, Expression, expression_code, expression_mode, Final, Generator, HasBorne, HasGrown, HasReadOperand, height, Held, Instruction, IsAround, IsInFrame, IsLocated, IsRunBy, IsSiteOperand, IsSiteTarget, IsTyped, Lined, Mode, next, on_line, Operand, operand, operand_code, place, Site, stay, Stays, Taken, TypedScope, with_operand}
 use Rattle.ss_code_instructions.specs.declared.instruction.Instruction.{Instruction as Running}
-use Rattle.ss_code_instructions.specs.Instructions.{Operand, Constant, Held, Taken, Stays, Instruction}
-use Rattle.ss_code_instructions.specs.Translation.{Site, height, place, leaf, or_cell, or_in_cell, unless_leaf, expression_mode, operand, operand_code, after, stay, next, with_operand, expression_code}
-use Rattle.ss_code_instructions.specs.Carried.{IsInFrame}
+use Rattle.ss_code_instructions.specs.Translation.{leaf, or_cell, or_in_cell, unless_leaf}
 use Rattle.ss_code_generator.specs.declared.expressions.Operand.{Operand as Read}
-use Rattle.ss_code_generator.specs.declared.generator.Generator.{Generator}
 use Rattle.ss_code_generator.specs.declared.generator.Site.{Site as Here}
-use Rattle.ss_code_pieces.specs.Lined.{Lined, on_line}
-use Rattle.ss_code_generator.specs.Emitted.{Final, IsAround, HasGrown, IsLocated, IsRunBy, HasEmittedTo, IsSiteOperand, IsSiteTarget, IsTyped, IsRead, HasReadOperand, HasReadBy, HasBorne}
+use Rattle.ss_code_generator.specs.Emitted.{HasEmittedTo, IsRead, HasReadBy}
 use Rattle.ss_code_generator.proofs.Emitting.{around_old, stands_old, stands_above, adds_then, adds_one, adds_same}
 
 -- ## Addresses

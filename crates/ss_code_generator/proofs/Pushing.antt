@@ -4,20 +4,11 @@ use Rattle.std.specs.Prelude.{pos}
 use Rattle.std.specs.List.{AllByRecursion as Every}
 use Rattle.ss_base.specs.declared.value.Value.TheVariants.{Whole}
 use Rattle.ss_program.specs.declared.expression.Expression as expressions
-use Rattle.ss_program.specs.Program.{Expression}
-use Rattle.ss_program.specs.View.{view_expression}
-use Rattle.ss_code_instructions.specs.declared.address.Address.{Address}
+use Rattle.ss_code_generator.proofs.Common.{above, Address, after_values, Constant, Expression, expression_code, expression_mode, Final, Generator, HasEmitted, HasGrown, height, Instruction, IsAround, IsInFrame, IsSiteOperand, IsTyped, Lined, next, no_code, on_line, place, Placed, Site, values_code, values_high, VariableSpot, view_expression}
 use Rattle.ss_code_instructions.specs.declared.instruction.Instruction.TheVariants as r
-use Rattle.ss_code_instructions.specs.Instructions.{Constant, Instruction, Placed}
 use Rattle.ss_code_instructions.specs.Instructions as i
-use Rattle.ss_code_instructions.specs.Translation.{Site, height, place, next, above, expression_mode, expression_code, values_code, after_values, take_code}
-use Rattle.ss_code_instructions.specs.Carried.{IsInFrame}
-use Rattle.ss_code_instructions.proofs.Stacked.{values_high}
-use Rattle.ss_code_generator.specs.declared.generator.Generator.{Generator}
+use Rattle.ss_code_instructions.specs.Translation.{take_code}
 use Rattle.ss_code_generator.specs.declared.generator.Site.{Site as Here}
-use Rattle.ss_code_generator.specs.declared.targets.VariableSpot.{VariableSpot}
-use Rattle.ss_code_pieces.specs.Lined.{Lined, no_code, on_line}
-use Rattle.ss_code_generator.specs.Emitted.{Final, IsAround, HasGrown, HasEmitted, IsSiteOperand, IsTyped}
 use Rattle.ss_code_generator.specs.Looped.{HasTakenLoopItem, HasTakenItems}
 use Rattle.ss_code_generator.proofs.Emitting.{around_old, grows_same, grows_then, stands_old, stands_above, adds_then, adds_one, adds_piece, adds_same, piece_long}
 use Rattle.ss_code_generator.proofs.Operands.{cell_at_site}

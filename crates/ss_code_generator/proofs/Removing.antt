@@ -1,23 +1,13 @@
 -- What the generator emits for REMOVE FIRST and REMOVE LAST.
 use Rattle.std.proofs.Common.{◌≡◌, ℕ, ◌+◌, ◌<◌, ◌^◌, Bool, [], ◌∷◌, ◌++◌, refl}
-use Rattle.ss_base.specs.declared.layout.Mode.TheVariants.{Integer}
-use Rattle.ss_program.specs.declared.sections.Subject.TheVariants.{OfCount}
+use Rattle.ss_code_generator.proofs.Common.{Address, after_bearer, after_place, bearer, bearer_code, code_of, expression_of, Generator, HasAssignedLanded, HasBorne, HasEmitted, HasGrown, Instruction, Integer, IsSpot, IsTypedPlace, IsTypedStatement, landed_code, landing, Lined, OfCount, on_line, Place, place, place_code, SetOwner, Site, Spot, spot_cells, Taking, Target, watch}
 use Rattle.ss_base.specs.declared.words.End.{End}
-use Rattle.ss_program.specs.Program.{SetOwner, Place, RemoveEnd}
-use Rattle.ss_program.specs.WellTyped.{IsTypedStatement}
-use Rattle.ss_code_instructions.specs.declared.address.Address.{Address}
-use Rattle.ss_code_instructions.specs.Facts.{watch, expression_of}
-use Rattle.ss_code_instructions.specs.Instructions.{Instruction, Target}
+use Rattle.ss_program.specs.Program.{RemoveEnd}
 use Rattle.ss_code_instructions.specs.Instructions as i
-use Rattle.ss_code_instructions.specs.Translation.{Site, place, bearer, bearer_code, after_bearer, with_owner, place_code, after_place, remove_end_code, code_of}
+use Rattle.ss_code_instructions.specs.Translation.{with_owner, remove_end_code}
 use Rattle.ss_code_generator.specs.declared.expressions.Operand.{Operand as Read}
-use Rattle.ss_code_generator.specs.declared.generator.Generator.{Generator}
 use Rattle.ss_code_generator.specs.declared.generator.Site.{Site as Here}
-use Rattle.ss_code_generator.specs.declared.targets.Spot.{Spot}
-use Rattle.ss_code_pieces.specs.Lined.{Lined, on_line}
 use Rattle.ss_code_instructions.specs.Forms.{removing}
-use Rattle.ss_code_generator.specs.Emitted.{HasGrown, HasEmitted, HasBorne}
-use Rattle.ss_code_generator.specs.Spots.{IsSpot, IsTypedPlace, Taking, HasAssignedLanded, spot_cells, landing, landed_code}
 use Rattle.ss_code_generator.proofs.Emitting.{around_old, grows_then, stands_old, adds_then, adds_one, adds_same}
 use Rattle.ss_code_generator.proofs.Forms as forms
 use Rattle.ss_code_generator.proofs.Testing.{owner_number}

@@ -2,27 +2,17 @@
 use Rattle.std.proofs.Common.{◌≡◌, ℕ, ◌+◌, ◌-◌, ◌<◌, ◌≤◌, ◌^◌, Bool, true, false, List, [], ◌∷◌, ◌++◌, length, Option, Some, None, refl, sym, ap, ◌∙◌, subst, arith, append_assoc, append-nil, length-append}
 use Rattle.std.specs.Prelude.{IfSome}
 use Rattle.std.specs.List.{AllByRecursion as Every}
-use Rattle.ss_base.specs.declared.line.Line.{Line}
-use Rattle.ss_base.specs.declared.layout.Mode.TheVariants.{Integer}
-use Rattle.ss_program.specs.declared.expression.Variable.{Variable}
-use Rattle.ss_program.specs.Program.{Expression, SetOwner, TheSystem, Entity, Start, AtEnd, From, After, Head, Numbers, Members, Each, Guard, Phrase}
-use Rattle.ss_program.specs.WellTyped.{TypedScope, IsTypedHead, IsTypedPhrase, IsTypedCondition, HasMode}
-use Rattle.ss_code_instructions.specs.declared.address.Address.{Address}
+use Rattle.ss_code_generator.proofs.Common.{above, Address, AreNumbers, Each, Entity, Expression, expression_code, expression_of, Final, for_code, Generator, Guard, guards_code, HasAdded, HasBorne, HasEmitted, HasEmittedAround, HasGrown, HasMode, height, Integer, IsAround, IsInFrame, IsInteger, IsLocated, IsRunBy, IsTyped, IsTypedCondition, IsTypedHead, IsTypedPhrase, IsVariable, Line, Lined, next, no_code, on_line, Phrase, phrases_code, place, Placed, SetOwner, Site, TheSystem, TypedScope, Variable, VariableSpot}
+use Rattle.ss_program.specs.Program.{Start, AtEnd, From, After, Head, Numbers, Members}
 use Rattle.ss_code_instructions.specs.declared.instruction.Instruction.{Instruction as Running}
 use Rattle.ss_code_instructions.specs.declared.instruction.Instruction.TheVariants as r
-use Rattle.ss_code_instructions.specs.Instructions.{Bearer, Placed}
+use Rattle.ss_code_instructions.specs.Instructions.{Bearer}
 use Rattle.ss_code_instructions.specs.Instructions as i
-use Rattle.ss_code_instructions.specs.Facts.{expression_of}
-use Rattle.ss_code_instructions.specs.Translation.{Site, height, place, next, above, forget, forget_to, expression_code, guards_code, loop_code, take_code, turns_code, step_code, range_code, number_loop, walk_loop, owner_code, owner_cell, owner_kept, start_code, begin_code, in_loop, phrases_code, for_code, find_code}
-use Rattle.ss_code_instructions.specs.Carried.{IsInFrame}
+use Rattle.ss_code_instructions.specs.Translation.{forget, forget_to, loop_code, take_code, turns_code, step_code, range_code, number_loop, walk_loop, owner_code, owner_cell, owner_kept, start_code, begin_code, in_loop, find_code}
 use Rattle.ss_code_generator.specs.declared.expressions.Operand.{Operand as Read}
-use Rattle.ss_code_generator.specs.declared.generator.Generator.{Generator}
 use Rattle.ss_code_generator.specs.declared.generator.Site.{Site as Here}
 use Rattle.ss_code_generator.specs.declared.loops.MemberLoop.{MemberLoop}
-use Rattle.ss_code_generator.specs.declared.targets.VariableSpot.{VariableSpot}
-use Rattle.ss_code_pieces.specs.Lined.{Lined, no_code, on_line}
-use Rattle.ss_code_generator.specs.Emitted.{Final, IsAround, HasGrown, IsLocated, HasAdded, IsRunBy, HasEmitted, HasEmittedAround, HasEmittedAroundBoth, IsSiteBearer, HasBorne, IsTyped, IsInteger, AreNumbers}
-use Rattle.ss_code_generator.specs.Spots.{IsVariable}
+use Rattle.ss_code_generator.specs.Emitted.{HasEmittedAroundBoth, IsSiteBearer}
 use Rattle.ss_code_generator.specs.Looped.{loop_width, is_after, begin_of, items_begin, begins_items, item_loop_code, HasTakenLoopItem, HasTakenItems, HasTakenMembers, HasKeptOwner, HasStartedWalk, Walking}
 use Rattle.ss_code_generator.proofs.Emitting.{around_old, grows_same, grows_then, stands_old, stands_new, stands_above, adds_none, adds_then, adds_one, adds_piece, adds_same, piece_long}
 use Rattle.ss_code_generator.proofs.Operands.{cell_at_site}

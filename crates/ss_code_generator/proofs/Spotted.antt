@@ -1,32 +1,14 @@
 -- What the generator finds of a place that is assigned, and what it emits there.
 use Rattle.std.proofs.Common.{◌≡◌, ℕ, ◌+◌, ◌<◌, ◌≤◌, ◌^◌, Bool, true, false, List, [], ◌∷◌, ◌++◌, Some, None, Result, Ok, Err, IfOk, refl, sym, ap, ◌∙◌, subst, arith, append-nil, if◌then◌else◌}
-use Rattle.ss_base.specs.declared.line.Line.{Line}
-use Rattle.ss_base.specs.declared.layout.Mode.{Mode}
-use Rattle.ss_base.specs.declared.layout.Mode.TheVariants.{Integer, Alpha}
-use Rattle.ss_program.specs.declared.expression.Variable.TheVariants.{Global}
-use Rattle.ss_program.specs.declared.sections.Subject.TheVariants.{OfAttribute}
-use Rattle.ss_program.specs.declared.statement.CountedClass.{CountedClass}
-use Rattle.ss_program.specs.Program.{Program, Expression, Place, ToVariable, ToAttribute, ToCount}
-use Rattle.ss_program.specs.View.{view_program}
-use Rattle.ss_program.specs.WellTyped.{TypedScope, mode_at, field_mode}
-use Rattle.ss_code_instructions.specs.declared.address.Address.{Address}
+use Rattle.ss_code_generator.proofs.Common.{above, Address, after, Alpha, Assignment, AttributeSpot, code_of, CountedClass, entity_code, Expression, field_mode, Final, Generator, Global, HasAdded, HasAssigned, HasAssignedLanded, HasGenerated, HasHeldMode, HasReadOperand, HasTargetRoom, height, Instruction, Integer, is_kept, IsAround, IsInteger, IsLocated, IsSiteOperand, IsSiteTarget, IsSpot, IsTypedPlace, IsWatchedAs, landed_code, landing, Line, Lined, Mode, mode_at, mode_here, moving, next, OfAttribute, on_line, Operand, operand, operand_code, or_integer, Place, place, Placed, Program, Site, Spot, stay, storing, Taken, Target, ToAttribute, ToCount, ToVariable, TypedScope, VariableSpot, view_program, watch}
 use Rattle.ss_code_instructions.specs.declared.instruction.Instruction.{Instruction as Running}
 use Rattle.ss_code_instructions.specs.declared.instruction.Instruction.TheVariants as r
-use Rattle.ss_code_instructions.specs.Facts.{watch}
-use Rattle.ss_code_instructions.specs.Instructions.{Operand, Taken, Target, Instruction, Leave, Placed}
+use Rattle.ss_code_instructions.specs.Instructions.{Leave}
 use Rattle.ss_code_instructions.specs.Instructions as i
-use Rattle.ss_code_instructions.specs.Translation.{Site, height, place, above, next, or_integer, operand, operand_code, after, stay, is_kept, assignment, entity_code, code_of}
-use Rattle.ss_code_instructions.specs.Carried.{mode_here}
-use Rattle.ss_code_generator.specs.declared.generator.Generator.{Generator}
+use Rattle.ss_code_instructions.specs.Translation.{assignment}
 use Rattle.ss_code_generator.specs.declared.generator.Site.{Site as Here}
-use Rattle.ss_code_generator.specs.declared.targets.VariableSpot.{VariableSpot}
-use Rattle.ss_code_generator.specs.declared.targets.AttributeSpot.{AttributeSpot}
-use Rattle.ss_code_generator.specs.declared.targets.Spot.{Spot}
 use Rattle.ss_code_generator.specs.declared.targets.Spot.TheVariants as spots
-use Rattle.ss_code_pieces.specs.Lined.{Lined, on_line}
-use Rattle.ss_code_instructions.specs.Forms.{moving, storing}
-use Rattle.ss_code_generator.specs.Emitted.{Final, IsAround, IsLocated, HasAdded, HasGenerated, IsSiteOperand, IsSiteTarget, IsInteger, HasReadOperand}
-use Rattle.ss_code_generator.specs.Spots.{IsWatchedAs, IsAttribute, IsSpot, IsPlaceOf, IsTypedPlace, HasTargetRoom, HasHeldMode, Assignment, HasAssigned, HasAssignedLanded, landing, assigned_code, landed_code}
+use Rattle.ss_code_generator.specs.Spots.{IsAttribute, IsPlaceOf, assigned_code}
 use Rattle.ss_code_generator.proofs.Emitting.{grows_same, stands_above, adds_none, adds_then, adds_one, adds_same}
 use Rattle.ss_code_generator.proofs.Operands.{operand_at, stays_at}
 use Rattle.ss_code_generator.proofs.Modes.{on_top}

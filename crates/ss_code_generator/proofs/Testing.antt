@@ -1,21 +1,16 @@
 -- What the generator emits for conditions.
 use Rattle.std.proofs.Common.{◌≡◌, ℕ, ◌+◌, ◌<◌, ◌^◌, Bool, List, [], ◌∷◌, ◌++◌, length, Option, Some, refl, sym, ap, ◌∙◌, subst, arith, append_assoc, length-append}
-use Rattle.ss_base.specs.declared.layout.Mode.{Mode}
+use Rattle.ss_code_generator.proofs.Common.{after, after_bearer, AreNumbers, bearer, bearer_code, code_of, condition_code, Entity, Expression, expression_of, Final, Generator, Guard, guards_code, HasBorne, HasEmitted, HasEmittedAround, HasMode, HasReadOperand, Instruction, IsAround, IsLocated, IsTyped, IsTypedCondition, IsTypedPhrase, IsTypedTest, Lined, Mode, no_code, on_line, operand, operand_code, Phrase, phrases_code, place, Placed, SetOwner, Site, TheSystem, TypedScope}
 use Rattle.ss_base.specs.declared.words.Relation.{Relation}
 use Rattle.std.specs.List.{AllByRecursion as Every}
-use Rattle.ss_program.specs.Program.{Expression, SetOwner, TheSystem, Entity, Test, Compare, Empty, Condition, Guard, Phrase}
-use Rattle.ss_program.specs.WellTyped.{TypedScope, HasMode, IsTypedOwner, IsTypedTest, IsTypedCondition, IsTypedPhrase}
+use Rattle.ss_program.specs.Program.{Test, Compare, Empty, Condition}
+use Rattle.ss_program.specs.WellTyped.{IsTypedOwner}
 use Rattle.ss_code_instructions.specs.declared.instruction.Instruction.TheVariants as r
-use Rattle.ss_code_instructions.specs.Instructions.{Instruction, Placed}
 use Rattle.ss_code_instructions.specs.Instructions as i
-use Rattle.ss_code_instructions.specs.Facts.{expression_of}
-use Rattle.ss_code_instructions.specs.Translation.{Site, place, operand, operand_code, after, bearer, bearer_code, after_bearer, test_code, tests_code, condition_code, negated_code, guard_code, guards_code, phrase_code, phrases_code, code_of}
+use Rattle.ss_code_instructions.specs.Translation.{test_code, tests_code, negated_code, guard_code, phrase_code}
 use Rattle.ss_code_generator.specs.declared.expressions.Operand.{Operand as Read}
-use Rattle.ss_code_generator.specs.declared.generator.Generator.{Generator}
 use Rattle.ss_code_generator.specs.declared.generator.Site.{Site as Here}
-use Rattle.ss_code_pieces.specs.Lined.{Lined, no_code, on_line}
 use Rattle.ss_code_instructions.specs.Forms.{comparing}
-use Rattle.ss_code_generator.specs.Emitted.{Final, IsAround, IsLocated, HasEmitted, HasEmittedAround, IsTyped, AreNumbers, HasReadOperand, HasBorne}
 use Rattle.ss_code_generator.proofs.Emitting.{around_old, grows_same, grows_then, stands_old, adds_then, adds_one, adds_apart, adds_same, piece_long}
 use Rattle.ss_code_generator.proofs.Forms as forms
 use Rattle.ss_code_generator.proofs.Modes.{operand_mode, mode_after}

@@ -3,39 +3,28 @@ use Rattle.std.proofs.Common.{◌≡◌, ℕ, ◌+◌, ◌<◌, ◌≤◌, ◌^�
 use Rattle.std.proofs.lemmas.List.{take_more, take_all}
 use Rattle.std.proofs.lemmas.List.Sums.{fold-append}
 use Rattle.std.specs.Prelude.{pos, slice_get}
-use Rattle.ss_base.specs.declared.layout.Mode.{Mode}
-use Rattle.ss_base.specs.declared.layout.Mode.TheVariants.{Integer}
-use Rattle.ss_base.specs.declared.value.Value.{Value}
+use Rattle.ss_code_generator.proofs.Common.{Address, after, calculating, code_of, Constant, Expression, expression_code, field_mode, Final, Generator, Global, HasGrown, HasMode, HasPrintModes, HasReadOperand, height, Held, Instruction, Integer, IsAround, IsCarriedOut, IsInFrame, IsInteger, IsLocated, IsRunBy, IsSiteOperand, IsSiteTarget, IsTyped, Lined, Local, Mode, mode_at, moving, on_line, Operand, operand, operand_code, or_integer, place, Placed, Program, Site, Target, TypedScope, Value, Variable, view_expression, view_program, with_operand, with_operations}
 use Rattle.ss_base.specs.declared.value.Value.TheVariants.{Whole}
 use Rattle.ss_base.specs.Layout.{mode_of}
-use Rattle.ss_program.specs.declared.expression.Variable.{Variable}
-use Rattle.ss_program.specs.declared.expression.Variable.TheVariants.{Global, Local}
 use Rattle.ss_program.specs.declared.expression.Operation.{Operation}
 use Rattle.ss_program.specs.declared.expression.SetQuery.{SetQuery}
 use Rattle.ss_program.specs.declared.expression.MemberQuery.{MemberQuery}
 use Rattle.ss_program.specs.declared.expression.Fold.{Fold}
 use Rattle.ss_base.specs.declared.words.Sign.{Sign}
 use Rattle.ss_base.specs.declared.words.UnaryOperator.{UnaryOperator}
-use Rattle.ss_program.specs.Program.{Program, Expression, Constant as AConstant, Fetch, Attribute, OfSystemSet, OfSet, OfMember, TimeOf, Figure, FigureOf, Signed, Unary}
-use Rattle.ss_program.specs.View.{view_expression, view_program}
+use Rattle.ss_program.specs.Program.{Constant as AConstant, Fetch, Attribute, OfSystemSet, OfSet, OfMember, TimeOf, Figure, FigureOf, Signed, Unary}
 use Rattle.ss_program.specs.Views.{with_operation}
-use Rattle.ss_program.specs.WellTyped.{TypedScope, HasMode, mode_at, field_mode}
 use Rattle.ss_meaning.specs.Values.{operator_of}
-use Rattle.ss_code_instructions.specs.declared.address.Address.{Address}
 use Rattle.ss_code_instructions.specs.declared.instruction.Instruction.{Instruction as Running}
 use Rattle.ss_code_instructions.specs.declared.instruction.Instruction.TheVariants as r
-use Rattle.ss_code_instructions.specs.Instructions.{Operand, Constant, Held, Target, Instruction, Placed}
 use Rattle.ss_code_instructions.specs.Instructions as i
-use Rattle.ss_code_instructions.specs.Translation.{Site, height, place, operand, operand_code, after, with_operand, expression_code, or_integer, code_of}
-use Rattle.ss_code_instructions.specs.Carried.{IsVariableAt, IsInFrame, IsCarriedOut}
+use Rattle.ss_code_instructions.specs.Carried.{IsVariableAt}
 use Rattle.ss_code_generator.specs.declared.expressions.Operand.{Operand as Read}
-use Rattle.ss_code_generator.specs.declared.generator.Generator.{Generator}
 use Rattle.ss_code_generator.specs.declared.generator.Site.{Site as Here}
-use Rattle.ss_code_pieces.specs.Lined.{Lined, on_line}
-use Rattle.ss_code_instructions.specs.Forms.{calculating, asking_set, asking_member, moving, fetching}
+use Rattle.ss_code_instructions.specs.Forms.{asking_set, asking_member, fetching}
 use Rattle.ss_code_pieces.specs.Preamble.{mode_in}
-use Rattle.ss_code_generator.specs.Calculations.{HasEmittedExpression, with_operations, operation_code, LeftOperand, HasOperated}
-use Rattle.ss_code_generator.specs.Emitted.{Final, IsAround, HasGrown, IsLocated, HasPrintModes, IsRunBy, HasEmittedTo, IsSiteOperand, IsSiteTarget, IsTyped, IsInteger, HasReadOperand}
+use Rattle.ss_code_generator.specs.Calculations.{HasEmittedExpression, operation_code, LeftOperand, HasOperated}
+use Rattle.ss_code_generator.specs.Emitted.{HasEmittedTo}
 use Rattle.ss_code_generator.proofs.Emitting.{around_old, grows_then, stands_old, adds_then, adds_one, adds_same, makes_later}
 use Rattle.ss_code_generator.proofs.Forms as forms
 use Rattle.ss_code_generator.proofs.Modes.{held_mode, has_field}

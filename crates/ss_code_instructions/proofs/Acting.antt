@@ -1,25 +1,9 @@
 -- No instruction changes what the program says once and for all, or that each member of a set lives, and none but a READ the input.
 use Rattle.std.proofs.Common.{ℕ, ◌==◌, Bool, true, false, List, [], ◌∷◌, length, Option, Some, None, Ok, Err, ℤ, sym, ap, ◌∙◌}
 use Rattle.std.specs.Prelude.{Result, ◌+ℤ◌, slice_get}
-use Rattle.ss_base.specs.declared.fault.FaultKind.{FaultKind}
-use Rattle.ss_base.specs.declared.layout.Mode.{Mode}
-use Rattle.ss_base.specs.declared.line.Line.{Line}
-use Rattle.ss_base.specs.declared.value.Value.{Value}
-use Rattle.ss_base.specs.declared.value.Value.TheVariants.{Whole}
-use Rattle.ss_meaning.specs.Words.{Given, is_ended}
-use Rattle.ss_meaning.specs.Values.{Failure, if_ok, turned, due, where_fit, number_of, calculated, applied, related, printed, empty_lines}
-use Rattle.ss_meaning.specs.Store.{Setting, Store, opened, yielded}
-use Rattle.ss_meaning.specs.Entities.{entity, attribute, time_of, made_one, made_all, without}
-use Rattle.ss_meaning.specs.Places.{assigned_variable, assigned_attribute}
-use Rattle.ss_meaning.specs.Sets.{member, known_owner, of_set, of_member, is_none, is_empty, is_in, filed_in, removed_from, removed_at, begun, begun_at, goes_on}
-use Rattle.ss_meaning.specs.Events.{clock, time_at, AtTime, Later, made_notice, filed_notice, rescheduled, unscheduled, Beginning, Coming, next_event, event_begun}
-use Rattle.ss_meaning.specs.Statistics.{figure, mean, reset}
-use Rattle.ss_meaning.specs.Loops.{range_of, indices}
-use Rattle.ss_meaning.specs.Statements.{read_value}
-use Rattle.ss_code_instructions.specs.Instructions.{Taken, Target, Into, Onto, Instruction, EntryPoint}
+use Rattle.ss_code_instructions.proofs.Common.{act, AnEvent, applied, ARoutine, assignable_count, assigned_attribute, assigned_variable, AtTime, attribute, back_if, Beginning, begun, begun_at, calculated, Called, cell_at, cells_of_kinds, changed_attribute, clock, Code, Coming, Core, deliver_with, did, due, empty_lines, enter, entity, EntryPoint, event_begun, Failure, FaultKind, figure, filed_in, filed_notice, Frame, goes_on, has_next, if_ok, indices, Instruction, Into, is_empty, is_ended, is_in, is_none, known_owner, Later, leave, Line, made_all, made_notice, made_one, mean, member, Mode, Moved, next_event, next_item, number_of, of_member, of_set, Onto, onward, opened, printed, put_to, range_of, read_value, related, removed_at, removed_from, rescheduled, reset, Setting, Store, take_event, take_next, take_off, Taken, Target, time_at, time_of, turned, unscheduled, unsigned, Value, values_shown, Walk, walk_at, walk_cells, walk_further, where_fit, Whole, without, Written, yielded}
+use Rattle.ss_meaning.specs.Words.{Given}
 use Rattle.ss_code_instructions.specs.Instructions as i
-use Rattle.ss_code_instructions.specs.States.{Called, ARoutine, AnEvent, Frame, Core, Moved, did, back_if, cell_at, take_off, Written, put_to, deliver_with, onward}
-use Rattle.ss_code_instructions.specs.Machine.{Code, changed_attribute, assignable_count, Walk, walk_at, walk_cells, unsigned, has_next, next_item, walk_further, values_shown, cells_of_kinds, enter, leave, take_event, take_next, act}
 use Rattle.ss_code_instructions.specs.Reached.{read_mode, HasTakenIf, HasTakenBy, input_of}
 use Rattle.ss_code_instructions.proofs.Keeping.{Only, Where, Lasts, lasts_then, lasts_so, Same, same_here, same_then, SameWith, TakesWord, ComingSame, BeginningSame, each, then_only, made, made_from, variable_same, attribute_same, changed_same, made_one_same, made_all_same, without_same, filed_same, removed_same, end_same, notice_same, pending_same, again_same, cancelled_same, read_takes, reset_same, event_same, begun_same}
 use Rattle.ss_code_instructions.proofs.Moving.{Every, every_so, did_only, did_any, fit_any, if_every, high, block, number, value, values, bearer, position, three, walk}

@@ -2,23 +2,10 @@
 use Rattle.std.proofs.Common.{◌≡◌, ℕ, ◌+◌, Bool, true, false, List, [], ◌∷◌, ◌++◌, length, Some, Ok, Err, refl, subst, arith}
 use Rattle.std.specs.Prelude.{Result as OkOr, slice_get, if◌then◌else◌}
 use Rattle.ss_base.specs.declared.fault.FaultKind.TheVariants.{CreatedTwice}
-use Rattle.ss_base.specs.declared.line.Line.{Line}
-use Rattle.ss_base.specs.declared.layout.Mode.TheVariants.{Integer}
-use Rattle.ss_base.specs.declared.value.Value.{Value}
+use Rattle.ss_code_instructions.proofs.Common.{above, assignable_count, assigned_variable, class_at, Code, core_at, count_code, CountedClass, deliver, did, Fails, Failure, Frame, Global, height, InCount, Integer, Into, InVariable, is_kept, is_permanent, Left, Line, looked, MachineState, Moved, next, onward, Operand, Outcome, outcome_then, Part, place, Placed, RunState, settle, Site, Store, Target, turned, TypeError, unless_fault, Value, Variable, variable_code, WentOn, where_fit, with_operand_value, write, Written}
 use Rattle.ss_meaning.specs.State.{is_made}
-use Rattle.ss_program.specs.declared.expression.Variable.{Variable}
-use Rattle.ss_program.specs.declared.expression.Variable.TheVariants.{Global}
-use Rattle.ss_program.specs.declared.statement.CountedClass.{CountedClass}
-use Rattle.ss_meaning.specs.Values.{Failure, Fails, TypeError, turned, where_fit, unless_fault}
-use Rattle.ss_meaning.specs.Store.{Store}
-use Rattle.ss_meaning.specs.Entities.{class_at, is_permanent}
-use Rattle.ss_meaning.specs.Places.{InVariable, InCount, assigned_variable}
-use Rattle.ss_meaning.specs.Parts.{RunState, WentOn, Left, Outcome, Part, outcome_then, looked, settle, write}
-use Rattle.ss_code_instructions.specs.Instructions.{Operand, Target, Into, Placed}
 use Rattle.ss_code_instructions.specs.Instructions as i
-use Rattle.ss_code_instructions.specs.States.{Frame, MachineState, Moved, Written, did, core_at, with_operand_value, onward, deliver}
-use Rattle.ss_code_instructions.specs.Machine.{Code, assignable_count}
-use Rattle.ss_code_instructions.specs.Translation.{Site, height, above, place, next, is_kept, variable_code, assignment, count_code}
+use Rattle.ss_code_instructions.specs.Translation.{assignment}
 use Rattle.ss_code_instructions.proofs.Steps.{HasAt, Reaches, here, at, arrive}
 use Rattle.ss_code_instructions.proofs.Parts.{Leads, onwards, breaks, whatever, step_leads, did_leads, at_the_height, Runs, same, done, put_on, went, seq, alike, change_runs}
 use Rattle.ss_code_instructions.proofs.Operands.{on, Tops, put_then}

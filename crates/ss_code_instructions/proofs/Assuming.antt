@@ -1,14 +1,10 @@
 -- What is shown of the code of each statement and of each list of them, and what is assumed of calls and of events.
 use Rattle.std.proofs.Common.{◌≡◌, ℕ, suc, ◌+◌, List, [], ◌∷◌, ◌++◌, length}
-use Rattle.ss_base.specs.declared.line.Line.{Line}
-use Rattle.ss_base.specs.declared.value.Value.{Value}
-use Rattle.ss_program.specs.Program.{Statement, Block, Done, Then}
-use Rattle.ss_meaning.specs.Parts.{RunState}
-use Rattle.ss_meaning.specs.Statements.{Calls, effect, effects}
+use Rattle.ss_code_instructions.proofs.Common.{act, Block, block_code, block_prints, Calls, Code, core_at, effects, Frame, height, Line, place, RunState, Site, Statement, statement_prints, Then, Value}
+use Rattle.ss_program.specs.Program.{Done}
+use Rattle.ss_meaning.specs.Statements.{effect}
 use Rattle.ss_code_instructions.specs.Instructions as i
-use Rattle.ss_code_instructions.specs.States.{Frame, core_at}
-use Rattle.ss_code_instructions.specs.Machine.{Code, act}
-use Rattle.ss_code_instructions.specs.Translation.{Site, height, place, statement_prints, block_prints, statement_code, block_code}
+use Rattle.ss_code_instructions.specs.Translation.{statement_code}
 use Rattle.ss_code_instructions.proofs.Steps.{HasAt, has_front, has_back, at, arrive}
 use Rattle.ss_code_instructions.proofs.Parts.{Within, Leads, Runs, same, done, onto, seq, none}
 use Rattle.ss_code_instructions.proofs.Following.{IfWentOn}

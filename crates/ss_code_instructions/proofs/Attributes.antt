@@ -2,26 +2,9 @@
 use Rattle.std.proofs.Common.{◌≡◌, ℕ, ◌+◌, Bool, true, false, not, List, [], ◌∷◌, ◌++◌, length, Some, Ok, Err, ℤ, refl, sym, ap, ◌∙◌, subst, arith, length-append, ◌⊎◌, inl, inr}
 use Rattle.std.proofs.lemmas.Bool.{eqb-true, and_parts, false≢true}
 use Rattle.std.specs.Prelude.{Result as OkOr, slice_get, ◌==◌, ◌&&◌, if◌then◌else◌}
-use Rattle.ss_base.specs.declared.fault.FaultKind.{FaultKind}
-use Rattle.ss_base.specs.declared.line.Line.{Line}
-use Rattle.ss_base.specs.declared.layout.Mode.{Mode}
-use Rattle.ss_base.specs.declared.value.Value.{Value}
-use Rattle.ss_program.specs.declared.expression.Variable.{Variable}
-use Rattle.ss_program.specs.declared.expression.Variable.TheVariants.{Global, Local}
-use Rattle.ss_program.specs.Program.{Expression, Constant, Fetch, Attribute, OfSystemSet, OfSet, OfMember, Clock, TimeOf, Figure, FigureOf, Signed, Unary, Calculate, ToAttribute}
-use Rattle.ss_meaning.specs.Values.{Failure, Fails, TypeError, if_ok, turned, sure, calculated}
-use Rattle.ss_meaning.specs.Store.{Store, fetched}
-use Rattle.ss_meaning.specs.Entities.{entity, attribute}
-use Rattle.ss_meaning.specs.Places.{InAttribute, assigned_attribute}
-use Rattle.ss_meaning.specs.Expressions.{value, looked_at}
-use Rattle.ss_meaning.specs.Parts.{RunState, Faulted, Part, outcome_then, looked, look, settle, change, write}
-use Rattle.ss_meaning.specs.Statements.{give_to}
-use Rattle.ss_code_instructions.specs.Instructions.{Operand, Held, Taken, Stays, Placed}
+use Rattle.ss_code_instructions.proofs.Common.{act, after, assigned_attribute, Attribute, attribute, Calculate, calculated, change, Clock, Code, Constant, Core, core_at, did, entity, entity_code, Expression, Fails, Failure, Faulted, FaultKind, Fetch, fetched, Figure, FigureOf, Frame, give_to, Global, height, Held, if_ok, InAttribute, is_due, leaf, let_code, lies_above, Line, Local, look, looked, looked_at, Mode, Moved, must_look, OfMember, OfSet, OfSystemSet, onward, Operand, operand, operand_code, or_zero, outcome_then, Part, place, Placed, RunState, settle, Signed, Site, stay, Stays, Store, sure, Taken, TimeOf, ToAttribute, turned, TypeError, Unary, Value, value, Variable, with_cells, with_operand, with_operand_value, with_values, write}
 use Rattle.ss_code_instructions.specs.Instructions as i
-use Rattle.ss_code_instructions.specs.States.{Frame, Core, Moved, did, or_zero, core_at, with_operand_value, with_values, lies_above, onward}
-use Rattle.ss_code_instructions.specs.Machine.{Code, act, is_due}
-use Rattle.ss_code_instructions.specs.Facts.{is_leaf, is_constant, same_variable, is_fetch_of, looks_first, must_look}
-use Rattle.ss_code_instructions.specs.Translation.{Site, height, with_cells, place, leaf, operand, after, operand_code, with_operand, stay, entity_code, let_code}
+use Rattle.ss_code_instructions.specs.Facts.{is_leaf, is_constant, same_variable, is_fetch_of, looks_first}
 use Rattle.ss_code_instructions.proofs.Steps.{HasAt, has_front, has_back, Reaches, here, free, at, left_to, arrive}
 use Rattle.ss_code_instructions.proofs.Parts.{Within, onwards, breaks, step_leads, did_leads, Runs, same, done}
 use Rattle.ss_code_instructions.proofs.Operands.{held, held_height, sure_is, reads, reads_both, one_join}

@@ -1,14 +1,8 @@
 -- The code of statements, one by one and in lists.
 use Rattle.std.proofs.Common.{◌≡◌, ℕ, ◌+◌, List, [], ◌∷◌, length, refl, subst}
-use Rattle.ss_base.specs.declared.line.Line.{Line}
-use Rattle.ss_base.specs.declared.value.Value.{Value}
-use Rattle.ss_program.specs.Program.{Condition, Head, Numbers, Each, Members, TheSystem, Entity, Statement, Let, Change, Call, Return, Stop, Read, Simulate, If, Loop, For, Find, Create, CreateEvery, Destroy, File, RemoveEnd, Remove, ScheduleNew, Schedule, Cancel, Reset, Print, Skip, Block, Done, Then}
-use Rattle.ss_meaning.specs.Expressions.{holds}
-use Rattle.ss_meaning.specs.Parts.{Part, outcome_then, choose, look}
-use Rattle.ss_meaning.specs.Statements.{Calls, effects}
-use Rattle.ss_code_instructions.specs.Instructions.{Placed}
-use Rattle.ss_code_instructions.specs.Machine.{Code}
-use Rattle.ss_code_instructions.specs.Translation.{Site, height, site_at_line, no_line, in_loop, after_values, condition_code, if_code, statement_prints, block_prints, block_code}
+use Rattle.ss_code_instructions.proofs.Common.{after_values, Block, block_code, block_prints, Call, Calls, Cancel, Change, choose, Code, Condition, condition_code, Create, CreateEvery, Destroy, Each, effects, Entity, File, Find, For, Head, height, holds, If, in_loop, Let, Line, look, Loop, Members, Numbers, outcome_then, Part, Placed, Print, Read, Remove, RemoveEnd, Reset, Return, Schedule, ScheduleNew, Simulate, Site, Skip, Statement, statement_prints, Stop, Then, TheSystem, Value}
+use Rattle.ss_program.specs.Program.{Done}
+use Rattle.ss_code_instructions.specs.Translation.{site_at_line, no_line, if_code}
 use Rattle.ss_code_instructions.proofs.Steps.{has_front, has_back}
 use Rattle.ss_code_instructions.proofs.Parts.{Runs, same, done, onto, seq}
 use Rattle.ss_code_instructions.proofs.Branching.{if_run, if_alone_run}

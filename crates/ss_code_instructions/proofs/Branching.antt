@@ -1,16 +1,10 @@
 -- Code that goes on where something holds, and jumps where it does not.
 use Rattle.std.proofs.Common.{◌≡◌, ℕ, ◌+◌, Bool, true, false, not, List, [], ◌∷◌, ◌++◌, length, Some, Ok, refl, subst, arith, length-append}
 use Rattle.std.specs.Prelude.{slice_get, Result as OkOr}
-use Rattle.ss_base.specs.declared.line.Line.{Line}
-use Rattle.ss_base.specs.declared.value.Value.{Value}
-use Rattle.ss_code_instructions.specs.Instructions.{Placed, Jump}
-use Rattle.ss_meaning.specs.Values.{Failure, if_ok}
-use Rattle.ss_meaning.specs.Store.{Store}
+use Rattle.ss_code_instructions.proofs.Common.{choose, Code, core_at, Failure, Frame, height, if_ok, Line, look, outcome_then, Part, past, Placed, RunState, Site, Store, Value}
+use Rattle.ss_code_instructions.specs.Instructions.{Jump}
 use Rattle.ss_meaning.specs.Expressions.{both, either}
-use Rattle.ss_meaning.specs.Parts.{RunState, Part, outcome_then, look, choose}
-use Rattle.ss_code_instructions.specs.States.{Frame, core_at, past}
-use Rattle.ss_code_instructions.specs.Machine.{Code}
-use Rattle.ss_code_instructions.specs.Translation.{Site, height, place as here_is}
+use Rattle.ss_code_instructions.specs.Translation.{place as here_is}
 use Rattle.ss_code_instructions.proofs.Steps.{HasAt, has_front, has_back, Goal, Comes, Reaches, here, at, arrive, join, follow}
 use Rattle.ss_code_instructions.proofs.Parts.{Within, within_on, onwards, step_leads, Lands, Runs, same, done, alike, looks_then}
 

@@ -1,23 +1,8 @@
 -- A step takes at most one tick. It leaves the open calls as they are, opens one and takes a tick, or goes back from the last.
 use Rattle.std.proofs.Common.{◌≡◌, ℕ, zero, suc, ◌+◌, Bool, true, false, List, [], ◌∷◌, ◌++◌, length, Option, Some, None, Ok, ℤ, refl, sym, ap, ◌∙◌, subst, ◌⊎◌, inl, inr}
 use Rattle.std.specs.Prelude.{Result, ◌+ℤ◌, slice_get}
-use Rattle.ss_base.specs.declared.line.Line.{Line}
-use Rattle.ss_base.specs.declared.value.Value.{Value}
-use Rattle.ss_base.specs.declared.value.Value.TheVariants.{Whole}
-use Rattle.ss_meaning.specs.Words.{is_ended}
-use Rattle.ss_meaning.specs.Values.{Failure, if_ok, turned, due, number_of, calculated, applied, related, printed, empty_lines}
-use Rattle.ss_meaning.specs.Store.{Store, opened, yielded}
-use Rattle.ss_meaning.specs.Entities.{entity, attribute, time_of, made_one, made_all, without}
-use Rattle.ss_meaning.specs.Places.{assigned_variable, assigned_attribute}
-use Rattle.ss_meaning.specs.Sets.{member, known_owner, of_set, of_member, is_none, is_empty, is_in, filed_in, removed_from, removed_at, begun, begun_at, goes_on}
-use Rattle.ss_meaning.specs.Events.{clock, time_at, AtTime, Later, made_notice, filed_notice, rescheduled, unscheduled, Coming, next_event, event_begun}
-use Rattle.ss_meaning.specs.Statistics.{figure, mean, reset}
-use Rattle.ss_meaning.specs.Loops.{range_of, indices}
-use Rattle.ss_meaning.specs.Statements.{read_value}
-use Rattle.ss_code_instructions.specs.Instructions.{Taken, Target, Instruction, Placed, EntryPoint}
+use Rattle.ss_code_instructions.proofs.Common.{act, AnEvent, applied, ARoutine, assignable_count, assigned_attribute, assigned_variable, AtTime, attribute, back_if, begun, begun_at, Breaks, calculated, Called, cell_at, cells_of_kinds, changed_attribute, clock, Code, Coming, Core, deliver_with, did, Done, due, empty_lines, enter, entity, EntryPoint, event_begun, Failure, figure, filed_in, filed_notice, Frame, Goes, goes_on, has_next, if_ok, indices, Instruction, is_due, is_empty, is_ended, is_in, is_none, known_owner, Later, leave, Line, MachineState, made_all, made_notice, made_one, mean, member, Moved, next_event, next_item, number_of, of_member, of_set, onward, opened, Placed, printed, put_to, range_of, read_value, related, removed_at, removed_from, rescheduled, reset, Rest, Sends, step, step_at, Store, Stuck, take_event, take_next, take_off, Taken, Target, time_at, time_of, To, turned, unscheduled, unsigned, Value, values_shown, Walk, walk_at, walk_cells, walk_further, when_due, Whole, with_rest, without, yielded}
 use Rattle.ss_code_instructions.specs.Instructions as i
-use Rattle.ss_code_instructions.specs.States.{Called, ARoutine, AnEvent, Frame, Core, MachineState, Done, Breaks, Moved, To, Sends, Rest, Stuck, did, back_if, cell_at, take_off, deliver_with, put_to, onward}
-use Rattle.ss_code_instructions.specs.Machine.{Code, changed_attribute, assignable_count, Walk, walk_at, walk_cells, unsigned, has_next, next_item, walk_further, values_shown, cells_of_kinds, enter, leave, take_event, take_next, act, is_due, Goes, with_rest, when_due, step_at, step}
 use Rattle.ss_code_instructions.specs.Laws.{AreNextCalls, TicksAndCalls}
 use Rattle.ss_code_instructions.proofs.Moving.{Every, did_any, fit_any, if_every, high, block, number, value, values, bearer, position, three, walk}
 

@@ -2,22 +2,11 @@
 use Rattle.std.proofs.Common.{◌≡◌, ℕ, suc, ◌+◌, Bool, true, false, List, [], ◌∷◌, ◌++◌, length, Option, Some, None, Ok, Err, ℤ, refl, sym, ap, ◌∙◌, subst, arith, length-append}
 use Rattle.std.proofs.lemmas.Bool.{lt-ltb}
 use Rattle.std.specs.Prelude.{nat_lt, Result as OkOr, if◌then◌else◌}
-use Rattle.ss_base.specs.declared.line.Line.{Line}
-use Rattle.ss_base.specs.declared.value.Value.{Value}
-use Rattle.ss_base.specs.declared.words.Sign.{Sign}
-use Rattle.ss_program.specs.Program.{Expression, Constant, Fetch, Attribute, OfSystemSet, OfSet, OfMember, Clock, TimeOf, Figure, FigureOf, Signed, Unary, Calculate, ToAttribute}
-use Rattle.ss_meaning.specs.Values.{Failure, Fails, TypeError, if_ok, turned, calculated, operator_of}
-use Rattle.ss_meaning.specs.Store.{Store}
-use Rattle.ss_meaning.specs.Entities.{entity, attribute}
-use Rattle.ss_meaning.specs.Places.{InAttribute, held as held_at, assigned_attribute}
-use Rattle.ss_meaning.specs.Expressions.{value, looked_at, spot}
-use Rattle.ss_meaning.specs.Parts.{RunState, outcome_then, looked, look, settle, change, write}
+use Rattle.ss_code_instructions.proofs.Common.{after, assigned_attribute, Attribute, attribute, Calculate, calculated, change, change_code, changed_attribute, Clock, Code, Constant, entity, Expression, expression_mode, Fails, Failure, Fetch, Figure, FigureOf, height, Held, if_ok, InAttribute, leaf, lies_above, Line, look, looked, looked_at, MachineState, Moved, OfMember, OfSet, OfSystemSet, Operand, operand, operand_code, operator_of, or_cell, or_in_cell, outcome_then, place, Placed, RunState, settle, Sign, Signed, Site, Store, Taken, TimeOf, ToAttribute, turned, TypeError, Unary, Value, value, with_operand_value, with_values, write}
+use Rattle.ss_meaning.specs.Places.{held as held_at}
+use Rattle.ss_meaning.specs.Expressions.{spot}
 use Rattle.ss_meaning.specs.Statements.{change_by}
-use Rattle.ss_code_instructions.specs.Instructions.{Operand, Held, Taken, Placed}
 use Rattle.ss_code_instructions.specs.Instructions as i
-use Rattle.ss_code_instructions.specs.States.{MachineState, Moved, with_operand_value, with_values, lies_above}
-use Rattle.ss_code_instructions.specs.Machine.{Code, changed_attribute}
-use Rattle.ss_code_instructions.specs.Translation.{Site, height, leaf, or_cell, or_in_cell, expression_mode, operand, after, operand_code, place, change_code}
 use Rattle.ss_code_instructions.proofs.Steps.{Reaches, at, arrive}
 use Rattle.ss_code_instructions.proofs.Parts.{Runs, same, done}
 use Rattle.ss_code_instructions.proofs.Operands.{held, held_height, leaf_reads, leaf_low, reads, one_join}

@@ -1,22 +1,11 @@
 -- The code of conditions.
 use Rattle.std.proofs.Common.{◌≡◌, ℕ, ◌+◌, Bool, true, false, not, List, [], ◌∷◌, ◌++◌, length, Option, Ok, Err, refl, ap, subst, arith}
 use Rattle.std.specs.Prelude.{Result as OkOr}
-use Rattle.ss_base.specs.declared.fault.FaultKind.{FaultKind}
-use Rattle.ss_base.specs.declared.line.Line.{Line}
-use Rattle.ss_base.specs.declared.value.Value.{Value}
-use Rattle.ss_meaning.specs.Words.{is_ended}
-use Rattle.ss_base.specs.declared.words.GuardKind.{GuardKind}
+use Rattle.ss_code_instructions.proofs.Common.{after, Code, Compare, Condition, condition_code, core_at, DataEnded, did, due, Empty, Expression, expression_of, Fails, Failure, FaultKind, fit, Guard, GuardKind, guards_code, height, holds, if_ok, is_empty, is_ended, is_in, Line, look, looked, looked_code, may_fault, Member, member, member_value, Moved, not_if, onward_if, operand, outcome_then, owner_value, past, place, related, RunState, SetOwner, Site, sure, Test, turned, TypeError, Value, WentOn, with_owner}
 use Rattle.ss_base.specs.declared.words.GuardKind.TheVariants as guards
-use Rattle.ss_program.specs.Program.{Expression, SetOwner, Test, Compare, DataEnded, Empty, Member, Condition, Guard}
-use Rattle.ss_meaning.specs.Values.{Failure, Fails, TypeError, if_ok, turned, due, sure, related}
-use Rattle.ss_meaning.specs.Sets.{member, is_empty, is_in}
-use Rattle.ss_meaning.specs.Expressions.{member_value, owner_value, not_if, passed, both, either, all_hold, holds, passes, all_pass}
-use Rattle.ss_meaning.specs.Parts.{RunState, WentOn, outcome_then, looked, look}
+use Rattle.ss_meaning.specs.Expressions.{passed, both, either, all_hold, passes, all_pass}
 use Rattle.ss_code_instructions.specs.Instructions as i
-use Rattle.ss_code_instructions.specs.States.{Moved, did, fit, core_at, past, onward_if}
-use Rattle.ss_code_instructions.specs.Machine.{Code}
-use Rattle.ss_code_instructions.specs.Facts.{expression_of, may_fault}
-use Rattle.ss_code_instructions.specs.Translation.{Site, height, place, operand, after, with_owner, looked_code, test_code, tests_code, alternatives_code, condition_code, negated_code, guard_code, guards_code}
+use Rattle.ss_code_instructions.specs.Translation.{test_code, tests_code, alternatives_code, negated_code, guard_code}
 use Rattle.ss_code_instructions.proofs.Steps.{Comes, Reaches, here, at, arrive}
 use Rattle.ss_code_instructions.proofs.Parts.{onwards, Lands, same, done, alike, look_lands}
 use Rattle.ss_code_instructions.proofs.Looking.{fit_did, two_lands, owner_lands}

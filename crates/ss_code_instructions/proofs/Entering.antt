@@ -2,20 +2,12 @@
 use Rattle.std.proofs.Common.{◌≡◌, ℕ, zero, suc, ◌+◌, ◌==◌, Bool, true, false, List, [], ◌∷◌, ◌++◌, length, Option, Some, None, Ok, refl, sym, ap, ◌∙◌, subst, arith, if◌then◌else◌}
 use Rattle.std.proofs.lemmas.Bool.{eqb-true}
 use Rattle.std.specs.Prelude.{slice_get}
-use Rattle.ss_base.specs.declared.line.Line.{Line}
-use Rattle.ss_base.specs.declared.value.Value.{Value}
-use Rattle.ss_program.specs.WellTyped.{TypedScope}
-use Rattle.ss_program.specs.Program.{Block, Routine, Event, Program}
-use Rattle.ss_meaning.specs.Store.{Store, opened, yielded}
-use Rattle.ss_meaning.specs.Events.{Beginning, Coming, next_event, event_begun}
-use Rattle.ss_meaning.specs.Parts.{RunState, Returned, Stopped, Faulted, OutOfTicks, Wrong, Outcome, WentOn, Left, Part, outcome_then, then_nothing, needed}
-use Rattle.ss_meaning.specs.Statements.{Calls, effects}
-use Rattle.ss_meaning.specs.Meaning.{with_locals, come_back, enclosed, routine_called, event_routine, begin, event_taken, calls, setting_of}
-use Rattle.ss_code_instructions.specs.Instructions.{Placed, EntryPoint}
+use Rattle.ss_code_instructions.proofs.Common.{act, AnEvent, ARoutine, at_height, Beginning, Block, block_code, block_prints, Called, Calls, calls, Code, Coming, Core, core_at, effects, enter, EntryPoint, Event, event_begun, Faulted, first_site, fit, Frame, Left, Line, MachineState, Moved, needed, next_event, opened, Outcome, outcome_then, OutOfTicks, Part, place, Placed, Program, Returned, Routine, routine_entry, RunState, section_code, Site, Stopped, Store, take_event, take_next, TypedScope, Value, WentOn, with_block, with_locals, Wrong, yielded}
+use Rattle.ss_meaning.specs.Parts.{then_nothing}
+use Rattle.ss_meaning.specs.Meaning.{come_back, enclosed, routine_called, event_routine, begin, event_taken, setting_of}
 use Rattle.ss_code_instructions.specs.Instructions as i
-use Rattle.ss_code_instructions.specs.States.{Called, ARoutine, AnEvent, Frame, Core, MachineState, Moved, core_at, fit, at_height, with_block}
-use Rattle.ss_code_instructions.specs.Machine.{Code, act, enter_with, enter, take_event, take_next}
-use Rattle.ss_code_instructions.specs.Translation.{Site, place, block_prints, block_code, section_code, first_site, routine_scope, event_scope, routine_entry, event_entry}
+use Rattle.ss_code_instructions.specs.Machine.{enter_with}
+use Rattle.ss_code_instructions.specs.Translation.{routine_scope, event_scope, event_entry}
 use Rattle.ss_code_instructions.proofs.Keeping.{Only, Where, Lasts, lasts_then, lasts_so, ComingSame, BeginningSame, event_same, begun_same}
 use Rattle.ss_code_instructions.proofs.Steps.{HasAt, has_front, has_back, Reaches, reaches_on, at, arrive, landed}
 use Rattle.ss_code_instructions.proofs.Parts.{Within, Leads, onwards, whatever, ticked, tick_run, out_run, did_leads, at_the_height, onto}

@@ -1,24 +1,11 @@
 -- The code of expressions.
 use Rattle.std.proofs.Common.{◌≡◌, ℕ, ◌+◌, false, List, [], ◌∷◌, ◌++◌, length, Some, None, Ok, Err, refl, sym, ap, ◌∙◌, subst, arith, length-append}
 use Rattle.std.specs.Prelude.{Result as OkOr}
-use Rattle.ss_base.specs.declared.line.Line.{Line}
-use Rattle.ss_base.specs.declared.value.Value.{Value}
-use Rattle.ss_base.specs.declared.value.Value.TheVariants.{Whole}
+use Rattle.ss_code_instructions.proofs.Common.{act, after, applied, Attribute, attribute, Calculate, calculated, Clock, clock, Code, Constant, core_at, deliver, Expression, expression_code, Fails, Failure, Fetch, Figure, figure, FigureOf, Frame, height, if_ok, Instruction, is_due, leaf, Line, look, looked, next, of_member, of_set, OfMember, OfSet, OfSystemSet, Operand, operand, operand_code, operator_of, outcome_then, Part, place, Placed, RunState, Signed, Site, Store, Target, time_of, TimeOf, TypeError, Unary, Value, value, Whole, with_operand_value, with_values}
 use Rattle.std.specs.Prelude.{pos}
-use Rattle.ss_program.specs.Program.{Expression, Constant, Fetch, Attribute, OfSystemSet, OfSet, OfMember, Clock, TimeOf, Figure, FigureOf, Signed, Unary, Calculate}
-use Rattle.ss_meaning.specs.Values.{Failure, Fails, TypeError, if_ok, calculated, operator_of, signed, applied}
-use Rattle.ss_meaning.specs.Store.{Store}
-use Rattle.ss_meaning.specs.Entities.{attribute, time_of}
-use Rattle.ss_meaning.specs.Sets.{of_set, of_member}
-use Rattle.ss_meaning.specs.Events.{clock}
-use Rattle.ss_meaning.specs.Statistics.{figure}
-use Rattle.ss_meaning.specs.Expressions.{value}
-use Rattle.ss_meaning.specs.Parts.{RunState, Part, outcome_then, looked, look}
-use Rattle.ss_code_instructions.specs.Instructions.{Operand, Target, Instruction, Placed}
+use Rattle.ss_meaning.specs.Values.{signed}
 use Rattle.ss_code_instructions.specs.Instructions as i
-use Rattle.ss_code_instructions.specs.States.{Frame, core_at, with_operand_value, with_values, deliver}
-use Rattle.ss_code_instructions.specs.Machine.{Code, act, is_due}
-use Rattle.ss_code_instructions.specs.Translation.{Site, height, place, leaf, operand, after, operand_code, one_operand, expression_code, next}
+use Rattle.ss_code_instructions.specs.Translation.{one_operand}
 use Rattle.ss_code_instructions.proofs.Steps.{Reaches, at, arrive}
 use Rattle.ss_code_instructions.proofs.Parts.{Leads, step_leads, Runs, same, put_on, went, look_then, alike}
 use Rattle.ss_code_instructions.proofs.Operands.{on, Tops, put_then, computes, held, reads, reads_both, Evaluates, leaf_runs, operand_runs, one_join, two_join}

@@ -1,11 +1,6 @@
 -- What follows a part, with what is known of the part's value; and worlds that are later.
 use Rattle.std.proofs.Common.{◌≡◌, ℕ, suc, ◌+◌, List, ◌++◌, length, Option, Some, None, refl, subst, arith, length-append}
-use Rattle.ss_base.specs.declared.value.Value.{Value}
-use Rattle.ss_meaning.specs.Store.{Store}
-use Rattle.ss_meaning.specs.Parts.{RunState, Outcome, WentOn, Left, Part, outcome_then, needed}
-use Rattle.ss_code_instructions.specs.Instructions.{Placed}
-use Rattle.ss_code_instructions.specs.States.{Frame, MachineState, Moved, fit}
-use Rattle.ss_code_instructions.specs.Machine.{Code}
+use Rattle.ss_code_instructions.proofs.Common.{Code, fit, Frame, Left, MachineState, Moved, needed, Outcome, outcome_then, Part, Placed, RunState, Store, Value, WentOn}
 use Rattle.ss_code_instructions.proofs.Keeping.{Lasts, suits_on}
 use Rattle.ss_code_instructions.proofs.Steps.{has_front, has_back, Reaches, Kept, at, arrive, join_known}
 use Rattle.ss_code_instructions.proofs.Parts.{Within, within_on, Leads, whatever, ticked, Lands, Runs}

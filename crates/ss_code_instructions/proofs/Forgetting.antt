@@ -1,11 +1,7 @@
 -- Cells that are forgotten.
 use Rattle.std.proofs.Common.{◌≡◌, ℕ, zero, suc, ◌+◌, ◌-◌, List, [], ◌∷◌, ◌++◌, length, Some, refl, ap, ◌∙◌, subst, arith}
-use Rattle.ss_base.specs.declared.value.Value.{Value}
-use Rattle.ss_meaning.specs.Parts.{RunState}
+use Rattle.ss_code_instructions.proofs.Common.{Code, core_at, fit, forget, Frame, onward, place, RunState, Site, take_off, TakenOff, Value}
 use Rattle.ss_code_instructions.specs.Instructions as i
-use Rattle.ss_code_instructions.specs.States.{Frame, core_at, take_off, TakenOff, fit, onward}
-use Rattle.ss_code_instructions.specs.Machine.{Code}
-use Rattle.ss_code_instructions.specs.Translation.{Site, place, forget}
 use Rattle.ss_code_instructions.proofs.Steps.{HasAt, Comes, Reaches, here, at}
 use Rattle.ss_code_instructions.proofs.Parts.{onwards, step_leads}
 

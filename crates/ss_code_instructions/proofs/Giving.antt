@@ -1,17 +1,7 @@
 -- The code of several values, which lie in cells, one above the other.
 use Rattle.std.proofs.Common.{ℕ, suc, ◌+◌, List, [], ◌∷◌, length, Ok, Err, ap}
 use Rattle.std.specs.Prelude.{Result as OkOr}
-use Rattle.ss_base.specs.declared.line.Line.{Line}
-use Rattle.ss_base.specs.declared.value.Value.{Value}
-use Rattle.ss_program.specs.Program.{Expression}
-use Rattle.ss_meaning.specs.Values.{Failure, Fails, TypeError, turned}
-use Rattle.ss_meaning.specs.Store.{Store}
-use Rattle.ss_meaning.specs.Expressions.{value, values}
-use Rattle.ss_meaning.specs.Parts.{RunState, looked, look}
-use Rattle.ss_code_instructions.specs.Instructions.{Placed}
-use Rattle.ss_code_instructions.specs.States.{Frame, MachineState}
-use Rattle.ss_code_instructions.specs.Machine.{Code}
-use Rattle.ss_code_instructions.specs.Translation.{Site, height, expression_mode, values_code}
+use Rattle.ss_code_instructions.proofs.Common.{Code, Expression, expression_mode, Fails, Failure, Frame, height, Line, look, looked, MachineState, Placed, RunState, Site, Store, turned, TypeError, Value, value, values, values_code}
 use Rattle.ss_code_instructions.specs.Translation.{above as with_cell}
 use Rattle.ss_code_instructions.proofs.Steps.{Reaches, at, arrive}
 use Rattle.ss_code_instructions.proofs.Parts.{Runs, same, put_on, onto, none, seq_look, above}

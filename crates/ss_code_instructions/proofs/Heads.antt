@@ -1,15 +1,8 @@
 -- The code of a FOR by its head: how it ends; and that it does what the FOR does, whatever its turns.
 use Rattle.std.proofs.Common.{◌≡◌, ℕ, suc, ◌+◌, ◌-◌, ◌≤◌, Bool, List, ◌∷◌, ◌++◌, length, Option, refl, sym, ap, ◌∙◌, subst, arith, length-append, append_assoc}
-use Rattle.ss_base.specs.declared.value.Value.{Value}
-use Rattle.ss_program.specs.declared.expression.Variable.{Variable}
-use Rattle.ss_program.specs.Program.{Expression, SetOwner, TheSystem, Entity, Start, Head, Numbers, Each, Members}
-use Rattle.ss_meaning.specs.Loops.{Turn, over}
-use Rattle.ss_meaning.specs.Parts.{RunState, Part}
-use Rattle.ss_code_instructions.specs.Instructions.{Placed}
+use Rattle.ss_code_instructions.proofs.Common.{Code, Each, Entity, Expression, for_code, forget, forget_to, Frame, Head, height, in_loop, Members, Numbers, over, owner_code, owner_kept, Part, place, Placed, RunState, SetOwner, Site, Start, TheSystem, Turn, turns_code, Value, Variable, walk_loop}
 use Rattle.ss_code_instructions.specs.Instructions as i
-use Rattle.ss_code_instructions.specs.States.{Frame}
-use Rattle.ss_code_instructions.specs.Machine.{Code}
-use Rattle.ss_code_instructions.specs.Translation.{Site, height, place, forget, forget_to, owner_cell, owner_kept, walk_loop, number_loop, in_loop, turns_code, range_code, owner_code, start_code, begin_code, for_code}
+use Rattle.ss_code_instructions.specs.Translation.{owner_cell, number_loop, range_code, start_code, begin_code}
 use Rattle.ss_code_instructions.proofs.Steps.{HasAt, has_back, Reaches, at, arrive}
 use Rattle.ss_code_instructions.proofs.Parts.{Within, Lands, same, done}
 use Rattle.ss_code_instructions.proofs.Forgetting.{two_more, three_more}

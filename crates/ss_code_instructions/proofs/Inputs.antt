@@ -1,9 +1,7 @@
 -- A READ takes the next word from the input, and no other instruction takes anything.
 use Rattle.std.proofs.Common.{◌≡◌, ℕ, zero, suc, Bool, true, false, List, Option, Some, None, subst}
 use Rattle.std.specs.Prelude.{slice_get}
-use Rattle.ss_code_instructions.specs.Instructions.{Placed}
-use Rattle.ss_code_instructions.specs.States.{Core, MachineState, Done, Breaks, Moved, To, Sends, Rest, Stuck}
-use Rattle.ss_code_instructions.specs.Machine.{Code, Stepped, Goes, Over, NoStep, act, is_due, with_rest, when_due, step_at}
+use Rattle.ss_code_instructions.proofs.Common.{act, Breaks, Code, Core, Done, Goes, is_due, MachineState, Moved, NoStep, Over, Placed, Rest, Sends, step_at, Stepped, Stuck, To, when_due, with_rest}
 use Rattle.ss_code_instructions.specs.Reached.{HasTakenBy, HasTakenInput, InputStays, input_of}
 use Rattle.ss_code_instructions.proofs.Moving.{Every}
 use Rattle.ss_code_instructions.proofs.Acting.{act_takes}

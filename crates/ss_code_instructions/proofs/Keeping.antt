@@ -1,37 +1,23 @@
 -- No operation changes what the program says once and for all, or that each member of a set lives, and none but that of a READ the input.
 use Rattle.std.proofs.Common.{◌≡◌, ℕ, ◌+◌, Bool, true, false, List, [], ◌∷◌, Option, Some, None, Ok, Err, ℤ, pos, refl, sym, ap, ◌∙◌, true≢false}
 use Rattle.std.specs.Prelude.{Result, int_lt, slice_get}
-use Rattle.ss_base.specs.declared.fault.FaultKind.{FaultKind}
+use Rattle.ss_code_instructions.proofs.Common.{all_noting, assigned, assigned_attribute, assigned_variable, attribute, Beginning, ByRule, calculated, changed_attribute, class_at, ClassLayout, Code, Coming, CountedClass, created, due, End, entity, event_begun, Failure, FaultKind, fetched, filed, filed_in, filed_notice, Foremost, Global, Hindmost, if_ok, is_permanent, is_single, JustAfter, JustBefore, Local, made_all, made_notice, made_one, member, Mode, next_event, noted, number_of, OfVariable, operator_of, owner_number, read_value, recounted, removed_at, removed_from, rescheduled, reset, Setting, Sign, State, Store, Subject, sure, timed, turned, unless_fault, unscheduled, Value, value_given, Variable, where_fit, Whole, with_heap, with_histories, with_input, with_new, without}
 use Rattle.ss_base.specs.declared.fault.FaultKind.TheVariants.{Scheduled, AlreadyScheduled, PastTime}
 use Rattle.ss_base.specs.declared.layout.ClassKind.TheVariants.{Permanent}
-use Rattle.ss_base.specs.declared.layout.ClassLayout.{ClassLayout}
-use Rattle.ss_base.specs.declared.layout.Mode.{Mode}
-use Rattle.ss_base.specs.declared.value.Value.{Value}
-use Rattle.ss_base.specs.declared.value.Value.TheVariants.{Whole}
-use Rattle.ss_world.specs.State.{State, kind_in, notice, assigned, created, created_all, destroyed, timed}
+use Rattle.ss_world.specs.State.{kind_in, notice, created_all, destroyed}
 use Rattle.ss_world.specs.Sets.{count_in, filed_first, filed_last, filed_before, filed_after, removed}
-use Rattle.ss_world.specs.Disciplines.{filed}
 use Rattle.ss_world.specs.PendingList.{is_pending, scheduled, cancelled, least_event}
-use Rattle.ss_meaning.specs.Words.{Given, value_given}
-use Rattle.ss_program.specs.declared.sections.Subject.{Subject}
-use Rattle.ss_program.specs.declared.sections.Subject.TheVariants.{OfVariable, OfAttribute, OfCount}
-use Rattle.ss_meaning.specs.Histories.{all_noting, noted, renewed}
-use Rattle.ss_base.specs.declared.words.Sign.{Sign}
-use Rattle.ss_program.specs.declared.expression.Variable.{Variable}
-use Rattle.ss_program.specs.declared.expression.Variable.TheVariants.{Global, Local}
-use Rattle.ss_program.specs.declared.statement.CountedClass.{CountedClass}
-use Rattle.ss_base.specs.declared.words.End.{End}
+use Rattle.ss_meaning.specs.Words.{Given}
+use Rattle.ss_program.specs.declared.sections.Subject.TheVariants.{OfAttribute, OfCount}
+use Rattle.ss_meaning.specs.Histories.{renewed}
 use Rattle.ss_base.specs.declared.words.End.TheVariants as sides
-use Rattle.ss_meaning.specs.Values.{Failure, if_ok, turned, due, sure, where_fit, unless_fault, number_of, calculated, operator_of}
-use Rattle.ss_meaning.specs.Store.{Setting, Store, with_heap, with_pending, with_histories, fetched, put_at, put}
-use Rattle.ss_meaning.specs.Entities.{class_at, field_at, entity, attribute, comes_singly, is_single, is_permanent, with_new, made_one, with_all, made_all, with_none, gone, without}
-use Rattle.ss_meaning.specs.Places.{is_of_mode, assigned_variable, assigned_attribute}
-use Rattle.ss_meaning.specs.Sets.{Filing, ByRule, Foremost, Hindmost, JustBefore, JustAfter, member, owner_number, is_fit, recounted, filed_by, filed_in, removed_from, end_removed, removed_at}
-use Rattle.ss_meaning.specs.Events.{Ranked, ranked, ties_of, attributes_given, with_notice_time, endowed, prepared, made_notice, filed_notice, rescheduled, unscheduled, saved_or_gone, Beginning, Coming, coming_as, coming_with, ranked_as, next_event, event_begun}
-use Rattle.ss_meaning.specs.Statistics.{subject_of_statistic, bearer_number, present, reset}
-use Rattle.ss_meaning.specs.Statements.{with_input, read_value}
+use Rattle.ss_meaning.specs.Store.{with_pending, put_at, put}
+use Rattle.ss_meaning.specs.Entities.{field_at, comes_singly, with_all, with_none, gone}
+use Rattle.ss_meaning.specs.Places.{is_of_mode}
+use Rattle.ss_meaning.specs.Sets.{Filing, is_fit, filed_by, end_removed}
+use Rattle.ss_meaning.specs.Events.{Ranked, ranked, ties_of, attributes_given, with_notice_time, endowed, prepared, saved_or_gone, coming_as, coming_with, ranked_as}
+use Rattle.ss_meaning.specs.Statistics.{subject_of_statistic, bearer_number, present}
 use Rattle.ss_meaning.proofs.Fine.{Sane}
-use Rattle.ss_code_instructions.specs.Machine.{Code, changed_attribute}
 use Rattle.ss_code_instructions.specs.Reached.{HasTakenIf}
 use Rattle.ss_code_instructions.proofs.Joining.{Joined, assigned_joined, timed_joined, created_joined, created_all_joined, first_filed, last_filed, before_filed, after_filed, filed_joined, removed_joined, first_removed_joined, last_removed_joined, destroyed_joined}
 

@@ -1,13 +1,7 @@
 -- Operands that stay: they lie above nothing, and are read later on.
 use Rattle.std.proofs.Common.{◌≡◌, false, List, ◌∷◌, ◌++◌, length, Option, Some, None, Ok, refl, ap, ◌∙◌}
-use Rattle.ss_base.specs.declared.value.Value.{Value}
-use Rattle.ss_program.specs.Program.{Expression}
-use Rattle.ss_meaning.specs.Store.{Store}
-use Rattle.ss_meaning.specs.Expressions.{value}
-use Rattle.ss_code_instructions.specs.Instructions.{Operand, Held, Taken, Stays}
+use Rattle.ss_code_instructions.proofs.Common.{Expression, fit, height, Held, leaf, lies_above, Moved, Operand, operand, or_cell, Site, stay, Stays, Store, Taken, Value, value, with_operand_value}
 use Rattle.ss_code_instructions.specs.Instructions as i
-use Rattle.ss_code_instructions.specs.States.{Moved, fit, with_operand_value, lies_above}
-use Rattle.ss_code_instructions.specs.Translation.{Site, height, leaf, or_cell, operand, stay}
 use Rattle.ss_code_instructions.proofs.Operands.{held, leaf_reads}
 use Rattle.ss_code_instructions.proofs.Members.{leaf_stays}
 use Rattle.ss_code_instructions.proofs.Receiving.{Alike, leaf_later}

@@ -1,24 +1,10 @@
 -- LET, ADD and SUBTRACT, for each place that they assign.
 use Rattle.std.proofs.Common.{◌≡◌, ℕ, ◌+◌, Bool, true, false, List, [], ◌∷◌, ◌++◌, length, Option, Some, None, refl, sym, subst, arith, length-append}
 use Rattle.std.specs.Prelude.{if◌then◌else◌}
-use Rattle.ss_base.specs.declared.layout.Mode.TheVariants.{Integer}
-use Rattle.ss_base.specs.declared.value.Value.{Value}
-use Rattle.ss_base.specs.declared.words.Sign.{Sign}
-use Rattle.ss_program.specs.declared.expression.Variable.{Variable}
-use Rattle.ss_program.specs.declared.expression.Variable.TheVariants.{Global}
-use Rattle.ss_program.specs.declared.statement.CountedClass.{CountedClass}
-use Rattle.ss_program.specs.Program.{Expression, Place, ToVariable, ToAttribute, ToCount}
-use Rattle.ss_meaning.specs.Values.{if_ok, sure, calculated, operator_of}
-use Rattle.ss_meaning.specs.Store.{fetched}
-use Rattle.ss_meaning.specs.Places.{InVariable, InCount, assigned_variable}
-use Rattle.ss_meaning.specs.Expressions.{value}
-use Rattle.ss_meaning.specs.Parts.{RunState, Part, outcome_then, looked, look, settle, write}
-use Rattle.ss_meaning.specs.Statements.{give_to, change_by}
-use Rattle.ss_code_instructions.specs.Instructions.{Held, Taken, Placed, Target as To}
+use Rattle.ss_code_instructions.proofs.Common.{above, after, assigned_variable, calculated, change_code, Code, core_at, count_code, CountedClass, deliver, did, Expression, expression_code, fetched, Frame, give_to, Global, height, Held, if_ok, InCount, Integer, InVariable, is_kept, leaf, let_code, look, looked, MachineState, next, onward, operand, operand_code, operator_of, or_zero, outcome_then, Part, Place, place, Placed, RunState, settle, Sign, Site, sure, Taken, ToAttribute, ToCount, ToVariable, Value, value, Variable, with_operand, with_operand_value, write}
+use Rattle.ss_meaning.specs.Statements.{change_by}
+use Rattle.ss_code_instructions.specs.Instructions.{Target as To}
 use Rattle.ss_code_instructions.specs.Instructions as i
-use Rattle.ss_code_instructions.specs.States.{Frame, MachineState, did, or_zero, core_at, onward, with_operand_value, deliver}
-use Rattle.ss_code_instructions.specs.Machine.{Code}
-use Rattle.ss_code_instructions.specs.Translation.{Site, height, above, place, leaf, operand, after, operand_code, with_operand, expression_code, next, is_kept, count_code, let_code, change_code}
 use Rattle.ss_code_instructions.proofs.Steps.{has_front, has_back, Comes, Reaches, here, at, arrive, join}
 use Rattle.ss_code_instructions.proofs.Parts.{Leads, onwards, whatever, step_leads, did_leads, at_the_height, Runs, same, done, went, then_then, alike}
 use Rattle.ss_code_instructions.proofs.Operands.{on, Tops, put_then, computes, held, reads, one_join}

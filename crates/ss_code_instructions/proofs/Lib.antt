@@ -1,3 +1,4 @@
+mod Common
 mod Keeping
 mod Moving
 mod Acting

@@ -1,18 +1,7 @@
 -- Instructions that look at operands, and go on or jump.
 use Rattle.std.proofs.Common.{◌≡◌, ℕ, ◌+◌, false, List, [], ◌∷◌, ◌++◌, length, Option, Some, None, Ok, Err, refl, sym, ap, ◌∙◌, subst, arith, length-append}
 use Rattle.std.specs.Prelude.{Result as OkOr}
-use Rattle.ss_base.specs.declared.line.Line.{Line}
-use Rattle.ss_base.specs.declared.value.Value.{Value}
-use Rattle.ss_program.specs.Program.{Expression, SetOwner, TheSystem, Entity}
-use Rattle.ss_meaning.specs.Values.{Failure, Fails, TypeError, if_ok, turned, sure}
-use Rattle.ss_meaning.specs.Store.{Store}
-use Rattle.ss_meaning.specs.Expressions.{value, value_if_any, owner_value}
-use Rattle.ss_meaning.specs.Parts.{RunState, WentOn, Part, outcome_then, looked, look}
-use Rattle.ss_code_instructions.specs.Instructions.{Operand, Bearer, Instruction, Placed}
-use Rattle.ss_code_instructions.specs.States.{Frame, MachineState, Moved, To, did, fit, core_at, with_operand_value, with_values, with_bearer}
-use Rattle.ss_code_instructions.specs.Machine.{Code, act, is_due}
-use Rattle.ss_code_instructions.specs.Facts.{expression_of}
-use Rattle.ss_code_instructions.specs.Translation.{Site, height, place, leaf, operand, after, operand_code, with_operand, bearer, bearer_code, after_bearer, with_owner}
+use Rattle.ss_code_instructions.proofs.Common.{act, after, after_bearer, Bearer, bearer, bearer_code, Code, core_at, did, Entity, Expression, expression_of, Fails, Failure, fit, Frame, height, if_ok, Instruction, is_due, leaf, Line, look, looked, MachineState, Moved, Operand, operand, operand_code, outcome_then, owner_value, Part, place, Placed, RunState, SetOwner, Site, Store, sure, TheSystem, To, turned, TypeError, Value, value, value_if_any, WentOn, with_bearer, with_operand, with_operand_value, with_owner, with_values}
 use Rattle.ss_code_instructions.proofs.Steps.{HasAt, Comes, Reaches, here, at, arrive}
 use Rattle.ss_code_instructions.proofs.Parts.{Within, Leads, onwards, step_leads, did_leads, Lands, same, done, went, looks_then, turned_then}
 use Rattle.ss_code_instructions.proofs.Operands.{held, held_height, reads, reads_both, one_join, two_join}

@@ -1,11 +1,8 @@
 -- Loops: the instruction at their head takes a tick, and their end jumps back to it.
 use Rattle.std.proofs.Common.{◌≡◌, ℕ, zero, suc, ◌≤◌, true, List, ◌++◌, Some, arith}
 use Rattle.std.specs.Prelude.{slice_get}
-use Rattle.ss_base.specs.declared.value.Value.{Value}
-use Rattle.ss_meaning.specs.Parts.{RunState, Outcome, WentOn, Left, Part, outcome_then, Next, Again, Over, go_on, loop}
-use Rattle.ss_code_instructions.specs.Instructions.{Placed}
-use Rattle.ss_code_instructions.specs.States.{Frame, MachineState, Moved, core_at}
-use Rattle.ss_code_instructions.specs.Machine.{Code, act, is_due}
+use Rattle.ss_code_instructions.proofs.Common.{act, Again, Code, core_at, Frame, is_due, Left, loop, MachineState, Moved, Outcome, outcome_then, Part, Placed, RunState, Value, WentOn}
+use Rattle.ss_meaning.specs.Parts.{Next, Over, go_on}
 use Rattle.ss_code_instructions.proofs.Keeping.{Lasts, lasts_then, Suits, suits_on}
 use Rattle.ss_code_instructions.proofs.Acting.{Endures, act_lasts}
 use Rattle.ss_code_instructions.proofs.Steps.{Goal, Comes, Reaches, here, reaches_on, Kept, kept, at, arrive}

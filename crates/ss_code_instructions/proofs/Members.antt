@@ -2,19 +2,8 @@
 use Rattle.std.proofs.Common.{◌≡◌, ℕ, ◌+◌, Bool, true, false, List, [], ◌∷◌, ◌++◌, length, Option, Some, None, Ok, Err, ℤ, refl, sym, ap, ◌∙◌, subst, arith, length-append}
 use Rattle.std.proofs.lemmas.Bool.{eq-eqb}
 use Rattle.std.specs.Prelude.{slice_get, Result as OkOr, if◌then◌else◌}
-use Rattle.ss_base.specs.declared.fault.FaultKind.{FaultKind}
-use Rattle.ss_base.specs.declared.value.Value.{Value}
-use Rattle.ss_program.specs.Program.{Expression, Constant, Fetch, Attribute, OfSystemSet, OfSet, OfMember, Clock, TimeOf, Figure, FigureOf, Signed, Unary, Calculate, SetOwner}
-use Rattle.ss_meaning.specs.Values.{Failure, Fails, TypeError, if_ok, turned}
-use Rattle.ss_meaning.specs.Store.{Store, fetched}
-use Rattle.ss_meaning.specs.Sets.{member}
-use Rattle.ss_meaning.specs.Expressions.{value, looked_at, member_value, owner_value}
-use Rattle.ss_meaning.specs.Parts.{RunState, Part, outcome_then, looked, look}
-use Rattle.ss_code_instructions.specs.Instructions.{Operand, Bearer, Instruction, Placed, Constant as AConstant, Held, LookMember}
-use Rattle.ss_code_instructions.specs.States.{Frame, MachineState, Moved, did, fit, core_at, onward, cell_at, or_zero, with_operand_value, with_bearer}
-use Rattle.ss_code_instructions.specs.Machine.{Code, act, is_due}
-use Rattle.ss_code_instructions.specs.Facts.{expression_of, may_fault}
-use Rattle.ss_code_instructions.specs.Translation.{Site, height, place, leaf, or_cell, operand, after, operand_code, stay, bearer, bearer_code, after_bearer, with_owner, looked_code}
+use Rattle.ss_code_instructions.proofs.Common.{act, after, after_bearer, Attribute, Bearer, bearer, bearer_code, Calculate, cell_at, Clock, Code, Constant, core_at, did, Expression, expression_of, Fails, Failure, FaultKind, Fetch, fetched, Figure, FigureOf, fit, Frame, height, Held, if_ok, Instruction, is_due, leaf, look, looked, looked_at, looked_code, MachineState, may_fault, member, member_value, Moved, OfMember, OfSet, OfSystemSet, onward, Operand, operand, operand_code, or_cell, or_zero, outcome_then, owner_value, Part, place, Placed, RunState, SetOwner, Signed, Site, stay, Store, TimeOf, turned, TypeError, Unary, Value, value, with_bearer, with_operand_value, with_owner}
+use Rattle.ss_code_instructions.specs.Instructions.{Constant as AConstant, LookMember}
 use Rattle.ss_code_instructions.proofs.Steps.{HasAt, has_front, has_back, Reaches, free, at, arrive}
 use Rattle.ss_code_instructions.proofs.Parts.{Within, Leads, onwards, breaks, step_leads, did_leads, turned_then}
 use Rattle.ss_code_instructions.proofs.Operands.{held, held_height, reads, one_join}

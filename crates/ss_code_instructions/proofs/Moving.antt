@@ -1,15 +1,11 @@
 -- Where an instruction leads: what holds of each state that it may lead to.
 use Rattle.std.proofs.Common.{ℕ, ◌==◌, Bool, true, false, List, [], ◌∷◌, length, Option, Some, None, Ok, Err, ℤ}
 use Rattle.std.specs.Prelude.{Result, if◌then◌else◌}
-use Rattle.ss_base.specs.declared.line.Line.{Line}
-use Rattle.ss_base.specs.declared.value.Value.{Value}
-use Rattle.ss_base.specs.declared.value.Value.TheVariants.{Whole, Text}
-use Rattle.ss_meaning.specs.Values.{Failure, Fails, TypeError}
-use Rattle.ss_meaning.specs.Store.{Store, fetched}
-use Rattle.ss_meaning.specs.Sets.{Filing as Position, ByRule, Foremost, Hindmost, JustBefore, JustAfter}
-use Rattle.ss_code_instructions.specs.Instructions.{Operand, Constant, Held, Taken, Stays, Bearer, FilingPlace, First, Last, Ranked, Before, After}
-use Rattle.ss_code_instructions.specs.States.{Core, Moved, To, Sends, Rest, Stuck, did, fit, cell_at, at_height, take_off, or_zero, with_block, with_top_number, with_topmost, with_operand_value, with_values, lies_above, with_bearer, with_position}
-use Rattle.ss_code_instructions.specs.Machine.{Walk, with_loop, with_walk_in_cells}
+use Rattle.ss_code_instructions.proofs.Common.{at_height, Bearer, Before, ByRule, cell_at, Core, did, Fails, Failure, fetched, FilingPlace, First, fit, Foremost, Held, Hindmost, JustAfter, JustBefore, Last, lies_above, Line, Moved, Operand, or_zero, Ranked, Rest, Sends, Stays, Store, Stuck, take_off, Taken, Text, To, TypeError, Value, Walk, Whole, with_bearer, with_block, with_operand_value, with_values}
+use Rattle.ss_meaning.specs.Sets.{Filing as Position}
+use Rattle.ss_code_instructions.specs.Instructions.{Constant, After}
+use Rattle.ss_code_instructions.specs.States.{with_top_number, with_topmost, with_position}
+use Rattle.ss_code_instructions.specs.Machine.{with_loop, with_walk_in_cells}
 use Rattle.ss_code_instructions.proofs.Keeping.{Only, Where}
 
 module _ (Good : Core → Type 0) where

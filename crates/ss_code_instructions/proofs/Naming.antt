@@ -1,22 +1,9 @@
 -- A variable takes the value that some code leaves at a target, and what follows may read it there.
 use Rattle.std.proofs.Common.{◌≡◌, ℕ, zero, suc, ◌+◌, Bool, true, false, List, [], ◌∷◌, ◌++◌, length, Some, Ok, Err, pos, refl, sym, subst, arith, length-append}
 use Rattle.std.specs.Prelude.{slice_get, Result as OkOr, if◌then◌else◌}
-use Rattle.ss_base.specs.Layout.{mode_of}
-use Rattle.ss_base.specs.declared.layout.Mode.TheVariants.{Integer}
-use Rattle.ss_base.specs.declared.value.Value.{Value}
-use Rattle.ss_program.specs.declared.expression.Variable.{Variable}
-use Rattle.ss_program.specs.declared.expression.Variable.TheVariants.{Global, Local}
-use Rattle.ss_program.specs.declared.sections.Subject.TheVariants.{OfVariable}
-use Rattle.ss_meaning.specs.Values.{Failure, Fails, TypeError, same_mode}
-use Rattle.ss_meaning.specs.Store.{Store, with_histories, fetched, put_at, put}
-use Rattle.ss_meaning.specs.Histories.{all_noting, noted}
-use Rattle.ss_meaning.specs.Places.{InVariable, assigned_variable}
-use Rattle.ss_meaning.specs.Parts.{RunState, Outcome, WentOn, Left, Part, outcome_then, looked, settle, write}
-use Rattle.ss_code_instructions.specs.Instructions.{Target, Into, Placed}
+use Rattle.ss_code_instructions.proofs.Common.{above, all_noting, assigned_variable, Code, core_at, did, Fails, Failure, fetched, Frame, Global, height, Integer, Into, InVariable, is_kept, Left, Local, looked, MachineState, mode_of, next, noted, OfVariable, onward, Outcome, outcome_then, Part, place, Placed, RunState, same_mode, settle, Site, Store, Target, TypeError, Value, Variable, variable_code, WentOn, with_histories, write}
+use Rattle.ss_meaning.specs.Store.{put_at, put}
 use Rattle.ss_code_instructions.specs.Instructions as i
-use Rattle.ss_code_instructions.specs.States.{Frame, MachineState, did, core_at, onward}
-use Rattle.ss_code_instructions.specs.Machine.{Code}
-use Rattle.ss_code_instructions.specs.Translation.{Site, height, above, place, next, is_kept, variable_code}
 use Rattle.ss_code_instructions.proofs.Keeping.{Only, then_only, made, made_from}
 use Rattle.ss_code_instructions.proofs.Steps.{HasAt, has_front, has_back, Reaches, free, reaches_on, at, arrive, join}
 use Rattle.ss_code_instructions.proofs.Parts.{onwards, step_leads, at_the_height, went}

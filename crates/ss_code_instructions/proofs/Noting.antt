@@ -1,12 +1,10 @@
 -- Where no statistic watches a subject, a note of it changes nothing.
 use Rattle.std.proofs.Common.{◌≡◌, Bool, true, false, List, [], ◌∷◌, Ok, Err, ℤ, refl, ap, ◌⊎◌, inl, inr}
 use Rattle.std.specs.Prelude.{Result as OkOr, if◌then◌else◌}
-use Rattle.ss_base.specs.declared.value.Value.{Value}
-use Rattle.ss_program.specs.declared.sections.Subject.{Subject}
+use Rattle.ss_code_instructions.proofs.Common.{all_noting, Failure, if_ok, noted, Store, Subject, turned, TypeError, Value, with_histories}
 use Rattle.ss_program.specs.declared.sections.Statistic.{Statistic}
-use Rattle.ss_meaning.specs.Values.{Failure, TypeError, if_ok, turned}
-use Rattle.ss_meaning.specs.Store.{Column, Store, with_histories}
-use Rattle.ss_meaning.specs.Histories.{same_subject, noting, all_noting, noted}
+use Rattle.ss_meaning.specs.Store.{Column}
+use Rattle.ss_meaning.specs.Histories.{same_subject, noting}
 use Rattle.ss_code_instructions.specs.Facts.{watch}
 
 -- a note that leaves the store, or does not fit

@@ -2,22 +2,10 @@
 use Rattle.std.proofs.Common.{◌≡◌, ℕ, suc, ◌+◌, Bool, false, List, [], ◌∷◌, ◌++◌, length, Option, Some, None, Ok, Err, refl, sym, ap, ◌∙◌, subst, arith, ◌⊎◌, inl, inr, if◌then◌else◌}
 use Rattle.std.proofs.lemmas.Bool.{eq-eqb, le-ltb}
 use Rattle.std.specs.Prelude.{nat_lt, Result as OkOr}
-use Rattle.ss_base.specs.declared.fault.FaultKind.{FaultKind}
-use Rattle.ss_base.specs.declared.line.Line.{Line}
-use Rattle.ss_base.specs.declared.layout.Mode.{Mode}
-use Rattle.ss_base.specs.declared.value.Value.{Value}
-use Rattle.ss_program.specs.declared.expression.Variable.{Variable}
-use Rattle.ss_program.specs.Program.{Expression, Constant, Fetch, Attribute, OfSystemSet, OfSet, OfMember, Clock, TimeOf, Figure, FigureOf, Signed, Unary, Calculate}
-use Rattle.ss_meaning.specs.Values.{Failure, Fails, TypeError, turned, sure, where_fit}
-use Rattle.ss_meaning.specs.Store.{Store, fetched}
-use Rattle.ss_meaning.specs.Places.{assigned_variable}
-use Rattle.ss_meaning.specs.Expressions.{value}
-use Rattle.ss_meaning.specs.Parts.{RunState, WentOn, Part, outcome_then, looked, look, settle, change, settle_with}
-use Rattle.ss_code_instructions.specs.Instructions.{Operand, Held, Taken, Stays, Target, Into, Onto, Placed}
+use Rattle.ss_code_instructions.proofs.Common.{after, assigned_variable, Attribute, Calculate, change, Clock, Code, Constant, core_at, deliver, deliver_with, did, Expression, expression_code, expression_mode, Fails, Failure, FaultKind, Fetch, fetched, Figure, FigureOf, Frame, height, Held, Into, leaf, lies_above, Line, look, looked, MachineState, Mode, Moved, next, OfMember, OfSet, OfSystemSet, Onto, onward, Operand, operand, operand_code, or_cell, or_in_cell, or_zero, outcome_then, Part, place, Placed, RunState, settle, Signed, Site, Stays, Store, sure, Taken, Target, TimeOf, turned, TypeError, Unary, Value, value, Variable, WentOn, where_fit, with_operand_value, with_values, Written}
+use Rattle.ss_meaning.specs.Parts.{settle_with}
 use Rattle.ss_code_instructions.specs.Instructions as i
-use Rattle.ss_code_instructions.specs.States.{Frame, MachineState, Moved, did, core_at, or_zero, with_operand_value, with_values, lies_above, Written, deliver, deliver_with, onward}
-use Rattle.ss_code_instructions.specs.Machine.{Code}
-use Rattle.ss_code_instructions.specs.Translation.{Site, height, place, leaf, or_cell, or_in_cell, expression_mode, operand, after, unless_leaf, operand_code, expression_code, next}
+use Rattle.ss_code_instructions.specs.Translation.{unless_leaf}
 use Rattle.ss_code_instructions.proofs.Steps.{HasAt, has_front, has_back, Comes, Reaches, here, free, reaches_on, at, arrive}
 use Rattle.ss_code_instructions.proofs.Parts.{Within, Leads, onwards, breaks, whatever, at_the_height, Runs, same, put_on}
 

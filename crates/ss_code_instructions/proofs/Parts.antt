@@ -2,16 +2,9 @@
 use Rattle.std.proofs.Common.{◌≡◌, ℕ, zero, suc, ◌+◌, ◌≤◌, true, false, List, [], ◌∷◌, ◌++◌, length, Option, Some, None, Ok, Err, refl, sym, ap, ◌∙◌, subst, arith, length-append, if◌then◌else◌}
 use Rattle.std.proofs.lemmas.Bool.{eq-eqb}
 use Rattle.std.specs.Prelude.{slice_get, Result as OkOr}
-use Rattle.ss_base.specs.declared.fault.FaultKind.{FaultKind}
-use Rattle.ss_base.specs.declared.line.Line.{Line}
-use Rattle.ss_base.specs.declared.value.Value.{Value}
-use Rattle.ss_meaning.specs.Values.{Failure, Fails, TypeError, if_ok, turned, sure}
-use Rattle.ss_meaning.specs.Store.{Store}
-use Rattle.ss_meaning.specs.Parts.{RunState, OutOfTicks, Outcome, WentOn, Left, Part, outcome_then, looked, look, settle, change, tick_from, take_tick}
-use Rattle.ss_meaning.specs.Meaning.{Ended, Fault, Paused, run_at}
-use Rattle.ss_code_instructions.specs.Instructions.{Placed}
-use Rattle.ss_code_instructions.specs.States.{Frame, Core, MachineState, Done, Breaks, Moved, To, Sends, Rest, Stuck, did, fit, at_height, core_at}
-use Rattle.ss_code_instructions.specs.Machine.{Code, act, is_due, with_rest, when_due, step_at}
+use Rattle.ss_code_instructions.proofs.Common.{act, at_height, Breaks, change, Code, Core, core_at, did, Done, Ended, Fails, Failure, Fault, FaultKind, fit, Frame, if_ok, is_due, Left, Line, look, looked, MachineState, Moved, Outcome, outcome_then, OutOfTicks, Part, Paused, Placed, Rest, RunState, Sends, settle, step_at, Store, Stuck, sure, To, turned, TypeError, Value, WentOn, when_due, with_rest}
+use Rattle.ss_meaning.specs.Parts.{tick_from, take_tick}
+use Rattle.ss_meaning.specs.Meaning.{run_at}
 use Rattle.ss_code_instructions.proofs.Keeping.{Suits, suits_on}
 use Rattle.ss_code_instructions.proofs.Steps.{HasAt, has_front, has_back, Goal, Comes, Finishes, Free, Reaches, here, over, free, more, Kept, at, arrive, join}
 

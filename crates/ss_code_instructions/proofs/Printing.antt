@@ -1,23 +1,14 @@
 -- The code of PRINT: its items, of which means are looked at in their place, and its lines.
 use Rattle.std.proofs.Common.{◌≡◌, ℕ, suc, ◌+◌, false, List, [], ◌∷◌, ◌++◌, length, Option, Some, None, Ok, Err, ℤ, refl, sym, ap, ◌∙◌, subst, arith, map}
 use Rattle.std.specs.Prelude.{slice_get, Result as OkOr}
-use Rattle.ss_base.specs.declared.layout.Mode.TheVariants.{Integer}
-use Rattle.ss_base.specs.declared.line.Line.{Line}
-use Rattle.ss_base.specs.declared.value.Value.{Value}
-use Rattle.ss_program.specs.Item.{Item}
-use Rattle.ss_program.specs.Item.TheVariants.{Is, Mean}
-use Rattle.ss_program.specs.Program.{Expression, PrintItem, AValue, AMean, AMeanOf}
-use Rattle.ss_meaning.specs.Values.{Failure, Fails, TypeError, if_ok, turned, sure, printed}
-use Rattle.ss_meaning.specs.Store.{Store}
-use Rattle.ss_meaning.specs.Statistics.{mean}
-use Rattle.ss_meaning.specs.Expressions.{value, mean_shown, shown_items}
-use Rattle.ss_meaning.specs.Parts.{RunState, outcome_then, looked, look, send}
+use Rattle.ss_code_instructions.proofs.Common.{above, act, AMean, AMeanOf, AValue, cells_of_kinds, Code, core_at, did, Expression, expression_code, expression_mode, Fails, Failure, fit, Frame, height, if_ok, Integer, Is, is_due, Item, items_code, Line, lines_of_items, look, looked, Mean, mean, Moved, next, onward, outcome_then, place, Placed, printed, PrintItem, RunState, Sends, Site, Stays, Store, sure, turned, TypeError, Value, value, values_shown, with_cells}
+use Rattle.ss_meaning.specs.Expressions.{mean_shown, shown_items}
+use Rattle.ss_meaning.specs.Parts.{send}
 use Rattle.ss_meaning.specs.Statements.{print}
-use Rattle.ss_code_instructions.specs.Instructions.{Stays, Placed, ItemKind, ShowsValue, ShowsMean, ShowsMeanOf, Lines}
+use Rattle.ss_code_instructions.specs.Instructions.{ItemKind, ShowsValue, ShowsMean, ShowsMeanOf, Lines}
 use Rattle.ss_code_instructions.specs.Instructions as i
-use Rattle.ss_code_instructions.specs.States.{Frame, Moved, Sends, did, fit, core_at, onward}
-use Rattle.ss_code_instructions.specs.Machine.{Code, act, is_due, mean_item, item_before, values_shown, cells_of_kinds, print_lines}
-use Rattle.ss_code_instructions.specs.Translation.{Site, height, above, with_cells, place, next, expression_code, expression_mode, items_code, after_items, item_kind, lines_of_items}
+use Rattle.ss_code_instructions.specs.Machine.{mean_item, item_before, print_lines}
+use Rattle.ss_code_instructions.specs.Translation.{after_items, item_kind}
 use Rattle.ss_code_instructions.proofs.Keeping.{Only, each, made_from}
 use Rattle.ss_code_instructions.proofs.Steps.{here, at}
 use Rattle.ss_code_instructions.proofs.Parts.{writes, step_leads, did_leads, at_end, Runs, same, done, put_on, onto, seq_look, alike, none, look_lands}

@@ -1,18 +1,11 @@
 -- Making a notice leaves the variables, and what the program says.
 use Rattle.std.proofs.Common.{ℕ, ◌+◌, List, [], ◌∷◌, Ok, Err, ℤ, refl, ◌∙◌}
 use Rattle.std.specs.Prelude.{Result as OkOr}
-use Rattle.ss_base.specs.declared.line.Line.{Line}
-use Rattle.ss_base.specs.declared.value.Value.{Value}
-use Rattle.ss_world.specs.State.{assigned, created, timed}
-use Rattle.ss_program.specs.declared.sections.Subject.{Subject}
+use Rattle.ss_code_instructions.proofs.Common.{all_noting, assigned, assigned_attribute, class_at, created, due, entity, Failure, get, is_single, Line, made_notice, made_one, noted, number_of, Store, Subject, timed, turned, Value, with_heap, with_histories, with_new}
 use Rattle.ss_program.specs.declared.sections.Subject.TheVariants.{OfAttribute}
-use Rattle.ss_meaning.specs.Values.{Failure, turned, due, number_of}
-use Rattle.ss_meaning.specs.Store.{Store, with_heap, with_histories}
-use Rattle.ss_meaning.specs.Histories.{all_noting, noted}
-use Rattle.ss_meaning.specs.Entities.{class_at, field_at, entity, is_single, with_new, made_one}
-use Rattle.ss_meaning.specs.Places.{is_of_mode, assigned_attribute}
-use Rattle.ss_meaning.specs.Events.{with_notice_time, endowed, prepared, made_notice}
-use Rattle.ss_meaning.specs.Parts.{get}
+use Rattle.ss_meaning.specs.Entities.{field_at}
+use Rattle.ss_meaning.specs.Places.{is_of_mode}
+use Rattle.ss_meaning.specs.Events.{with_notice_time, endowed, prepared}
 use Rattle.ss_code_instructions.proofs.Keeping.{Only, each, then_only, made, made_from, fitting}
 use Rattle.ss_code_instructions.proofs.Receiving.{Alike, Quietly, get_quietly}
 

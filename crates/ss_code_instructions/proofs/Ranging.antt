@@ -5,23 +5,11 @@ use Rattle.std.proofs.lemmas.Int.{ints}
 use Rattle.std.specs.Prelude.{slice_get, ◌^◌, int_le, int_lt, ◌+ℤ◌, ◌&&◌, Result as OkOr, if◌then◌else◌}
 use Rattle.std.specs.Int.{int_min}
 use Rattle.ss_base.specs.declared.fault.FaultKind.TheVariants.{LoopStep}
-use Rattle.ss_base.specs.declared.line.Line.{Line}
-use Rattle.ss_base.specs.declared.layout.Mode.TheVariants.{Integer}
-use Rattle.ss_base.specs.declared.value.Value.{Value}
-use Rattle.ss_base.specs.declared.value.Value.TheVariants.{Whole, Text}
-use Rattle.ss_program.specs.declared.expression.Variable.{Variable}
-use Rattle.ss_program.specs.Program.{Expression, Constant, Numbers, Each}
-use Rattle.ss_meaning.specs.Values.{Failure, Fails, TypeError, if_ok, turned, where_fit, unless_fault}
-use Rattle.ss_meaning.specs.Store.{Store}
-use Rattle.ss_meaning.specs.Entities.{class_at, is_permanent, made_count}
-use Rattle.ss_meaning.specs.Expressions.{value, value_if_any}
-use Rattle.ss_meaning.specs.Loops.{Turn, GoesOn, EndsLoop, IsFound, visit, greatest, Range, items_from, range_items, after_turn, over_items, step_number, range_of, range, indices, over}
-use Rattle.ss_meaning.specs.Parts.{RunState, Part, outcome_then, looked, look}
-use Rattle.ss_code_instructions.specs.Instructions.{Placed}
+use Rattle.ss_code_instructions.proofs.Common.{above, act, back_if, cell_at, class_at, Code, Constant, core_at, did, Each, EndsLoop, Expression, expression_code, Fails, Failure, for_code, forget_to, Frame, GoesOn, has_item, height, if_ok, indices, Integer, is_permanent, IsFound, Line, look, looked, MachineState, next, next_item, Numbers, onward_if, outcome_then, over, Part, past, place, Placed, range_of, RunState, Site, Store, take_code, Text, To, Turn, turned, turns_code, TypeError, unless_fault, unsigned, Value, value, value_if_any, Variable, visit, where_fit, Whole}
+use Rattle.ss_meaning.specs.Entities.{made_count}
+use Rattle.ss_meaning.specs.Loops.{greatest, Range, items_from, range_items, after_turn, over_items, step_number, range}
 use Rattle.ss_code_instructions.specs.Instructions as i
-use Rattle.ss_code_instructions.specs.States.{Frame, MachineState, To, did, cell_at, core_at, past, onward_if, back_if}
-use Rattle.ss_code_instructions.specs.Machine.{Code, act, has_item, unsigned, next_item}
-use Rattle.ss_code_instructions.specs.Translation.{Site, height, above, place, forget_to, next, expression_code, number_loop, take_code, turns_code, step_code, for_code}
+use Rattle.ss_code_instructions.specs.Translation.{number_loop, step_code}
 use Rattle.ss_code_instructions.proofs.Keeping.{Only}
 use Rattle.ss_code_instructions.proofs.Steps.{HasAt, has_front, has_back, Comes, Reaches, free, reaches_on, at, arrive, join}
 use Rattle.ss_code_instructions.proofs.Parts.{Within, within_on, at_the_height, Lands, same, done, put_on, seq_look, alike, look_lands}

@@ -1,28 +1,12 @@
 -- The code of a place that takes what an instruction leaves: READ and CREATE.
 use Rattle.std.proofs.Common.{◌≡◌, ℕ, ◌+◌, false, List, [], ◌∷◌, ◌++◌, length, Option, Some, None, Ok, Err, ℤ, refl, sym, ap, ◌∙◌, subst, arith, length-append, ◌⊎◌, inl, inr}
 use Rattle.std.specs.Prelude.{slice_get, Result as OkOr}
-use Rattle.ss_base.specs.declared.line.Line.{Line}
-use Rattle.ss_base.specs.declared.layout.Mode.{Mode}
-use Rattle.ss_base.specs.declared.layout.Mode.TheVariants.{Integer}
-use Rattle.ss_base.specs.declared.value.Value.{Value}
-use Rattle.ss_world.specs.State.{created}
-use Rattle.ss_meaning.specs.Words.{value_given}
-use Rattle.ss_program.specs.declared.expression.Variable.{Variable}
-use Rattle.ss_program.specs.declared.statement.CountedClass.{CountedClass}
-use Rattle.ss_program.specs.declared.expression.Variable.TheVariants.{Global, Local}
-use Rattle.ss_program.specs.Program.{Expression, Constant, Fetch, Clock, Place, ToVariable, ToAttribute, ToCount, InputTarget}
-use Rattle.ss_meaning.specs.Values.{Failure, Fails, TypeError, if_ok, turned, due, sure}
-use Rattle.ss_meaning.specs.Store.{Store, fetched}
-use Rattle.ss_meaning.specs.Entities.{class_at, entity, is_single, with_new, made_one}
-use Rattle.ss_meaning.specs.Places.{InAttribute, InCount, assigned_attribute}
-use Rattle.ss_meaning.specs.Expressions.{value, looked_at}
-use Rattle.ss_meaning.specs.Parts.{RunState, WentOn, Part, outcome_then, looked, settle_with, get, write}
-use Rattle.ss_meaning.specs.Statements.{give_to, with_input, read_value, read_each}
-use Rattle.ss_code_instructions.specs.Instructions.{Operand, Taken, Instruction, Placed, Target as To}
+use Rattle.ss_code_instructions.proofs.Common.{above, act, after, assigned_attribute, class_at, Clock, Code, Constant, core_at, count_code, CountedClass, created, deliver_with, did, due, entity, Expression, Fails, Failure, Fetch, fetched, Frame, get, give_to, Global, height, if_ok, InAttribute, InCount, InputTarget, Instruction, Integer, is_due, is_single, leaf, Line, Local, looked, looked_at, MachineState, made_one, Mode, Moved, next, onward, Operand, operand, operand_code, or_cell, outcome_then, Part, Place, place, Placed, read_value, RunState, Site, stay, Store, sure, Taken, ToAttribute, ToCount, ToVariable, turned, TypeError, Value, value, value_given, Variable, WentOn, with_input, with_new, with_operand_value, with_values, write}
+use Rattle.ss_meaning.specs.Parts.{settle_with}
+use Rattle.ss_meaning.specs.Statements.{read_each}
+use Rattle.ss_code_instructions.specs.Instructions.{Target as To}
 use Rattle.ss_code_instructions.specs.Instructions as i
-use Rattle.ss_code_instructions.specs.States.{Frame, MachineState, Moved, did, core_at, with_operand_value, with_values, deliver_with, onward}
-use Rattle.ss_code_instructions.specs.Machine.{Code, act, is_due}
-use Rattle.ss_code_instructions.specs.Translation.{Site, height, above, place, leaf, or_cell, operand, after, operand_code, next, stay, count_code, to_place_code, reads_code}
+use Rattle.ss_code_instructions.specs.Translation.{to_place_code, reads_code}
 use Rattle.ss_code_instructions.proofs.Keeping.{Only, Says, made, fitting}
 use Rattle.ss_code_instructions.proofs.Steps.{HasAt, has_front, has_back, Reaches, at, arrive, join, join_known}
 use Rattle.ss_code_instructions.proofs.Parts.{onwards, step_leads, did_leads, at_the_height, Runs, same, done, went, seq, none}

@@ -1,28 +1,13 @@
 -- The code of REMOVE, REMOVE FIRST and REMOVE LAST.
 use Rattle.std.proofs.Common.{◌≡◌, ℕ, ◌+◌, List, [], ◌∷◌, ◌++◌, length, Option, Ok, Err, ℤ, refl, sym, subst, arith, length-append}
 use Rattle.std.specs.Prelude.{Result as OkOr}
-use Rattle.ss_base.specs.declared.layout.Mode.TheVariants.{Integer}
-use Rattle.ss_base.specs.declared.line.Line.{Line}
-use Rattle.ss_base.specs.declared.value.Value.{Value}
-use Rattle.ss_base.specs.declared.value.Value.TheVariants.{Whole}
-use Rattle.ss_world.specs.State.{State}
+use Rattle.ss_code_instructions.proofs.Common.{after_bearer, all_noting, bearer, bearer_code, Code, core_at, deliver_with, due, End, Expression, expression_of, Fails, Failure, Frame, get, give_to, height, Integer, Line, look, looked, MachineState, member, Moved, onward, outcome_then, owner_number, owner_value, Part, Place, place, Placed, recounted, removed_at, removed_from, RunState, SetOwner, settle, Site, State, Store, TypeError, Value, WentOn, Whole, with_heap, with_histories, with_owner}
 use Rattle.ss_world.specs.Sets.{count_in}
 use Rattle.ss_program.specs.declared.sections.Subject.TheVariants.{OfCount}
-use Rattle.ss_base.specs.declared.words.End.{End}
-use Rattle.ss_program.specs.Program.{Expression, SetOwner, Place}
-use Rattle.ss_meaning.specs.Values.{Failure, Fails, TypeError, due}
-use Rattle.ss_meaning.specs.Store.{Store, with_heap, with_histories}
-use Rattle.ss_meaning.specs.Histories.{all_noting}
-use Rattle.ss_meaning.specs.Sets.{member, owner_number, recounted, removed_from, end_removed, removed_at}
-use Rattle.ss_meaning.specs.Expressions.{owner_value}
-use Rattle.ss_meaning.specs.Parts.{RunState, WentOn, Part, outcome_then, looked, look, settle, get}
-use Rattle.ss_meaning.specs.Statements.{give_to, remove, remove_end}
-use Rattle.ss_code_instructions.specs.Instructions.{Placed}
+use Rattle.ss_meaning.specs.Sets.{end_removed}
+use Rattle.ss_meaning.specs.Statements.{remove, remove_end}
 use Rattle.ss_code_instructions.specs.Instructions as i
-use Rattle.ss_code_instructions.specs.States.{Frame, MachineState, Moved, core_at, deliver_with, onward}
-use Rattle.ss_code_instructions.specs.Machine.{Code}
-use Rattle.ss_code_instructions.specs.Facts.{expression_of}
-use Rattle.ss_code_instructions.specs.Translation.{Site, height, place, bearer, bearer_code, after_bearer, with_owner, remove_code, remove_end_code}
+use Rattle.ss_code_instructions.specs.Translation.{remove_code, remove_end_code}
 use Rattle.ss_code_instructions.proofs.Keeping.{Only, each, made, made_from}
 use Rattle.ss_code_instructions.proofs.Steps.{Comes, Reaches, here, at, arrive}
 use Rattle.ss_code_instructions.proofs.Parts.{Leads, onwards, step_leads, Runs, same, done, then_then}

@@ -1,25 +1,10 @@
 -- What a routine yields goes to places.
 use Rattle.std.proofs.Common.{◌≡◌, ℕ, suc, ◌+◌, false, List, [], ◌∷◌, ◌++◌, length, Option, Some, None, Ok, Err, ℤ, refl, ap, ◌∙◌, subst, arith, length-append}
 use Rattle.std.specs.Prelude.{Result as OkOr}
-use Rattle.ss_base.specs.declared.layout.Mode.{Mode}
-use Rattle.ss_base.specs.declared.layout.Mode.TheVariants.{Integer}
-use Rattle.ss_base.specs.declared.line.Line.{Line}
-use Rattle.ss_base.specs.declared.value.Value.{Value}
-use Rattle.ss_program.specs.declared.statement.CountedClass.{CountedClass}
-use Rattle.ss_program.specs.declared.expression.Variable.{Variable}
-use Rattle.ss_program.specs.Program.{Expression, Place, ToVariable, ToAttribute, ToCount}
-use Rattle.ss_meaning.specs.Values.{Failure, Fails, TypeError, if_ok, turned}
-use Rattle.ss_meaning.specs.Store.{Store}
-use Rattle.ss_meaning.specs.Entities.{entity}
-use Rattle.ss_meaning.specs.Places.{InAttribute, assigned_attribute}
-use Rattle.ss_meaning.specs.Expressions.{value, looked_at}
-use Rattle.ss_meaning.specs.Parts.{RunState, WentOn, outcome_then, looked, settle, change, write}
-use Rattle.ss_meaning.specs.Statements.{give_to, give_each}
-use Rattle.ss_code_instructions.specs.Instructions.{Operand, Taken, Placed}
+use Rattle.ss_code_instructions.proofs.Common.{above, after, assigned_attribute, change, Code, CountedClass, entity, Expression, Fails, Failure, give_to, gives_code, height, if_ok, InAttribute, Integer, leaf, Line, looked, looked_at, MachineState, Mode, Moved, Operand, operand, operand_code, or_cell, outcome_then, Place, place, Placed, results_cells, RunState, settle, Site, Store, Taken, ToAttribute, ToCount, ToVariable, turned, TypeError, Value, value, Variable, WentOn, with_operand_value, with_values, write}
+use Rattle.ss_meaning.specs.Statements.{give_each}
 use Rattle.ss_code_instructions.specs.Instructions as i
-use Rattle.ss_code_instructions.specs.States.{MachineState, Moved, with_operand_value, with_values}
-use Rattle.ss_code_instructions.specs.Machine.{Code}
-use Rattle.ss_code_instructions.specs.Translation.{Site, height, above, place, leaf, or_cell, operand, after, operand_code, place_mode, results_cells, with_results, give_code, gives_code}
+use Rattle.ss_code_instructions.specs.Translation.{place_mode, with_results, give_code}
 use Rattle.ss_code_instructions.proofs.Steps.{Reaches, at, arrive}
 use Rattle.ss_code_instructions.proofs.Parts.{at_the_height, Runs, done, put_on, seq, none}
 use Rattle.ss_code_instructions.proofs.Parts.{above as above_cells}

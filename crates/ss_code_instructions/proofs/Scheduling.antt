@@ -1,24 +1,12 @@
 -- The code of SCHEDULE.
 use Rattle.std.proofs.Common.{◌≡◌, ℕ, suc, ◌+◌, ◌-◌, false, true, List, [], ◌∷◌, ◌++◌, length, Option, Some, None, Ok, ℤ, refl, sym, ap, ◌∙◌, subst, arith, length-append}
 use Rattle.std.specs.Prelude.{slice_get}
-use Rattle.ss_base.specs.declared.layout.Mode.TheVariants.{Integer}
-use Rattle.ss_base.specs.declared.value.Value.{Value}
-use Rattle.ss_base.specs.declared.value.Value.TheVariants.{Whole}
-use Rattle.ss_program.specs.declared.expression.Variable.{Variable}
-use Rattle.ss_program.specs.declared.statement.CountedClass.{CountedClass}
-use Rattle.ss_program.specs.Program.{Expression, Place, ToVariable, ToAttribute, ToCount, When}
-use Rattle.ss_meaning.specs.Values.{if_ok, number_of}
-use Rattle.ss_meaning.specs.Store.{Store, fetched}
-use Rattle.ss_meaning.specs.Places.{Spot, InVariable, InAttribute, InCount, assigned_attribute}
-use Rattle.ss_meaning.specs.Events.{made_notice, filed_notice, rescheduled}
-use Rattle.ss_meaning.specs.Expressions.{value, values, entity_value, time_value}
-use Rattle.ss_meaning.specs.Parts.{RunState, Part, outcome_then, look, settle, change, get, write}
+use Rattle.ss_code_instructions.proofs.Common.{above, after, after_values, assigned_attribute, change, Code, core_at, count_code, CountedClass, deliver_with, did, entity_code, Expression, expression_mode, fetched, filed_notice, fit, forget_to, Frame, get, height, Held, if_ok, InAttribute, InCount, Integer, InVariable, leaf, look, MachineState, made_notice, Moved, next, number_of, onward, Operand, operand, or_in_cell, or_zero, outcome_then, Part, Place, place, Placed, rescheduled, RunState, settle, Site, stay, Stays, Store, Taken, Target, ToAttribute, ToCount, ToVariable, Value, value, values, values_code, Variable, variable_code, When, when_code, Whole, with_cells, with_operand_value, with_values, write}
+use Rattle.ss_meaning.specs.Places.{Spot}
+use Rattle.ss_meaning.specs.Expressions.{entity_value, time_value}
 use Rattle.ss_meaning.specs.Statements.{schedule_new, schedule}
-use Rattle.ss_code_instructions.specs.Instructions.{Operand, Held, Taken, Stays, Target, Placed}
 use Rattle.ss_code_instructions.specs.Instructions as i
-use Rattle.ss_code_instructions.specs.States.{Frame, MachineState, Moved, did, fit, or_zero, core_at, with_operand_value, with_values, onward, deliver_with}
-use Rattle.ss_code_instructions.specs.Machine.{Code}
-use Rattle.ss_code_instructions.specs.Translation.{Site, height, with_cells, above, place, next, leaf, or_in_cell, expression_mode, operand, after, stay, forget_to, values_code, after_values, entity_code, count_code, when_code, variable_code, schedule_new_code, schedule_code}
+use Rattle.ss_code_instructions.specs.Translation.{schedule_new_code, schedule_code}
 use Rattle.ss_code_instructions.proofs.Steps.{HasAt, has_front, has_back, Comes, Reaches, here, at, arrive, join, join_known, follow}
 use Rattle.ss_code_instructions.proofs.Parts.{onwards, step_leads, did_leads, at_the_height, Runs, same, done, onto, went, turned_then}
 use Rattle.ss_code_instructions.proofs.Operands.{on, Tops, put_then, delivers, held, held_height, reads}

@@ -4,33 +4,19 @@ use Rattle.std.specs.Prelude.{slice_get, take, map, replicate, not, is_some, nat
 use Rattle.std.specs.List.{AllZip}
 use Rattle.std.specs.Option.{option_map}
 use Rattle.ss_base.specs.declared.fault.FaultKind.TheVariants.{CreatedTwice, BadCount}
-use Rattle.ss_base.specs.declared.layout.ClassLayout.{ClassLayout}
-use Rattle.ss_base.specs.declared.line.Line.{Line}
-use Rattle.ss_base.specs.declared.layout.Mode.{Mode}
-use Rattle.ss_base.specs.declared.layout.Mode.TheVariants.{Integer, Alpha}
-use Rattle.ss_base.specs.declared.value.Value.{Value}
-use Rattle.ss_base.specs.declared.value.Value.TheVariants.{Whole, Text}
-use Rattle.ss_base.specs.Layout.{mode_of, first_value}
-use Rattle.ss_program.specs.Item.{Item}
-use Rattle.ss_program.specs.Item.TheVariants.{Is, Mean}
+use Rattle.ss_code_instructions.proofs.Common.{act, after_one_step, AnEvent, applied, AreFoundAt, ARoutine, assignable_count, assigned_attribute, assigned_variable, AtTime, attribute, begun, begun_at, Breaks, calculated, Called, cell_at, cells_of_kinds, changed_attribute, class_at, ClassLayout, clock, Code, code_of, Coming, Core, core_at, deliver, deliver_with, did, Done, due, empty_lines, enter, entity, EntryPoint, Event, event_begun, Fails, Failure, figure, filed_in, filed_notice, fit, Frame, Goes, goes_on, has_item, has_next, if_ok, indices, Instruction, Integer, Is, is_awaited, is_due, is_empty, is_ended, is_in, is_none, is_permanent, IsFitForCode, IsFittingStore, IsSuited, IsWellTyped, Item, known_owner, Later, leave, Line, MachineState, made_all, made_notice, made_one, Mean, mean, member, Mode, mode_of, Moved, next_event, next_item, NoStep, not_if, number_of, of_member, of_set, onward, opened, operator_of, Over, Placed, printed, Program, range_of, read_value, related, removed_at, removed_from, rescheduled, reset, Rest, same_mode, Sends, Sign, start, step, step_at, Stepped, steps, Store, Stuck, take_event, take_next, take_off, TakenOff, Target, Text, time_at, time_of, To, turned, TypeError, Underway, unless_fault, unscheduled, unsigned, Value, value_given, values_shown, Walk, walk_at, walk_cells, walk_further, when_due, Whole, with_block, with_input, with_rest, without, yielded}
+use Rattle.ss_base.specs.declared.layout.Mode.TheVariants.{Alpha}
+use Rattle.ss_base.specs.Layout.{first_value}
 use Rattle.ss_base.specs.declared.words.Relation.{Relation}
-use Rattle.ss_base.specs.declared.words.Sign.{Sign}
-use Rattle.ss_program.specs.Program.{Event, Program}
-use Rattle.ss_program.specs.WellTyped.{IsWellTyped, IsSet, field_mode}
+use Rattle.ss_program.specs.WellTyped.{IsSet, field_mode}
 use Rattle.ss_meaning.specs.PendingList.{least_event}
-use Rattle.ss_meaning.specs.Words.{is_ended, value_given}
 use Rattle.ss_meaning.specs.State.{is_made}
-use Rattle.ss_meaning.specs.Values.{Failure, Fails, TypeError, if_ok, turned, due, unless_fault, line_end, same_mode, number_of, calculated, operator_of, applied, related, empty_lines, printed}
-use Rattle.ss_meaning.specs.Store.{Store, first_values, prepended, taken_by_modes, appended, opened, front, yielded}
-use Rattle.ss_meaning.specs.Entities.{class_at, is_permanent, made_count, entity, attribute, time_of, made_one, made_all, without}
-use Rattle.ss_meaning.specs.Places.{assigned_variable, assigned_attribute}
-use Rattle.ss_meaning.specs.Sets.{is_none, filed_in, removed_from, removed_at, of_set, of_member, is_empty, is_in, begun, begun_at, coming as coming_in, goes_on, member, known_owner}
-use Rattle.ss_meaning.specs.Events.{clock, time_at, AtTime, Later, made_notice, filed_notice, rescheduled, unscheduled, is_awaited, Coming, coming_with, next_event, event_begun}
-use Rattle.ss_meaning.specs.Statistics.{figure, mean, reset}
-use Rattle.ss_meaning.specs.Expressions.{not_if}
-use Rattle.ss_meaning.specs.Loops.{range_of, indices}
-use Rattle.ss_meaning.specs.Statements.{with_input, read_value}
-use Rattle.ss_meaning.specs.Fitting.{AreOfModes, IsFittingStore}
+use Rattle.ss_meaning.specs.Values.{line_end}
+use Rattle.ss_meaning.specs.Store.{first_values, prepended, taken_by_modes, appended, front}
+use Rattle.ss_meaning.specs.Entities.{made_count}
+use Rattle.ss_meaning.specs.Sets.{coming as coming_in}
+use Rattle.ss_meaning.specs.Events.{coming_with}
+use Rattle.ss_meaning.specs.Fitting.{AreOfModes}
 use Rattle.ss_meaning.proofs.Fine.{Fine, There, Any, fine_then, fine_turned, fine_weaker, any_due, fit_fine, unless_fine}
 use Rattle.ss_meaning.proofs.Kept.{number_fine}
 use Rattle.ss_meaning.proofs.Entities.{permanent_here, entity_fine, attribute_fine, time_of_fine, made_one_fine, made_all_fine, without_fine, variable_fine, attribute_assigned_fine}
@@ -39,13 +25,10 @@ use Rattle.ss_meaning.proofs.Events.{FieldsAre, fields_are, time_at_fine, made_n
 use Rattle.ss_meaning.proofs.Expressions.{calculated_fine, applied_fine, asked_alone, asked_of}
 use Rattle.ss_meaning.proofs.Statements.{held_length, range_of_fine, word_fine, input_fits}
 use Rattle.ss_meaning.proofs.Whole.{first_fits}
-use Rattle.ss_code_instructions.specs.Instructions.{Target, Instruction, Placed, EntryPoint, ItemKind, ShowsValue, ShowsMean, ShowsMeanOf}
+use Rattle.ss_code_instructions.specs.Instructions.{ItemKind, ShowsValue, ShowsMean, ShowsMeanOf}
 use Rattle.ss_code_instructions.specs.Instructions as i
-use Rattle.ss_code_instructions.specs.States.{Called, ARoutine, AnEvent, Frame, Core, MachineState, Done, Breaks, Moved, To, Sends, Rest, Stuck, TakenOff, did, fit, core_at, onward, take_off, with_block, cell_at, deliver, deliver_with}
-use Rattle.ss_code_instructions.specs.Machine.{Code, changed_attribute, assignable_count, has_item, unsigned, has_next, Walk, walk_at, walk_cells, begin_walk, walk_further, next_item, mean_item, item_before, cells_of_kinds, values_shown, print_lines, enter, leave, take_event, take_next, act, is_due, Stepped, Goes, Over, NoStep, with_rest, when_due, step_at, step}
-use Rattle.ss_code_instructions.specs.Running.{Underway, after_one_step, start, steps}
-use Rattle.ss_code_instructions.specs.Shape.{AreGivenModes, AreFitForItems, IsOfKind, AreFoundAt, IsDeliveringTo, IsSuited, HasEntryShape, IsShaped, AreFitFrames, IsFitForCode}
-use Rattle.ss_code_instructions.specs.Translation.{code_of}
+use Rattle.ss_code_instructions.specs.Machine.{begin_walk, mean_item, item_before, print_lines}
+use Rattle.ss_code_instructions.specs.Shape.{AreGivenModes, AreFitForItems, IsOfKind, IsDeliveringTo, HasEntryShape, IsShaped, AreFitFrames}
 use Rattle.ss_code_instructions.specs.Laws.{ShapeStays, StatesSuit, NeverStuck}
 use Rattle.ss_code_instructions.proofs.ShapingPrograms.{has_shape}
 use Rattle.ss_code_instructions.proofs.Valued.{cell_there, owner_ok, asked, GoesWell, fit_well, did_well, height_well, number_well, block_well, loop_well, walk_well, value_well, both_well, bearer_well, position_well, goes_to, ways_well, back_well, delivered_well, deliver_well}

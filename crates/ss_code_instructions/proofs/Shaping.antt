@@ -3,30 +3,16 @@ use Rattle.std.proofs.Common.{◌≡◌, ℕ, suc, ◌+◌, Bool, true, false, L
 use Rattle.std.specs.Prelude.{slice_get, pos}
 use Rattle.std.specs.List.{AllByRecursion as Every}
 use Rattle.std.specs.Option.{option_map}
-use Rattle.ss_base.specs.declared.line.Line.{Line}
-use Rattle.ss_base.specs.declared.value.Value.TheVariants.{Whole}
-use Rattle.ss_base.specs.declared.layout.Mode.{Mode}
-use Rattle.ss_base.specs.declared.layout.Mode.TheVariants.{Integer}
-use Rattle.ss_base.specs.declared.layout.ClassLayout.{ClassLayout}
+use Rattle.ss_code_instructions.proofs.Common.{after, AreFoundAt, Attribute, Bearer, Calculate, ClassLayout, Clock, Code, Compare, Condition, condition_code, Constant, DataEnded, Empty, Entity, entity_code, Expression, expression_code, expression_mode, expression_of, Fetch, Figure, FigureOf, Global, Guard, GuardKind, guards_code, HasMode, Instruction, Integer, IsAccepting, IsGivingBearer, IsGivingMode, IsSuited, IsTypedOwner, leaf, lies_above, Line, Local, looked_code, may_fault, Member, Mode, mode_at, modes_onto, next, OfMember, OfSet, OfSystemSet, Operand, operand, operand_cells, operand_code, operator_of, or_cell, or_in_cell, place, Placed, Program, SetLayout, SetOwner, Signed, Site, stay, Taken, Test, TheSystem, TimeOf, TypedScope, Unary, values_cells, values_code, Variable, Whole, with_operand, with_owner}
 use Rattle.ss_base.specs.declared.layout.Owner.{Owner}
 use Rattle.ss_base.specs.declared.layout.Owner.TheVariants.{System, Class}
-use Rattle.ss_base.specs.declared.layout.SetLayout.{SetLayout}
-use Rattle.ss_program.specs.declared.expression.Variable.{Variable}
-use Rattle.ss_program.specs.declared.expression.Variable.TheVariants.{Global, Local}
-use Rattle.ss_base.specs.declared.words.GuardKind.{GuardKind}
 use Rattle.ss_base.specs.declared.words.GuardKind.TheVariants as guards
-use Rattle.ss_program.specs.Program.{Expression, Constant, Fetch, Attribute, OfSystemSet, OfSet, OfMember, Clock, TimeOf, Figure, FigureOf, Signed, Unary, Calculate, SetOwner, TheSystem, Entity, Test, Compare, DataEnded, Empty, Member, Condition, Guard, Program}
-use Rattle.ss_program.specs.WellTyped.{TypedScope, mode_at, field_mode, fields_of, owner_of_set, IsSet, HasMode, HaveModes, IsTypedOwner, IsTypedTest, IsTypedCondition}
-use Rattle.ss_meaning.specs.Values.{operator_of}
+use Rattle.ss_program.specs.WellTyped.{field_mode, fields_of, owner_of_set, IsSet, HaveModes, IsTypedTest, IsTypedCondition}
 use Rattle.ss_meaning.proofs.Entities.{field_said}
-use Rattle.ss_code_instructions.specs.Instructions.{Operand, Taken, Bearer, Instruction, Placed}
 use Rattle.ss_code_instructions.specs.Instructions.{Target as To}
 use Rattle.ss_code_instructions.specs.Instructions as i
-use Rattle.ss_code_instructions.specs.Machine.{Code}
-use Rattle.ss_code_instructions.specs.States.{lies_above}
-use Rattle.ss_code_instructions.specs.Facts.{expression_of, may_fault}
-use Rattle.ss_code_instructions.specs.Shape.{IsGivingMode, AreGivingBy, AreGivingBoth, IsGivingBearer, IsAccepting, modes_onto, IsSetBearer as BearerFits, AreFoundAt, IsSuited}
-use Rattle.ss_code_instructions.specs.Translation.{Site, place, next, leaf, or_cell, or_in_cell, expression_mode, or_integer, operand, operand_cells, after, unless_leaf, stay, expression_code, operand_code, with_operand, values_code, values_cells, looked_code, entity_code, member_code, with_owner, test_code, tests_code, alternatives_code, condition_code, negated_code, guard_code, guards_code}
+use Rattle.ss_code_instructions.specs.Shape.{AreGivingBy, AreGivingBoth, IsSetBearer as BearerFits}
+use Rattle.ss_code_instructions.specs.Translation.{or_integer, unless_leaf, member_code, test_code, tests_code, alternatives_code, negated_code, guard_code}
 use Rattle.ss_code_instructions.proofs.Operands.{leaf_low, not_above}
 use Rattle.ss_code_instructions.proofs.Changing.{next_above, under_none}
 use Rattle.ss_code_instructions.proofs.Stacked.{under_cell}

@@ -2,29 +2,16 @@
 use Rattle.std.proofs.Common.{◌≡◌, ℕ, ◌+◌, Bool, true, false, List, [], ◌∷◌, ◌++◌, length, Some, refl, sym, ap, ◌∙◌, subst}
 use Rattle.std.specs.Prelude.{Contains, if◌then◌else◌}
 use Rattle.std.specs.List.{AllByRecursion as Every, AllZip}
-use Rattle.ss_base.specs.declared.line.Line.{Line}
-use Rattle.ss_base.specs.declared.layout.Mode.{Mode}
-use Rattle.ss_base.specs.declared.layout.Mode.TheVariants.{Integer}
-use Rattle.ss_base.specs.declared.words.Sign.{Sign}
-use Rattle.ss_program.specs.declared.expression.Variable.{Variable}
-use Rattle.ss_program.specs.declared.expression.Variable.TheVariants.{Global, Local}
-use Rattle.ss_program.specs.declared.statement.CountedClass.{CountedClass}
-use Rattle.ss_program.specs.declared.sections.Subject.{Subject}
-use Rattle.ss_program.specs.declared.sections.Subject.TheVariants.{OfVariable}
+use Rattle.ss_code_instructions.proofs.Common.{AreFoundAt, CanTakeMode, change_code, Clock, Code, count_code, CountedClass, Expression, expression_code, gives_code, Global, HasMode, InputTarget, Integer, IsAccepting, IsGivingMode, IsSuited, IsWellTyped, let_code, Line, Local, Mode, mode_at, must_look, next, OfVariable, Operand, operand, operand_cells, operator_of, Place, place, Placed, Program, results_cells, Sign, Site, Subject, Taken, ToAttribute, ToCount, ToVariable, TypedScope, Variable, variable_code, with_operand}
 use Rattle.ss_program.specs.declared.sections.Statistic.{Statistic}
-use Rattle.ss_program.specs.Program.{Expression, Clock, Place, ToVariable, ToAttribute, ToCount, InputTarget, Program}
-use Rattle.ss_program.specs.WellTyped.{TypedScope, IsWellTyped, mode_at, HasMode, CanTakeMode, IsTypedSubject, IsTypedCount}
-use Rattle.ss_meaning.specs.Values.{operator_of}
+use Rattle.ss_program.specs.WellTyped.{IsTypedSubject, IsTypedCount}
 use Rattle.ss_meaning.specs.Histories.{same_subject}
 use Rattle.ss_meaning.proofs.Kept.{same_subject_is}
 use Rattle.ss_meaning.proofs.Entities.{count_said}
-use Rattle.ss_code_instructions.specs.Instructions.{Operand, Taken, Placed}
 use Rattle.ss_code_instructions.specs.Instructions.{Target as To}
 use Rattle.ss_code_instructions.specs.Instructions as i
-use Rattle.ss_code_instructions.specs.Machine.{Code}
-use Rattle.ss_code_instructions.specs.Facts.{watch, is_watched, must_look}
-use Rattle.ss_code_instructions.specs.Shape.{IsGivingMode, IsAccepting, AreFoundAt, IsSuited}
-use Rattle.ss_code_instructions.specs.Translation.{Site, place, next, or_integer, place_mode, operand, operand_cells, with_operand, expression_code, variable_code, assignment, count_code, let_code, change_code, to_place_code, reads_code, results_cells, give_code, gives_code}
+use Rattle.ss_code_instructions.specs.Facts.{watch, is_watched}
+use Rattle.ss_code_instructions.specs.Translation.{or_integer, place_mode, assignment, to_place_code, reads_code, give_code}
 use Rattle.ss_code_instructions.proofs.Operands.{not_above}
 use Rattle.ss_code_instructions.proofs.Suiting.{Shapes, seq, none, one, put_before, lead}
 use Rattle.ss_code_instructions.proofs.Shaping.{class_known, here, view, site, Onward, same_mode_at, cell_gives, gives, second_first, both_gives, over_cell, turned_gives, expression_shapes, operand_shapes, operand_then, entity_shapes}

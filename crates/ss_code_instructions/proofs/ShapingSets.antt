@@ -3,26 +3,17 @@ use Rattle.std.proofs.Common.{◌≡◌, ℕ, suc, ◌-◌, Bool, true, List, []
 use Rattle.std.proofs.lemmas.Bool.{eq-eqb, le-leb}
 use Rattle.std.specs.Prelude.{slice_get, take, map, ◌&&◌, is_some, Contains, if◌then◌else◌}
 use Rattle.std.specs.List.{AllByRecursion as Every, AllZip}
-use Rattle.ss_base.specs.declared.line.Line.{Line}
-use Rattle.ss_base.specs.declared.layout.Mode.{Mode}
-use Rattle.ss_base.specs.declared.layout.Mode.TheVariants.{Integer}
+use Rattle.ss_code_instructions.proofs.Common.{after_bearer, AMean, AMeanOf, AValue, bearer, bearer_code, CanTakeMode, Code, CountedClass, Discipline, End, Expression, expression_mode, expression_of, FilingPlace, forget, forget_to, HasMode, HasOnTop, In, Integer, Is, IsAccepting, IsGivingMode, IsTypedOwner, IsWellTyped, Item, items_code, leaf, Line, lines_of_items, may_fault, Mean, Mode, modes_onto, next, Now, Operand, operand, operand_cells, or_in_cell, Place, place, Placed, Position, PrintItem, Program, Restart, SetOwner, Site, stay, ToAttribute, ToCount, ToVariable, TypedScope, values_cells, When, when_code, with_owner}
 use Rattle.ss_base.specs.declared.layout.ClassKind.TheVariants.{Notice}
-use Rattle.ss_base.specs.declared.layout.Discipline.{Discipline}
 use Rattle.ss_base.specs.declared.layout.Discipline.TheVariants as disciplines
-use Rattle.ss_program.specs.declared.statement.CountedClass.{CountedClass}
-use Rattle.ss_base.specs.declared.words.End.{End}
-use Rattle.ss_program.specs.Program.{Expression, SetOwner, Place, ToVariable, ToAttribute, ToCount, Position, ByDiscipline, AsFirst, AsLast, BeforeMember, AfterMember, When, At as AtTime, In, Now, Restart, PrintItem, AValue, AMean, AMeanOf, Program}
-use Rattle.ss_program.specs.Item.{Item}
-use Rattle.ss_program.specs.Item.TheVariants.{Is, Mean}
-use Rattle.ss_program.specs.WellTyped.{TypedScope, IsWellTyped, kind_of_class, HasMode, IsTypedOwner, CanTakeMode, IsTypedPosition, IsTypedWhen, AreTypedGiven, IsTypedRestart, CanTakeItem, IsTypedPrint, HasSubject, IsAlone, IsOfEntities}
+use Rattle.ss_program.specs.Program.{ByDiscipline, AsFirst, AsLast, BeforeMember, AfterMember, At as AtTime}
+use Rattle.ss_program.specs.WellTyped.{kind_of_class, IsTypedPosition, IsTypedWhen, AreTypedGiven, IsTypedRestart, CanTakeItem, IsTypedPrint, HasSubject, IsAlone, IsOfEntities}
 use Rattle.ss_meaning.specs.Values.{lines_with, takes, take_all}
-use Rattle.ss_code_instructions.specs.Instructions.{Operand, FilingPlace, Placed}
 use Rattle.ss_code_instructions.specs.Instructions.{Target as To}
 use Rattle.ss_code_instructions.specs.Instructions as i
-use Rattle.ss_code_instructions.specs.Machine.{Code}
-use Rattle.ss_code_instructions.specs.Facts.{expression_of, may_fault, needs_look, neighbour_of}
-use Rattle.ss_code_instructions.specs.Shape.{IsGivingMode, IsGivingPosition, IsAccepting, HasOnTop, modes_onto, AreGivenModes, AreFitForItems, IsOfKind, CanBePrinted}
-use Rattle.ss_code_instructions.specs.Translation.{Site, place, next, leaf, or_in_cell, filing_by, expression_mode, operand, operand_cells, stay, forget, forget_to, values_cells, beside_code, filing_place, file_code, remove_code, remove_end_code, with_owner, creates_code, when_code, place_code, place_cells, notice_code, schedule_new_code, schedule_code, bearer, bearer_code, after_bearer, restarts_code, item_code, item_cells, items_code, items_cells, item_kind, lines_of_items}
+use Rattle.ss_code_instructions.specs.Facts.{needs_look, neighbour_of}
+use Rattle.ss_code_instructions.specs.Shape.{IsGivingPosition, AreGivenModes, AreFitForItems, IsOfKind, CanBePrinted}
+use Rattle.ss_code_instructions.specs.Translation.{filing_by, beside_code, filing_place, file_code, remove_code, remove_end_code, creates_code, place_code, place_cells, notice_code, schedule_new_code, schedule_code, restarts_code, item_code, item_cells, items_cells, item_kind}
 use Rattle.ss_code_instructions.proofs.Changing.{next_above}
 use Rattle.ss_code_instructions.proofs.Stacked.{under_cell}
 use Rattle.ss_code_instructions.proofs.Leaves.{stay_low}

@@ -2,16 +2,12 @@
 use Rattle.std.proofs.Common.{◌≡◌, ℕ, ◌+◌, ◌-◌, Bool, List, [], ◌∷◌, ◌++◌, length, Option, Some, None, refl, sym, ap, ◌∙◌, subst, arith}
 use Rattle.std.specs.Prelude.{slice_get, take}
 use Rattle.std.specs.List.{AllByRecursion as Every, AllZip}
-use Rattle.ss_base.specs.declared.line.Line.{Line}
-use Rattle.ss_base.specs.declared.layout.Mode.{Mode}
-use Rattle.ss_base.specs.declared.layout.Mode.TheVariants.{Integer}
-use Rattle.ss_program.specs.Program.{Expression, TheSystem, Entity, Head, Numbers, Members, Each, Place, PrintItem, Statement, Let, Change, Call, Return, Stop, Read, Simulate, If, Loop, For, Find, Create, CreateEvery, Destroy, File, RemoveEnd, Remove, ScheduleNew, Schedule, Cancel, Reset, Print, Skip, Block, Done, Then, Routine, Program}
-use Rattle.ss_program.specs.WellTyped.{TypedScope, IsWellTyped, HaveModes, CanTakeMode, IsTypedCall, IsTypedStatement, IsTypedBlock}
-use Rattle.ss_code_instructions.specs.Instructions.{Placed, EntryPoint}
+use Rattle.ss_code_instructions.proofs.Common.{AreFoundAt, Block, block_code, block_prints, Call, Cancel, CanTakeMode, Change, Code, Create, CreateEvery, Destroy, Each, Entity, EntryPoint, Expression, File, Find, For, gives_code, Head, If, Integer, IsDueAt, IsSuited, IsWellTyped, items_code, Let, Line, lines_of_items, Loop, Members, Mode, Numbers, Place, place, Placed, Print, PrintItem, Program, Read, Remove, RemoveEnd, Reset, results_cells, Return, Routine, routine_entry, Schedule, ScheduleNew, section_code, Simulate, Site, Skip, Statement, statement_prints, Stop, Then, TheSystem, TypedScope, values_cells, values_code}
+use Rattle.ss_program.specs.Program.{Done}
+use Rattle.ss_program.specs.WellTyped.{HaveModes, IsTypedCall, IsTypedStatement, IsTypedBlock}
 use Rattle.ss_code_instructions.specs.Instructions as i
-use Rattle.ss_code_instructions.specs.Machine.{Code}
-use Rattle.ss_code_instructions.specs.Shape.{HasOnTop as CellBlock, CanBePrinted, AreFoundAt, IsDueAt, IsSuited}
-use Rattle.ss_code_instructions.specs.Translation.{Site, place, loop_cells, values_code, values_cells, results_cells, gives_code, items_code, items_cells, lines_of_items, statement_prints, block_prints, no_line, statement_code, block_code, section_code, routine_entry}
+use Rattle.ss_code_instructions.specs.Shape.{HasOnTop as CellBlock, CanBePrinted}
+use Rattle.ss_code_instructions.specs.Translation.{loop_cells, items_cells, no_line, statement_code}
 use Rattle.ss_code_instructions.proofs.Steps.{HasAt, has_front, has_back}
 use Rattle.ss_code_instructions.proofs.Entering.{RoutineAt, Linked}
 use Rattle.ss_code_instructions.proofs.Suiting.{Shapes, seq, none, one, put_before, lead, looped}

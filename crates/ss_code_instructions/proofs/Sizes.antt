@@ -1,28 +1,15 @@
 -- The code of a program has as many instructions as its size says.
 use Rattle.std.proofs.Common.{◌≡◌, ℕ, zero, suc, ◌+◌, ◌-◌, Bool, true, false, List, [], ◌∷◌, ◌++◌, length, Option, Some, None, refl, ap, ◌∙◌, arith, length-append}
 use Rattle.std.specs.Prelude.{if◌then◌else◌}
-use Rattle.ss_base.specs.declared.layout.Mode.{Mode}
-use Rattle.ss_base.specs.declared.layout.Mode.TheVariants.{Integer}
-use Rattle.ss_program.specs.declared.expression.Variable.{Variable}
-use Rattle.ss_program.specs.declared.expression.Variable.TheVariants.{Global}
-use Rattle.ss_base.specs.declared.words.GuardKind.{GuardKind}
+use Rattle.ss_code_instructions.proofs.Common.{After, after, AMean, AMeanOf, At, AtEnd, Attribute, AValue, Bearer, Block, Calculate, Call, Cancel, Change, Clock, Compare, Condition, Constant, CountedClass, Create, CreateEvery, DataEnded, Destroy, Each, Empty, End, Entity, Event, Expression, expression_code, expression_of, Fetch, Figure, FigureOf, File, Find, For, From, Global, Guard, GuardKind, Head, height, If, In, InputTarget, Instruction, Integer, leaf, Let, Loop, may_fault, Member, Members, Mode, must_look, next, Now, Numbers, OfMember, OfSet, OfSystemSet, Operand, operand, operand_code, operator_of, Phrase, PhraseKind, Place, place, Placed, Position, Print, PrintItem, Program, Read, Remove, RemoveEnd, Reset, Restart, Return, Routine, Schedule, ScheduleNew, SetOwner, Sign, Signed, Simulate, Site, Skip, Start, Statement, Stop, Test, Then, TheSystem, TimeOf, ToAttribute, ToCount, ToVariable, TypedScope, Unary, Variable, When, Whole}
 use Rattle.ss_base.specs.declared.words.GuardKind.TheVariants as guards
-use Rattle.ss_base.specs.declared.words.PhraseKind.{PhraseKind}
 use Rattle.ss_base.specs.declared.words.PhraseKind.TheVariants as kinds
-use Rattle.ss_program.specs.declared.statement.CountedClass.{CountedClass}
-use Rattle.ss_base.specs.declared.words.End.{End}
-use Rattle.ss_base.specs.declared.words.Sign.{Sign}
-use Rattle.ss_program.specs.Program.{Expression, Constant, Fetch, Attribute, OfSystemSet, OfSet, OfMember, Clock, TimeOf, Figure, FigureOf, Signed, Unary, Calculate, SetOwner, TheSystem, Entity, Test, Compare, DataEnded, Empty, Member, Condition, Head, Numbers, Members, Each, Start, AtEnd, From, After, Phrase, Guard, Place, ToVariable, ToAttribute, ToCount, InputTarget, Position, When, At, In, Now, Restart, PrintItem, AValue, AMean, AMeanOf, Statement, Let, Change, Call, Return, Stop, Read, Simulate, If, Loop, For, Find, Create, CreateEvery, Destroy, File, RemoveEnd, Remove, ScheduleNew, Schedule, Cancel, Reset, Print, Skip, Block, Done, Then, Routine, Event, Program}
-use Rattle.ss_program.specs.WellTyped.{TypedScope}
+use Rattle.ss_program.specs.Program.{Done}
 use Rattle.std.specs.Prelude.{pos}
-use Rattle.ss_base.specs.declared.value.Value.TheVariants.{Whole}
-use Rattle.ss_meaning.specs.Values.{operator_of}
-use Rattle.ss_code_instructions.specs.Instructions.{Operand, Bearer, Instruction, Placed}
 use Rattle.ss_code_instructions.specs.Instructions as i
 use Rattle.ss_code_instructions.specs.Instructions.{Target as To}
 use Rattle.ss_code_instructions.specs.Translation as t
-use Rattle.ss_code_instructions.specs.Translation.{Site, height, place, leaf, operand, after, next, expression_code, operand_code}
-use Rattle.ss_code_instructions.specs.Facts.{must_look, needs_look, expression_of, may_fault, neighbour_of}
+use Rattle.ss_code_instructions.specs.Facts.{needs_look, neighbour_of}
 use Rattle.ss_code_instructions.specs.Size as z
 use Rattle.ss_code_instructions.specs.Size.{expression_size, operand_size}
 use Rattle.ss_code_instructions.specs.Laws.{HasSize}

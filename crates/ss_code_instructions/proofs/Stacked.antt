@@ -1,15 +1,7 @@
 -- Values in cells, one above the other: how many they are, how they are read, and how they come off.
 use Rattle.std.proofs.Common.{◌≡◌, ℕ, suc, ◌+◌, Bool, true, List, [], ◌∷◌, ◌++◌, length, Some, refl, sym, ap, ◌∙◌, arith, length-append, append-nil, if◌then◌else◌}
 use Rattle.std.proofs.lemmas.Bool.{ne_eqb}
-use Rattle.ss_base.specs.declared.layout.Mode.{Mode}
-use Rattle.ss_base.specs.declared.value.Value.{Value}
-use Rattle.ss_program.specs.Program.{Expression}
-use Rattle.ss_program.specs.WellTyped.{TypedScope}
-use Rattle.ss_meaning.specs.Store.{Store}
-use Rattle.ss_meaning.specs.Expressions.{value, values}
-use Rattle.ss_code_instructions.specs.Instructions.{Taken}
-use Rattle.ss_code_instructions.specs.States.{Moved, TakenOff, fit, at_height, cell_at, take_off, with_block, with_values}
-use Rattle.ss_code_instructions.specs.Translation.{Site, height, expression_mode, values_cells, after_values}
+use Rattle.ss_code_instructions.proofs.Common.{after_values, at_height, cell_at, Expression, expression_mode, fit, height, Mode, Moved, Site, Store, take_off, Taken, TakenOff, TypedScope, Value, value, values, values_cells, with_block, with_values}
 use Rattle.ss_code_instructions.proofs.Keeping.{Only, each, made_from}
 use Rattle.ss_code_instructions.proofs.Parts.{at_the_height, onto}
 use Rattle.ss_code_instructions.proofs.Members.{top_cell}

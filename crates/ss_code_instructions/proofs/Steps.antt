@@ -3,14 +3,10 @@ use Rattle.std.proofs.Common.{◌≡◌, ℕ, zero, suc, ◌+◌, ◌<◌, ◌�
 use Rattle.std.specs.Prelude.{slice_get}
 use Rattle.std.proofs.Math.Seq.{get_or-append_seam}
 use Rattle.std.proofs.lemmas.Option.{slice_get-get_or}
-use Rattle.ss_base.specs.declared.value.Value.{Value}
-use Rattle.ss_meaning.specs.Parts.{RunState, Exit, Returned, Stopped, Faulted, OutOfTicks, Wrong, Outcome, WentOn, Left, Part, outcome_then}
-use Rattle.ss_meaning.specs.Meaning.{with_locals, Ending, Ended, Fault, Paused, Run, run_at}
-use Rattle.ss_meaning.specs.Store.{Store, yielded}
-use Rattle.ss_code_instructions.specs.Instructions.{Placed}
-use Rattle.ss_code_instructions.specs.States.{Frame, MachineState, Done, Breaks, Moved, To, Sends, Rest, Stuck, core_at}
-use Rattle.ss_code_instructions.specs.Machine.{Code, act, is_due, Goes, Over, with_rest, when_due, step_at, step}
-use Rattle.ss_code_instructions.specs.Running.{Result, Underway, Ends, IsStuck, ended_at, after_one_step, steps}
+use Rattle.ss_code_instructions.proofs.Common.{act, after_one_step, Breaks, Code, core_at, Done, Ended, Fault, Faulted, Frame, Goes, is_due, Left, MachineState, Moved, Outcome, outcome_then, OutOfTicks, Over, Part, Paused, Placed, Rest, Returned, RunState, Sends, step, step_at, steps, Stopped, Store, Stuck, To, Underway, Value, WentOn, when_due, with_locals, with_rest, Wrong, yielded}
+use Rattle.ss_meaning.specs.Parts.{Exit}
+use Rattle.ss_meaning.specs.Meaning.{Ending, Run, run_at}
+use Rattle.ss_code_instructions.specs.Running.{Result, Ends, IsStuck, ended_at}
 use Rattle.ss_code_instructions.proofs.Keeping.{Lasts, lasts_then}
 use Rattle.ss_code_instructions.proofs.Acting.{Endures, act_lasts}
 

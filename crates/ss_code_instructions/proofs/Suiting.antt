@@ -1,11 +1,7 @@
 -- Pieces of code that suit their places, one after another.
 use Rattle.std.proofs.Common.{◌≡◌, ℕ, zero, suc, ◌+◌, ◌-◌, true, List, [], ◌∷◌, ◌++◌, length, Some, refl, subst, arith, length-append}
 use Rattle.std.specs.Prelude.{slice_get}
-use Rattle.ss_base.specs.declared.layout.Mode.{Mode}
-use Rattle.ss_program.specs.Program.{Program}
-use Rattle.ss_code_instructions.specs.Instructions.{Placed}
-use Rattle.ss_code_instructions.specs.Machine.{Code, is_due}
-use Rattle.ss_code_instructions.specs.Shape.{AreFoundAt, IsDueAt, IsSuited}
+use Rattle.ss_code_instructions.proofs.Common.{AreFoundAt, Code, is_due, IsDueAt, IsSuited, Mode, Placed, Program}
 use Rattle.ss_code_instructions.proofs.Steps.{HasAt, has_front, has_back}
 
 module _ (p : Program) (code : Code) where

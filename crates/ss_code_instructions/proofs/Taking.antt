@@ -1,18 +1,9 @@
 -- The code that takes an item of a loop or a member of a walk: a tick, and the assignment to the loop's variable.
 use Rattle.std.proofs.Common.{◌≡◌, ℕ, suc, ◌+◌, ◌≤◌, Bool, true, false, List, [], ◌∷◌, length, Some, Ok, ℤ, refl, sym, ap, ◌∙◌, subst, arith}
 use Rattle.std.specs.Prelude.{if◌then◌else◌}
-use Rattle.ss_base.specs.declared.value.Value.{Value}
-use Rattle.ss_base.specs.declared.value.Value.TheVariants.{Whole}
-use Rattle.ss_program.specs.declared.expression.Variable.{Variable}
-use Rattle.ss_meaning.specs.Store.{Store}
-use Rattle.ss_meaning.specs.Places.{assigned_variable}
-use Rattle.ss_meaning.specs.Loops.{Turn, visit}
-use Rattle.ss_meaning.specs.Parts.{RunState, OutOfTicks, Left, Part, outcome_then, looked, settle, take_tick}
-use Rattle.ss_code_instructions.specs.Instructions.{Stays}
+use Rattle.ss_code_instructions.proofs.Common.{assigned_variable, cell_at, Code, core_at, did, fit, Frame, is_kept, Left, looked, MachineState, Moved, onward, outcome_then, OutOfTicks, Part, place, RunState, settle, Site, Stays, Store, take_code, Turn, Value, Variable, visit, Whole}
+use Rattle.ss_meaning.specs.Parts.{take_tick}
 use Rattle.ss_code_instructions.specs.Instructions as i
-use Rattle.ss_code_instructions.specs.States.{Frame, MachineState, Moved, did, fit, cell_at, core_at, onward}
-use Rattle.ss_code_instructions.specs.Machine.{Code}
-use Rattle.ss_code_instructions.specs.Translation.{Site, place, is_kept, take_code}
 use Rattle.ss_code_instructions.proofs.Keeping.{Only, Same, lasts_so, suits_on, variable_same}
 use Rattle.ss_code_instructions.proofs.Steps.{HasAt, Reaches, at, arrive}
 use Rattle.ss_code_instructions.proofs.Parts.{Within, Leads, onwards, step_leads, ticked, tick_run, out_run, then_then}

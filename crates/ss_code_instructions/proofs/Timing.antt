@@ -1,20 +1,10 @@
 -- The code of a time, of values and then a time, and of a reference that is looked at: what SCHEDULE begins with.
 use Rattle.std.proofs.Common.{◌≡◌, ℕ, ◌+◌, false, true, List, [], ◌∷◌, ◌++◌, length, Ok, Err, ℤ, refl, sym, ◌∙◌, subst, arith, length-append}
 use Rattle.std.specs.Prelude.{Result as OkOr}
-use Rattle.ss_base.specs.declared.value.Value.{Value}
-use Rattle.ss_base.specs.declared.value.Value.TheVariants.{Whole}
-use Rattle.ss_program.specs.Program.{Expression, When, At, In, Now}
-use Rattle.ss_meaning.specs.Values.{Failure, Fails, TypeError, if_ok, turned}
-use Rattle.ss_meaning.specs.Store.{Store}
-use Rattle.ss_meaning.specs.Entities.{entity}
-use Rattle.ss_meaning.specs.Events.{Moment, AtTime, Later, time_at}
-use Rattle.ss_meaning.specs.Expressions.{value, values, looked_at, entity_value, time_value}
-use Rattle.ss_meaning.specs.Parts.{RunState, Part, outcome_then, looked, look}
-use Rattle.ss_code_instructions.specs.Instructions.{Operand, Placed, Instruction}
+use Rattle.ss_code_instructions.proofs.Common.{act, after, after_values, At, AtTime, Code, core_at, deliver, did, entity, entity_code, Expression, Fails, Failure, Frame, height, if_ok, In, Instruction, is_due, Later, leaf, look, looked, looked_at, MachineState, next, Now, onward, Operand, operand, operand_code, outcome_then, Part, place, Placed, RunState, Site, stay, Store, time_at, turned, TypeError, Value, value, values, values_code, When, when_code, Whole, with_operand, with_operand_value}
+use Rattle.ss_meaning.specs.Events.{Moment}
+use Rattle.ss_meaning.specs.Expressions.{entity_value, time_value}
 use Rattle.ss_code_instructions.specs.Instructions as i
-use Rattle.ss_code_instructions.specs.States.{Frame, MachineState, did, core_at, with_operand_value, onward, deliver}
-use Rattle.ss_code_instructions.specs.Machine.{Code, act, is_due}
-use Rattle.ss_code_instructions.specs.Translation.{Site, height, place, next, leaf, operand, after, operand_code, with_operand, stay, values_code, after_values, entity_code, when_code}
 use Rattle.ss_code_instructions.proofs.Keeping.{Only}
 use Rattle.ss_code_instructions.proofs.Steps.{HasAt, has_front, has_back, Reaches, at, arrive}
 use Rattle.ss_code_instructions.proofs.Parts.{Within, Leads, onwards, breaks, whatever, step_leads, did_leads, Runs, same, onto, looks_then, turned_then}

@@ -2,28 +2,18 @@
 use Rattle.std.proofs.Common.{◌≡◌, ℕ, ◌+◌, ◌-◌, Bool, true, false, List, [], ◌∷◌, length, Option, Some, None, Ok, Err, ℤ, refl, sym, ◌∙◌, subst}
 use Rattle.std.proofs.lemmas.Bool.{eq-eqb}
 use Rattle.std.specs.Prelude.{◌==◌, Result as OkOr, if◌then◌else◌}
-use Rattle.ss_base.specs.declared.line.Line.{Line}
-use Rattle.ss_base.specs.declared.layout.Mode.{Mode}
-use Rattle.ss_base.specs.declared.layout.Mode.TheVariants.{Integer}
-use Rattle.ss_base.specs.declared.value.Value.{Value}
-use Rattle.ss_base.specs.declared.value.Value.TheVariants.{Whole, Text}
-use Rattle.ss_base.specs.Layout.{mode_of}
-use Rattle.ss_program.specs.Program.{Program}
-use Rattle.ss_program.specs.WellTyped.{TypedScope, IsWellTyped}
-use Rattle.ss_meaning.specs.Values.{Failure, Fails, TypeError, turned}
-use Rattle.ss_meaning.specs.Store.{Store, fetched}
-use Rattle.ss_meaning.specs.Places.{assigned_variable}
-use Rattle.ss_meaning.specs.Sets.{Filing as Position, ByRule, Foremost, Hindmost, JustBefore, JustAfter}
-use Rattle.ss_meaning.specs.Fitting.{AreOfModes, IsFittingStore}
+use Rattle.ss_code_instructions.proofs.Common.{AreFoundAt, assigned_variable, at_height, back_if, Bearer, Before, ByRule, cell_at, Code, Core, core_at, deliver, deliver_with, did, Fails, Failure, fetched, FilingPlace, First, fit, Foremost, Frame, HasOnTop, Held, Hindmost, Integer, Into, IsAccepting, IsFitForCode, IsFittingStore, IsGivingBearer, IsGivingMode, IsWellTyped, JustAfter, JustBefore, Last, lies_above, Line, Mode, mode_of, modes_onto, Moved, Onto, onward_if, Operand, or_zero, Program, put_to, Ranked, Rest, Sends, Stays, Store, Stuck, Taken, Target, Text, To, turned, TypedScope, TypeError, Value, Walk, Whole, with_bearer, with_block, with_operand_value, with_values, Written}
+use Rattle.ss_meaning.specs.Sets.{Filing as Position}
+use Rattle.ss_meaning.specs.Fitting.{AreOfModes}
 use Rattle.ss_meaning.proofs.Fine.{Fine, There, fine_turned, fit_fine}
 use Rattle.ss_meaning.proofs.Entities.{variable_fine, fetched_there}
 use Rattle.ss_meaning.proofs.Sets.{OwnerOk, FilingOk, AskedStatistic}
 use Rattle.ss_meaning.proofs.Expressions.{asked_alone, asked_of}
 use Rattle.ss_meaning.proofs.Statements.{held_length}
-use Rattle.ss_code_instructions.specs.Instructions.{Operand, Constant, Held, Taken, Stays, Bearer, Target, Into, Onto, FilingPlace, First, Last, Ranked, Before, After}
-use Rattle.ss_code_instructions.specs.States.{Frame, Core, Moved, To, Sends, Rest, Stuck, did, fit, core_at, onward_if, back_if, cell_at, at_height, with_block, with_top_number, with_topmost, or_zero, lies_above, with_operand_value, with_values, with_bearer, with_position, Written, put_to, deliver, deliver_with}
-use Rattle.ss_code_instructions.specs.Machine.{Code, Walk, with_loop, with_walk_in_cells}
-use Rattle.ss_code_instructions.specs.Shape.{IsGivingMode, AreGivingBy, AreGivingBoth, IsGivingBearer, IsGivingPosition, IsAccepting, modes_onto, HasOnTop, loop_modes, walk_modes, IsSetBearer as BearerFits, IsStatisticBearer, AreFoundAt, AreFitFrames, IsFitForCode}
+use Rattle.ss_code_instructions.specs.Instructions.{Constant, After}
+use Rattle.ss_code_instructions.specs.States.{with_top_number, with_topmost, with_position}
+use Rattle.ss_code_instructions.specs.Machine.{with_loop, with_walk_in_cells}
+use Rattle.ss_code_instructions.specs.Shape.{AreGivingBy, AreGivingBoth, IsGivingPosition, loop_modes, walk_modes, IsSetBearer as BearerFits, IsStatisticBearer, AreFitFrames}
 use Rattle.ss_code_instructions.proofs.Parts.{onto}
 use Rattle.ss_code_instructions.proofs.Stacked.{block_takes}
 

@@ -2,29 +2,17 @@
 use Rattle.std.proofs.Common.{◌≡◌, ℕ, zero, suc, ◌+◌, ◌-◌, ◌<◌, ◌≤◌, Bool, true, false, not, List, [], ◌∷◌, ◌++◌, length, Option, Some, None, Ok, Err, ℤ, pos, refl, sym, ap, ◌∙◌, subst, arith, length-append, inl, inr}
 use Rattle.std.proofs.lemmas.Bool.{ne_eqb}
 use Rattle.std.specs.Prelude.{slice_get, is_some, cond, ◌==◌, Result as OkOr, if◌then◌else◌}
-use Rattle.ss_base.specs.declared.fault.FaultKind.{FaultKind}
+use Rattle.ss_code_instructions.proofs.Common.{above, After, Again, at_height, AtEnd, back_if, begun, begun_at, cell_at, choose, Code, Core, core_at, did, due, EndsLoop, Entity, Expression, expression_code, Fails, Failure, FaultKind, fit, for_code, forget_to, Frame, From, goes_on, GoesOn, height, if_ok, Integer, is_in, is_none, IsFound, known_owner, Line, look, looked, looked_at, loop, MachineState, member, member_value, Members, Moved, next, onward, onward_if, outcome_then, over, owner_code, owner_kept, owner_value, Part, place, Placed, RunState, SetLayout, SetOwner, Site, Start, State, Store, take_code, Text, TheSystem, Turn, turned, turns_code, TypeError, unless_fault, Value, value, Variable, visit, Walk, walk_at, walk_cells, walk_further, walk_loop, WentOn, where_fit, Whole, with_bearer}
 use Rattle.ss_base.specs.declared.fault.FaultKind.TheVariants.{NotFiled}
-use Rattle.ss_base.specs.declared.layout.Mode.TheVariants.{Integer}
-use Rattle.ss_base.specs.declared.layout.SetLayout.{SetLayout}
-use Rattle.ss_base.specs.declared.line.Line.{Line}
-use Rattle.ss_base.specs.declared.value.Value.{Value}
-use Rattle.ss_base.specs.declared.value.Value.TheVariants.{Whole, Text}
 use Rattle.ss_world.specs.Lists.{head0, last_or, IsInList}
-use Rattle.ss_world.specs.State.{State, Members as Row, and_then, members_of, owner_of}
+use Rattle.ss_world.specs.State.{Members as Row, and_then, members_of, owner_of}
 use Rattle.ss_world.specs.Sets.{joiner, owner as owner_there, follower, precursor, members_by, companions, next_in, previous_in}
-use Rattle.ss_program.specs.declared.expression.Variable.{Variable}
-use Rattle.ss_program.specs.Program.{Expression, SetOwner, TheSystem, Entity, Start, AtEnd, From, After, Members}
-use Rattle.ss_meaning.specs.Values.{Failure, Fails, TypeError, if_ok, turned, due, where_fit, unless_fault}
-use Rattle.ss_meaning.specs.Store.{Store}
-use Rattle.ss_meaning.specs.Sets.{set_at, member, owner_as, owner_by_layout, known_owner, is_in, is_none, outset, beside, begun, coming, from_or_after, begun_at, or_gone, goes_on}
-use Rattle.ss_meaning.specs.Expressions.{value, looked_at, member_value, owner_value}
-use Rattle.ss_meaning.specs.Loops.{Turn, GoesOn, EndsLoop, IsFound, visit, Outset, next_member, member_turn, over_members, over}
-use Rattle.ss_meaning.specs.Parts.{RunState, WentOn, Part, outcome_then, choose, looked, look, Next, Again, Over, go_on, loop}
-use Rattle.ss_code_instructions.specs.Instructions.{Placed}
+use Rattle.ss_meaning.specs.Sets.{set_at, owner_as, owner_by_layout, outset, beside, coming, from_or_after, or_gone}
+use Rattle.ss_meaning.specs.Loops.{Outset, next_member, member_turn, over_members}
+use Rattle.ss_meaning.specs.Parts.{Next, Over, go_on}
 use Rattle.ss_code_instructions.specs.Instructions as i
-use Rattle.ss_code_instructions.specs.States.{Frame, Core, MachineState, Moved, did, fit, cell_at, core_at, at_height, with_bearer, onward, onward_if, back_if}
-use Rattle.ss_code_instructions.specs.Machine.{Code, Walk, walk_at, walk_cells, begin_walk, walk_further}
-use Rattle.ss_code_instructions.specs.Translation.{Site, height, above, place, next, forget_to, expression_code, owner_code, owner_cell, owner_kept, walk_loop, take_code, turns_code, for_code}
+use Rattle.ss_code_instructions.specs.Machine.{begin_walk}
+use Rattle.ss_code_instructions.specs.Translation.{owner_cell}
 use Rattle.ss_code_instructions.proofs.Steps.{HasAt, has_front, has_back, Comes, Reaches, at, arrive, join}
 use Rattle.ss_code_instructions.proofs.Parts.{Within, within_on, Leads, onwards, breaks, whatever, ticked, step_leads, did_leads, at_the_height, turned_then, then_then, look_then, Lands, same, done}
 use Rattle.ss_code_instructions.proofs.Operands.{join_look}

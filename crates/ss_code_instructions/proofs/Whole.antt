@@ -1,17 +1,13 @@
 -- A whole program and its code.
 use Rattle.std.proofs.Common.{◌≡◌, ℕ, zero, suc, ◌+◌, ◌≤◌, List, [], ◌∷◌, ◌++◌, length, Some, refl, subst, arith}
 use Rattle.std.specs.Prelude.{◌≢◌, slice_get}
-use Rattle.ss_program.specs.Program.{Routine, Event, Program}
-use Rattle.ss_meaning.specs.Parts.{Returned, Stopped, Faulted, OutOfTicks, Wrong, Outcome, WentOn, Left}
-use Rattle.ss_meaning.specs.Statements.{effects}
-use Rattle.ss_meaning.specs.Meaning.{WentWrong, run_of, calls, first_run_state, meaning}
-use Rattle.ss_code_instructions.specs.Instructions.{Placed, Lines}
+use Rattle.ss_code_instructions.proofs.Common.{all_events, all_routines, block_code, block_prints, calls, Code, code_of, core_at, effects, Event, Faulted, first_site, Left, MachineState, main_code, Outcome, OutOfTicks, place, Placed, Program, Returned, Routine, Site, start, Stopped, WentOn, Wrong}
+use Rattle.ss_meaning.specs.Meaning.{WentWrong, run_of, first_run_state, meaning}
+use Rattle.ss_code_instructions.specs.Instructions.{Lines}
 use Rattle.ss_code_instructions.specs.Instructions as i
-use Rattle.ss_code_instructions.specs.States.{MachineState, core_at}
-use Rattle.ss_code_instructions.specs.Machine.{Code}
-use Rattle.ss_code_instructions.specs.Running.{start, HasGoneRight, IsFaithful}
+use Rattle.ss_code_instructions.specs.Running.{HasGoneRight, IsFaithful}
 use Rattle.ss_code_instructions.specs.Laws.{CodeBehaves}
-use Rattle.ss_code_instructions.specs.Translation.{Site, place, block_code, block_prints, main_scope, first_site, routine_code, event_code, routines_code, events_code, routines_prints, events_prints, routine_entries, event_entries, main_prints, prints_before_events, main_code, all_routines, all_events, code_of}
+use Rattle.ss_code_instructions.specs.Translation.{main_scope, routine_code, event_code, routines_code, events_code, routines_prints, events_prints, routine_entries, event_entries, main_prints, prints_before_events}
 use Rattle.ss_code_instructions.proofs.Joining.{Joined, first_joined}
 use Rattle.ss_code_instructions.proofs.Steps.{HasAt, has_front, has_back, has_all, Finishes, Reaches, reaches_on, in_steps, Agrees, agrees, at, arrive}
 use Rattle.ss_code_instructions.proofs.Parts.{Within, ends, step_leads}

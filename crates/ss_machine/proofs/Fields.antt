@@ -4,12 +4,9 @@ use Rattle.std.specs.List.{flat_map, AllByRecursion}
 use Rattle.std.proofs.lemmas.List.{drop_more, take_min, drop_min}
 use Rattle.std.proofs.lemmas.Bool.{eqb-true, leb-true}
 use Rattle.ss_picture.specs.declared.field.Field.{Field}
-use Rattle.ss_picture.specs.declared.items.Item.{Item}
-use Rattle.ss_picture.specs.declared.items.Item.TheVariants.{Is, Mean}
-use Rattle.ss_picture.specs.Pictures.{picture_fields}
+use Rattle.ss_machine.proofs.Common.{Is, IsPrintable, Item, Mean, picture_fields}
 use Rattle.ss_picture.specs.Suited.{IsSuitedItem, AreSuitedItems}
 use Rattle.ss_meaning.specs.Values.{takes, take_all}
-use Rattle.ss_machine.specs.Shown.{IsPrintable}
 
 -- ## One picture more
 

@@ -4,11 +4,8 @@ use Rattle.std.specs.Prelude.{Result, slice_get}
 use Rattle.std.specs.List.{AllByRecursion}
 use Rattle.std.proofs.lemmas.List.{append_assoc, append-nil, drop_more, drop_all}
 use Rattle.ss_base.specs.declared.fault.FaultKind.{FaultKind}
-use Rattle.ss_base.specs.declared.value.Value.{Value}
-use Rattle.ss_base.specs.declared.value.Value.TheVariants.{Whole, Text}
-use Rattle.ss_picture.specs.declared.items.Item.{Item}
-use Rattle.ss_picture.specs.declared.items.Item.TheVariants.{Is, Mean}
-use Rattle.ss_meaning.specs.Values.{Failure, Fails, TypeError, due}
+use Rattle.ss_machine.proofs.Common.{AreShown, AreValuesAt, CanShow, Fails, Is, IsPrintable, Item, Mean, Seen, Text, TwoRows, Value, Whole}
+use Rattle.ss_meaning.specs.Values.{Failure, TypeError, due}
 use Rattle.ss_meaning.specs.Store.{Store}
 use Rattle.ss_meaning.specs.Statistics.{mean}
 use Rattle.ss_meaning.specs.Fitting.{AreOfModes}
@@ -16,10 +13,8 @@ use Rattle.ss_code_instructions.specs.declared.item.ItemKind.{ItemKind}
 use Rattle.ss_code_instructions.specs.declared.item.ItemKind.TheVariants as shows
 use Rattle.ss_code_instructions.specs.Machine.{item_before, mean_item, values_shown}
 use Rattle.ss_code_instructions.specs.Carried.{item_modes, kind_of_item}
-use Rattle.ss_machine_world.specs.Seen.{Seen, with_seen, IsRight}
-use Rattle.ss_machine_frames.specs.Rows.{TwoRows}
-use Rattle.ss_machine_frames.specs.Holding.{AreValuesAt}
-use Rattle.ss_machine.specs.Shown.{IsPrintable, AreShown, IsShown, CanShow, CanShowOne, cells_of}
+use Rattle.ss_machine_world.specs.Seen.{with_seen, IsRight}
+use Rattle.ss_machine.specs.Shown.{IsShown, CanShowOne, cells_of}
 
 -- ## One item
 

@@ -1,3 +1,4 @@
+mod Common
 mod Known
 mod Fields
 mod Items

@@ -1,13 +1,11 @@
 -- Kinds of instructions: what a running instruction does, that of the definition does which it carries out.
 use Rattle.std.proofs.Common.{◌≡◌, List, refl, ap, ◌∙◌}
-use Rattle.ss_base.specs.declared.value.Value.{Value}
+use Rattle.ss_machine.proofs.Common.{Code, does_read, does_write, Instruction, is_due, reads, Value}
 use Rattle.ss_code_instructions.specs.declared.instruction.Instruction.{Instruction as Running}
 use Rattle.ss_code_instructions.specs.declared.instruction.Instruction.TheVariants as r
-use Rattle.ss_code_instructions.specs.Instructions.{Instruction, Placed}
-use Rattle.ss_code_instructions.specs.Machine.{Code, is_due}
+use Rattle.ss_code_instructions.specs.Instructions.{Placed}
 use Rattle.ss_code_instructions.specs.Carried.{IsCarriedOut}
-use Rattle.ss_machine.specs.Counts.{takes_tick, reads, writes}
-use Rattle.ss_machine.specs.Runs.{does_read, does_write}
+use Rattle.ss_machine.specs.Counts.{takes_tick, writes}
 
 pub record IsLike (x : Instruction) (i : Running) : Type 0 where
   pub due : is_due x ≡ takes_tick i

@@ -1,16 +1,12 @@
 -- A machine before its first step, and one that goes on.
 use Rattle.std.proofs.Common.{◌≡◌, ℕ, ◌+◌, ◌-◌, ◌*◌, ◌≤◌, Bool, true, false, [], length, None, refl, sym, ap, subst, arith}
 use Rattle.std.specs.Prelude.{slice_get}
-use Rattle.ss_code.specs.Running.{Generated, IsGenerated}
+use Rattle.ss_machine.proofs.Common.{Generated, Input, IsAtStart, IsFirstState, IsGenerated, Memory, Output, situated, State, Stop}
 use Rattle.ss_code_instructions.specs.Laws.{HasShape}
 use Rattle.ss_code_instructions.specs.Running.{start}
 use Rattle.ss_code_instructions.specs.Measure.{left_from}
-use Rattle.ss_machine_instructions.specs.declared.state.State.{State}
-use Rattle.ss_machine.specs.declared.stop.Stop.{Stop}
-use Rattle.ss_machine.specs.declared.stop.Stop.TheVariants.{Ended, Fault, Paused, Memory, Output, Input, Failed}
-use Rattle.ss_machine.specs.Situations.{situated}
-use Rattle.ss_machine.specs.Beginning.{IsFirstState, first_here}
-use Rattle.ss_machine.specs.Start.{IsAtStart}
+use Rattle.ss_machine.specs.declared.stop.Stop.TheVariants.{Ended, Fault, Paused, Failed}
+use Rattle.ss_machine.specs.Beginning.{first_here}
 use Rattle.ss_machine.specs.Counts.{takes_tick_at, left_in_calls}
 use Rattle.ss_machine.proofs.Reaching.{made_of}
 use Rattle.ss_machine.specs.Held.{IsReady, kept_after}

@@ -1,15 +1,8 @@
 -- A run that goes on with other ticks.
 use Rattle.std.proofs.Common.{◌≡◌, ℕ, ◌-◌, ◌≤◌, List, Option, arith}
-use Rattle.ss_input.specs.declared.source.Source.{Source}
-use Rattle.ss_code.specs.Running.{Generated}
-use Rattle.ss_code_instructions.specs.States.{Core}
-use Rattle.ss_machine_instructions.specs.declared.flow.Here.{Here}
-use Rattle.ss_machine_instructions.specs.declared.state.State.{State}
-use Rattle.ss_machine_instructions.specs.Doing.{Compiled}
-use Rattle.ss_machine.specs.declared.stop.Stop.{Stop}
-use Rattle.ss_machine.specs.declared.stop.Stop.TheVariants.{Ended, Fault, Paused, Memory, Output, Input, Failed}
-use Rattle.ss_machine.specs.Situations.{Situation, situated, IsRepresented, IsSituated}
-use Rattle.ss_machine.specs.Runs.{HasCome, IsFinished, IsRunResult}
+use Rattle.ss_machine.proofs.Common.{Compiled, Core, Generated, HasCome, Here, Input, IsRepresented, IsRunResult, IsSituated, Memory, Output, situated, Situation, Source, State, Stop}
+use Rattle.ss_machine.specs.declared.stop.Stop.TheVariants.{Ended, Fault, Paused, Failed}
+use Rattle.ss_machine.specs.Runs.{IsFinished}
 use Rattle.ss_meaning.specs.Meaning as endings
 use Rattle.ss_machine.proofs.Inputs.{reads_so, finds_so}
 

@@ -2,20 +2,10 @@
 use Rattle.std.proofs.Common.{◌≡◌, ℕ, ◌+◌, List, [], ◌++◌, Option, Some, Result, Ok, Err, OnOk, OnErr, sym, ◌∙◌, subst, inl, inr, ◌⊎◌}
 use Rattle.std.specs.Prelude.{slice_get}
 use Rattle.std.specs.Io.KnownBytes.{Appends}
-use Rattle.ss_picture.specs.declared.items.Item.{Item}
-use Rattle.ss_meaning.specs.Values.{lines_with}
+use Rattle.ss_machine.proofs.Common.{AreShown, Compiled, Core, Ending, HasTakenPart, HasWrittenPart, Here, IsReadyFor, IsSending, Item, lines_with, RunningLines, Seen, State, TwoRows}
 use Rattle.ss_code_instructions.specs.declared.instruction.Instruction.TheVariants as r
-use Rattle.ss_code_instructions.specs.Carried.{RunningLines}
-use Rattle.ss_code_instructions.specs.States.{Core}
-use Rattle.ss_machine_world.specs.Seen.{Seen}
-use Rattle.ss_machine_frames.specs.Rows.{TwoRows}
-use Rattle.ss_machine_instructions.specs.declared.flow.Ending.{Ending}
-use Rattle.ss_machine_instructions.specs.declared.flow.Here.{Here}
-use Rattle.ss_machine_instructions.specs.declared.state.State.{State}
-use Rattle.ss_machine_instructions.specs.Doing.{Compiled, IsReadyFor}
-use Rattle.ss_machine.specs.Sent.{HasTakenPart}
-use Rattle.ss_machine.specs.Shown.{AreShown, HasSentAll, HasSentPart}
-use Rattle.ss_machine.specs.Writing.{IsSending, HasWrittenAll, HasWrittenPart}
+use Rattle.ss_machine.specs.Shown.{HasSentAll, HasSentPart}
+use Rattle.ss_machine.specs.Writing.{HasWrittenAll}
 use Rattle.ss_machine.proofs.Written.{sends_shown, goes_on}
 
 module _ (e : Seen) (rows : TwoRows) (at : ℕ) (l : RunningLines) (items : List Item) (shown : AreShown e rows at l.items items) (before after : Option (List ℕ)) where

@@ -1,31 +1,15 @@
 -- Moves and calculations: the operands are read, and the answer is to go to the target.
 use Rattle.std.proofs.Common.{◌≡◌, ◌+◌, ◌<◌, length, Some, Ok, sym, ap, ◌∙◌, subst}
 use Rattle.std.specs.Prelude.{ℤ, slice_get, Result as OkOr}
-use Rattle.ss_base.specs.declared.fault.FaultKind.{FaultKind}
-use Rattle.ss_base.specs.declared.layout.Mode.{Mode}
-use Rattle.ss_base.specs.declared.layout.Mode.TheVariants.{Integer}
-use Rattle.ss_base.specs.declared.value.Value.{Value}
-use Rattle.ss_base.specs.declared.value.Value.TheVariants.{Whole}
-use Rattle.ss_base.specs.Layout.{mode_of}
+use Rattle.ss_machine_instructions.proofs.Common.{act, Address, as_value, both_within, BothWithin, Compiled, computed, Core, deliver, due, FaultKind, HasOperand, HasTarget, Here, Instruction, Integer, Is, IsDelivering, IsReadyFor, IsSuited, Mode, mode_of, Only, only_number, place_at, read_within, reads, reads_both, State, turned, Value, Whole}
 use Rattle.ss_base.specs.declared.words.Operator.{Operator}
 use Rattle.ss_base.specs.declared.words.UnaryOperator.{UnaryOperator}
-use Rattle.ss_meaning.specs.Values.{turned, due, computed, calculated, computed_alone, applied}
-use Rattle.ss_code_instructions.specs.declared.address.Address.{Address}
+use Rattle.ss_meaning.specs.Values.{calculated, computed_alone, applied}
 use Rattle.ss_code_instructions.specs.declared.instruction.Instruction.{Instruction as Running}
 use Rattle.ss_code_instructions.specs.Instructions as i
-use Rattle.ss_code_instructions.specs.Instructions.{Instruction}
-use Rattle.ss_code_instructions.specs.States.{Core, deliver}
-use Rattle.ss_code_instructions.specs.Machine.{act}
-use Rattle.ss_code_instructions.specs.Shape.{IsSuited}
-use Rattle.ss_code_instructions.specs.Carried.{IsMovingValue, IsCalculating, HasOperand, HasTarget, Is}
-use Rattle.ss_machine_frames.specs.Rows.{place_at}
-use Rattle.ss_machine_frames.proofs.Reading.{Only, only_number, reads, read_within, reads_both, BothWithin, both_within}
-use Rattle.ss_machine_instructions.specs.declared.flow.Here.{Here}
-use Rattle.ss_machine_instructions.specs.declared.state.State.{State}
-use Rattle.ss_machine_instructions.specs.Doing.{Compiled, IsReadyFor, IsDelivering}
+use Rattle.ss_code_instructions.specs.Carried.{IsMovingValue, IsCalculating}
 use Rattle.ss_machine_instructions.proofs.Placing.{site, located, suits, deep_at, deep_here, gives_mode}
 use Rattle.ss_machine_instructions.proofs.Delivering.{delivers, deliver_is, number_right}
-use Rattle.ss_machine_world.specs.Seen.{as_value}
 
 module _ (w : Compiled) (c : Core) (here : Here) (s : State) (run : Running) (r : IsReadyFor w c here s run) where
   abbrev SuitsHere : Instruction → Type 0

@@ -2,40 +2,20 @@
 use Rattle.std.proofs.Common.{◌≡◌, ℕ, ◌+◌, ◌<◌, true, length, Option, Some, None, Ok, Err, refl, ap, ◌∙◌, subst}
 use Rattle.std.proofs.lemmas.Option.{slice_get_within}
 use Rattle.std.specs.Prelude.{ℤ, not, slice_get, Result as OkOr}
-use Rattle.ss_base.specs.declared.fault.FaultKind.{FaultKind}
+use Rattle.ss_machine_instructions.proofs.Common.{act, Address, ClassLayout, Compiled, Core, deliver_with, did, done_unless_fault, faulted_by, FaultKind, Fine, HasChanged, HasChangedWithMemory, HasMade, HasOperand, HasPerformed, HasTarget, Here, if_ok, Instruction, Integer, Is, is_due, IsDelivering, IsFittingStore, IsReadyFor, IsSuited, Layout, mode_of, Moved, on_after, on_at, only_number, onward, place_at, read_within, reads, Seen, State, Store, Value, Whole, with_seen}
 use Rattle.ss_base.specs.declared.fault.Refused.{Refused}
 use Rattle.ss_base.specs.declared.layout.ClassKind.{ClassKind}
 use Rattle.ss_base.specs.declared.layout.ClassKind.TheVariants.{Permanent}
-use Rattle.ss_base.specs.declared.layout.ClassLayout.{ClassLayout}
-use Rattle.ss_base.specs.declared.layout.Layout.{Layout}
-use Rattle.ss_base.specs.declared.layout.Mode.TheVariants.{Integer}
-use Rattle.ss_base.specs.declared.value.Value.{Value}
-use Rattle.ss_base.specs.declared.value.Value.TheVariants.{Whole}
-use Rattle.ss_base.specs.Layout.{mode_of}
 use Rattle.ss_program.specs.declared.statement.CountedClass.{CountedClass}
 use Rattle.ss_program.specs.WellTyped.{kind_of_class, is_created_singly, IsTypedCount}
-use Rattle.ss_meaning.specs.Values.{sure, if_ok, number_of}
-use Rattle.ss_meaning.specs.Store.{Store}
-use Rattle.ss_meaning.specs.Fitting.{IsFittingStore}
+use Rattle.ss_meaning.specs.Values.{sure, number_of}
 use Rattle.ss_meaning.specs.Entities.{comes_singly, is_single, is_permanent, made_one, without}
-use Rattle.ss_meaning.proofs.Fine.{Fine}
 use Rattle.ss_meaning.proofs.Entities.{class_said, single_said, count_said, made_one_fine}
-use Rattle.ss_code_instructions.specs.declared.address.Address.{Address}
 use Rattle.ss_code_instructions.specs.declared.instruction.Instruction.{Instruction as Running}
 use Rattle.ss_code_instructions.specs.Instructions as i
-use Rattle.ss_code_instructions.specs.Instructions.{Instruction}
-use Rattle.ss_code_instructions.specs.States.{Core, Moved, did, onward, deliver_with}
-use Rattle.ss_code_instructions.specs.Machine.{act, is_due}
-use Rattle.ss_code_instructions.specs.Shape.{IsSuited}
-use Rattle.ss_code_instructions.specs.Carried.{HasOperand, HasTarget, Is}
-use Rattle.ss_machine_world.specs.Seen.{Seen, HasChanged, HasMade, HasChangedWithMemory, with_seen}
 use Rattle.ss_machine_world.specs.Numbers.{created_all_known}
-use Rattle.ss_machine_frames.specs.Rows.{place_at}
-use Rattle.ss_machine_frames.proofs.Reading.{only_number, reads, read_within}
-use Rattle.ss_machine_instructions.specs.declared.flow.Here.{Here}
-use Rattle.ss_machine_instructions.specs.declared.state.State.{State}
-use Rattle.ss_machine_instructions.specs.Doing.{Compiled, IsReadyFor, HasPerformed, IsDelivering, IsDelivered}
-use Rattle.ss_machine_instructions.specs.Ways.{on_at, on_after, done_unless_fault, faulted_by, refused_by}
+use Rattle.ss_machine_instructions.specs.Doing.{IsDelivered}
+use Rattle.ss_machine_instructions.specs.Ways.{refused_by}
 use Rattle.ss_machine_instructions.proofs.Placing.{site, located, suits, small, deep_at, deep_here, calm}
 use Rattle.ss_machine_instructions.proofs.Seeing.{makes_not, changes_not, seen_is, layout_is, goes_seeing, changes, refuses}
 use Rattle.ss_machine_instructions.proofs.Figuring.{global_within, global_is}

@@ -4,58 +4,35 @@ use Rattle.std.proofs.lemmas.Option.{slice_get_within}
 use Rattle.std.specs.Prelude.{ℤ, pos, ◌||◌, is_some, slice_get, if◌then◌else◌, Result as OkOr}
 use Rattle.std.specs.List.{list_any}
 use Rattle.std.specs.Option.{option_map}
-use Rattle.ss_base.specs.declared.fault.FaultKind.{FaultKind}
-use Rattle.ss_base.specs.declared.layout.Mode.{Mode}
-use Rattle.ss_base.specs.declared.layout.Mode.TheVariants.{Integer}
-use Rattle.ss_base.specs.declared.layout.Owner.{Owner}
-use Rattle.ss_base.specs.declared.layout.Owner.TheVariants.{System, Class}
-use Rattle.ss_base.specs.declared.layout.Layout.{Layout}
-use Rattle.ss_base.specs.declared.layout.SetLayout.{SetLayout}
-use Rattle.ss_base.specs.declared.value.Value.{Value}
-use Rattle.ss_base.specs.declared.value.Value.TheVariants.{Whole}
-use Rattle.ss_world.specs.State.{modes_of, value_in}
+use Rattle.ss_machine_instructions.proofs.Common.{act, Address, as_value, at_place, attribute_noted, Bearer, bearer_within, Class, Compiled, Core, core_at, deliver, did, done_unless_fault, due, Failure, faulted_by, FaultKind, HasAnswer, HasBearer, HasChanged, HasChangedWhere, HasNoTick, HasOperand, HasPerformed, HasTarget, HasValidSubject, Here, if_ok, Instruction, Integer, Is, is_due, IsCoreHeld, IsDelivering, IsHeld, IsReadyFor, IsReferenceToSubject, IsRight, IsSuited, Layout, Mode, modes_of, Moved, noted, OfCount, on_after, only_number, onward, Owner, owner_as, place_at, Program, read_within, reads, reads_bearer, Refers, Seen, SetLayout, State, Store, System, Value, value_in, watch, Whole, with_number, with_seen}
 use Rattle.ss_world.specs.Sets.{owner_in}
 use Rattle.ss_program.specs.declared.expression.Fold.{Fold}
 use Rattle.ss_program.specs.declared.expression.Variable.TheVariants.{Global}
 use Rattle.ss_program.specs.declared.sections.Subject.{Subject}
-use Rattle.ss_program.specs.declared.sections.Subject.TheVariants.{OfVariable, OfAttribute, OfCount}
+use Rattle.ss_program.specs.declared.sections.Subject.TheVariants.{OfVariable, OfAttribute}
 use Rattle.ss_program.specs.declared.sections.Statistic.{Statistic}
-use Rattle.ss_program.specs.Program.{Program}
 use Rattle.ss_program.specs.WellTyped.{IsAlone, IsOfEntities, IsTypedSubject}
-use Rattle.ss_meaning.specs.Values.{Failure, if_ok, due}
-use Rattle.ss_meaning.specs.Store.{Store, put}
-use Rattle.ss_meaning.specs.Histories.{home, same_subject, noted}
+use Rattle.ss_meaning.specs.Store.{put}
+use Rattle.ss_meaning.specs.Histories.{home, same_subject}
 use Rattle.ss_meaning.specs.Places.{assigned_variable}
-use Rattle.ss_meaning.specs.Sets.{owner_as}
 use Rattle.ss_meaning.specs.Statistics.{figure, mean, reset}
 use Rattle.ss_meaning.proofs.Lists.{every_get}
-use Rattle.ss_code_instructions.specs.declared.address.Address.{Address}
 use Rattle.ss_code_instructions.specs.declared.instruction.Instruction.{Instruction as Running}
-use Rattle.ss_code_instructions.specs.Facts.{watch}
 use Rattle.ss_code_instructions.specs.Instructions as i
-use Rattle.ss_code_instructions.specs.Instructions.{Instruction, Bearer}
-use Rattle.ss_code_instructions.specs.States.{Core, Moved, did, core_at, onward, deliver}
-use Rattle.ss_code_instructions.specs.Machine.{act, is_due}
-use Rattle.ss_code_instructions.specs.Shape.{IsSuited, IsStatisticBearer}
-use Rattle.ss_code_instructions.specs.Carried.{HasOperand, HasBearer, HasTarget, Is}
+use Rattle.ss_code_instructions.specs.Shape.{IsStatisticBearer}
 use Rattle.ss_machine_time.specs.Figures.{subject_in, variable_in, statistic_variable, held_in}
 use Rattle.ss_machine_time.specs.Places.{is_about}
-use Rattle.ss_machine_world.specs.Seen.{Seen, IsRight, HasAnswer, HasChanged, HasChangedWhere, without_value, with_seen, as_value}
+use Rattle.ss_machine_world.specs.Seen.{without_value}
 use Rattle.ss_machine_world.specs.Seen as seen
-use Rattle.ss_machine_world.specs.Numbers.{IsReferenceTo, IsReferenceToSubject, IsSubject, HasValidSubject, IsHeldBySubject as VariableHolds, attribute_noted}
+use Rattle.ss_machine_world.specs.Numbers.{IsReferenceTo, IsSubject, IsHeldBySubject as VariableHolds}
 use Rattle.ss_machine_world.proofs.Composing.{unwatched}
 use Rattle.ss_machine_world.proofs.Reading.{value_once}
-use Rattle.ss_machine_frames.specs.Rows.{with_number, place_at, IsValueAt}
-use Rattle.ss_machine_frames.specs.Holding.{IsCoreHeld}
+use Rattle.ss_machine_frames.specs.Rows.{IsValueAt}
 use Rattle.ss_machine_frames.proofs.Places.{Elsewhere, elsewhere_value, value_same, number_is, place_fixed}
-use Rattle.ss_machine_frames.proofs.Reading.{Refers, only_number, reads, read_within, reads_bearer, bearer_within, lies_at, variable_within}
+use Rattle.ss_machine_frames.proofs.Reading.{lies_at, variable_within}
 use Rattle.ss_machine_frames.proofs.Lists.{set_length}
 use Rattle.ss_machine_frames.proofs.Writing.{with_variable, put_is, variable_held}
-use Rattle.ss_machine_instructions.specs.declared.flow.Here.{Here}
-use Rattle.ss_machine_instructions.specs.declared.state.State.{State}
-use Rattle.ss_machine_instructions.specs.Doing.{Compiled, IsHeld, IsReadyFor, HasNoTick, HasPerformed, IsDelivering}
 use Rattle.ss_machine_instructions.specs.Noted.{IsNotedIf, IsNotedAfter}
-use Rattle.ss_machine_instructions.specs.Ways.{at_place, on_after, done_unless_fault, faulted_by}
 use Rattle.ss_machine_instructions.proofs.Placing.{site, located, suits, deep_at, deep_here, calm}
 use Rattle.ss_machine_instructions.proofs.Delivering.{faults, number_right}
 use Rattle.ss_machine_instructions.proofs.Seeing.{did_quiet, field_is, class_within, seen_is, layout_is, statistics_are, code_statistics_are, right_where, asked, looked, answers, changes_where}

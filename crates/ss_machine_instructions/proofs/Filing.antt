@@ -1,33 +1,22 @@
 -- Filing and removing in the world: the entities change, and then N. of the set is noted where a statistic watches it.
 use Rattle.std.proofs.Common.{◌≡◌, inl, inr, ℕ, zero, suc, ◌<◌, ℤ, Bool, true, false, List, [], ◌∷◌, ◌++◌, length, Option, Some, Ok, Err, refl, sym, ap, ◌∙◌, subst, arith}
 use Rattle.std.specs.Prelude.{pos, negsuc, is_some, slice_get, MatchResult, Result as OkOr}
-use Rattle.ss_base.specs.declared.fault.FaultKind.{FaultKind}
+use Rattle.ss_machine_instructions.proofs.Common.{and_then, ByRule, Class, count_in, count_noted, Discipline, due, Failure, FaultKind, Foremost, HasChangedIf, HasFiled, HasRemoved, HasTaken, Hindmost, if_ok, IsCounted, IsCountedOut, IsRight, joiner, JustAfter, JustBefore, noted, OfCount, Owner, owner, Seen, Store, System, turned, Value, watch, Whole, with_seen}
 use Rattle.ss_base.specs.declared.layout.ClassKind.{ClassKind}
 use Rattle.ss_base.specs.declared.layout.ClassKind.TheVariants.{Permanent, Temporary, Notice}
-use Rattle.ss_base.specs.declared.layout.Discipline.{Discipline}
 use Rattle.ss_base.specs.declared.layout.Discipline.TheVariants.{Fifo, Lifo, Ranked}
-use Rattle.ss_base.specs.declared.layout.Owner.{Owner}
-use Rattle.ss_base.specs.declared.layout.Owner.TheVariants.{System, Class}
-use Rattle.ss_base.specs.declared.value.Value.{Value}
-use Rattle.ss_base.specs.declared.value.Value.TheVariants.{Whole}
 use Rattle.ss_world.specs.Lists.{head0, last_or}
-use Rattle.ss_world.specs.State.{State, Members, and_then, members_of, number_in, entity_of_kind, entity_in, kind_of}
-use Rattle.ss_world.specs.Sets.{joiner, owner_by, owner_kind, owner, member_class, count_in, first_in, last_in, put_in, put_beside, put_before, put_after, taken_out, filed_first, filed_last, filed_before, filed_after, removed}
+use Rattle.ss_world.specs.State.{State, Members, members_of, number_in, entity_of_kind, entity_in, kind_of}
+use Rattle.ss_world.specs.Sets.{owner_by, owner_kind, member_class, first_in, last_in, put_in, put_beside, put_before, put_after, taken_out, filed_first, filed_last, filed_before, filed_after, removed}
 use Rattle.ss_world.specs.Disciplines.{put_ranked, filed, take, first_removed, last_removed}
-use Rattle.ss_program.specs.declared.sections.Subject.TheVariants.{OfCount}
 use Rattle.ss_base.specs.declared.words.End.{End}
 use Rattle.ss_base.specs.declared.words.End.TheVariants as ends
-use Rattle.ss_meaning.specs.Values.{Failure, if_ok, turned, due}
-use Rattle.ss_meaning.specs.Store.{Store}
-use Rattle.ss_meaning.specs.Histories.{noted}
-use Rattle.ss_meaning.specs.Sets.{ByRule, Foremost, Hindmost, JustBefore, JustAfter, is_fit, end_removed, recounted, filed_in, removed_from, removed_at}
-use Rattle.ss_code_instructions.specs.Facts.{watch}
+use Rattle.ss_meaning.specs.Sets.{is_fit, end_removed, recounted, filed_in, removed_from, removed_at}
 use Rattle.ss_code_instructions.proofs.Noting.{Quiet, noted_quiet}
 use Rattle.ss_machine_entities.proofs.Refiled.{first_refiled, last_refiled, before_refiled, after_refiled, filed_refiled, out_refiled, first_out_refiled, last_out_refiled}
-use Rattle.ss_machine_world.specs.Numbers.{count_noted}
-use Rattle.ss_machine_world.specs.Seen.{Seen, IsRight, HasRearranged, number_if, with_seen}
+use Rattle.ss_machine_world.specs.Seen.{HasRearranged, number_if}
 use Rattle.ss_machine_world.proofs.Composing.{filed_first_is, filed_last_is, filed_ruled_is, filed_before_is, filed_after_is, removed_is, end_removed_is}
-use Rattle.ss_machine_instructions.specs.Worldly.{IsSettled, IsSettledGiving, IsNotedRight, IsOwner, HasChangedIf, IsCounted, IsCountedOut, HasFiled, HasRemoved, HasTaken}
+use Rattle.ss_machine_instructions.specs.Worldly.{IsSettled, IsSettledGiving, IsNotedRight, IsOwner}
 
 -- ## The owner is there afterwards
 

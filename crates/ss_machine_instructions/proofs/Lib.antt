@@ -1,3 +1,4 @@
+mod Common
 pub mod Placing
 pub mod Delivering
 pub mod Leading

@@ -3,35 +3,14 @@ use Rattle.std.proofs.Common.{◌≡◌, ℕ, ◌<◌, true, List, length, Optio
 use Rattle.std.proofs.lemmas.Option.{slice_get_within}
 use Rattle.std.specs.Prelude.{ℤ, slice_get, is_some, Result as OkOr}
 use Rattle.std.specs.Option.{option_map}
-use Rattle.ss_base.specs.declared.fault.FaultKind.{FaultKind}
-use Rattle.ss_base.specs.declared.line.Line.{Line}
-use Rattle.ss_base.specs.declared.layout.ClassLayout.{ClassLayout}
-use Rattle.ss_base.specs.declared.layout.Layout.{Layout}
-use Rattle.ss_base.specs.declared.layout.Mode.{Mode}
-use Rattle.ss_base.specs.declared.layout.Mode.TheVariants.{Integer}
-use Rattle.ss_base.specs.declared.value.Value.TheVariants.{Whole}
-use Rattle.ss_world.specs.State.{State as Heap, known_in, no_value}
-use Rattle.ss_world.specs.Sets.{joiner, owner}
-use Rattle.ss_program.specs.Program.{Program}
+use Rattle.ss_machine_instructions.proofs.Common.{act, Address, bearer_within, ClassLayout, Compiled, Core, did, done_unless_fault, due, faulted_by, FaultKind, HasAnswer, HasBearer, HasOperand, HasPerformed, Here, if_ok, Instruction, Integer, Is, is_due, IsReadyFor, IsSuited, joiner, Layout, Line, member, Mode, Moved, no_value, on_after, only_number, onward, owner, place_at, Program, read_within, reads, reads_bearer, State, turned, where_fit, Whole}
+use Rattle.ss_world.specs.State.{State as Heap, known_in}
 use Rattle.ss_program.specs.WellTyped.{fields_of, IsSet}
-use Rattle.ss_meaning.specs.Values.{turned, due, where_fit, if_ok}
 use Rattle.ss_meaning.specs.Entities.{entity}
-use Rattle.ss_meaning.specs.Sets.{member, known_owner}
-use Rattle.ss_code_instructions.specs.declared.address.Address.{Address}
+use Rattle.ss_meaning.specs.Sets.{known_owner}
 use Rattle.ss_code_instructions.specs.declared.instruction.Instruction.{Instruction as Running}
 use Rattle.ss_code_instructions.specs.Instructions as i
-use Rattle.ss_code_instructions.specs.Instructions.{Instruction}
-use Rattle.ss_code_instructions.specs.States.{Core, Moved, did, onward}
-use Rattle.ss_code_instructions.specs.Machine.{act, is_due, assignable_count}
-use Rattle.ss_code_instructions.specs.Shape.{IsSuited}
-use Rattle.ss_code_instructions.specs.Carried.{HasOperand, HasBearer, Is}
-use Rattle.ss_machine_world.specs.Seen.{HasAnswer}
-use Rattle.ss_machine_frames.specs.Rows.{place_at}
-use Rattle.ss_machine_frames.proofs.Reading.{only_number, reads, read_within, reads_bearer, bearer_within}
-use Rattle.ss_machine_instructions.specs.declared.flow.Here.{Here}
-use Rattle.ss_machine_instructions.specs.declared.state.State.{State}
-use Rattle.ss_machine_instructions.specs.Doing.{Compiled, IsReadyFor, HasPerformed}
-use Rattle.ss_machine_instructions.specs.Ways.{on_after, done_unless_fault, faulted_by}
+use Rattle.ss_code_instructions.specs.Machine.{assignable_count}
 use Rattle.ss_machine_instructions.proofs.Placing.{site, located, suits, deep_here}
 use Rattle.ss_machine_instructions.proofs.Asking.{owner_is, set_within}
 use Rattle.ss_machine_instructions.proofs.Seeing.{heap_is, layout_is, asked, looked}

@@ -6,27 +6,20 @@ use Rattle.std.proofs.lemmas.Option.{slice_get_within}
 use Rattle.std.specs.Prelude.{◌&&◌, slice_get}
 use Rattle.std.specs.List.{All, AllZip, list_all}
 use Rattle.ss_base.specs.declared.layout.ClassKind.TheVariants.{Notice}
-use Rattle.ss_base.specs.declared.layout.Discipline.{Discipline}
+use Rattle.ss_machine_instructions.proofs.Common.{Discipline, IsFittingStore, Layout, Mode, modes_of, Program, Seen, SetLayout, Store}
 use Rattle.ss_base.specs.declared.layout.Discipline.TheVariants.{Fifo, Lifo, Ranked}
-use Rattle.ss_base.specs.declared.layout.Layout.{Layout}
-use Rattle.ss_base.specs.declared.layout.Mode.{Mode}
 use Rattle.ss_base.specs.declared.layout.RankKey.{RankKey}
-use Rattle.ss_base.specs.declared.layout.SetLayout.{SetLayout}
 use Rattle.ss_world.specs.Disciplines.{HasMemberKeys}
-use Rattle.ss_world.specs.State.{modes_of}
 use Rattle.ss_world.specs.Sets.{member_in}
-use Rattle.ss_program.specs.Program.{Program}
 use Rattle.ss_program.specs.WellTyped.{IsWellTyped, kind_of_class, AreTypedKeys, IsTypedDiscipline, IsTypedEvent}
 use Rattle.ss_meaning.specs.Events.{Ranked as RankedClass, ranked_from, ranked}
-use Rattle.ss_meaning.specs.Fitting.{IsFittingStore}
 use Rattle.ss_meaning.specs.Sets.{is_field, is_fit}
-use Rattle.ss_meaning.specs.Store.{Notices, Store}
+use Rattle.ss_meaning.specs.Store.{Notices}
 use Rattle.ss_meaning.proofs.Entities.{HasField, field_said, class_said}
 use Rattle.ss_meaning.proofs.Events.{RankedAs, ranked_there}
 use Rattle.ss_meaning.proofs.Fine.{There}
 use Rattle.ss_meaning.proofs.Lists.{every_get}
 use Rattle.ss_machine_events.specs.Scheduled.{IsNoticeClass, HasKeyField as HasKey}
-use Rattle.ss_machine_world.specs.Seen.{Seen}
 use Rattle.ss_machine_instructions.specs.Worldly.{IsRuled}
 
 -- ## Keys

@@ -1,24 +1,11 @@
 -- An operation of the world is done, and the machine goes on, or there is a fault.
 use Rattle.std.proofs.Common.{◌≡◌, ℕ, ◌+◌, Bool, false, List, length, Option, None, Ok, Err, refl, sym, ap, ◌∙◌, subst}
 use Rattle.std.specs.Prelude.{Result as OkOr}
-use Rattle.ss_base.specs.declared.fault.FaultKind.{FaultKind}
-use Rattle.ss_base.specs.declared.value.Value.{Value}
+use Rattle.ss_machine_instructions.proofs.Common.{act, AreCellsAt, Breaks, cells_held, Code, Compiled, Core, core_at, did, done_unless_fault, Failure, faulted, faulted_by, FaultKind, Fine, HasChanged, HasNoTick, HasPerformed, Here, is_due, IsCoreHeld, IsHeld, IsReadyFor, IsRight, on_after, on_at, onward, Rest, Seen, State, Store, To, Value, watch, with_seen, World}
 use Rattle.ss_program.specs.declared.sections.Statistic.{Statistic}
 use Rattle.ss_program.specs.declared.sections.Subject.{Subject}
-use Rattle.ss_meaning.specs.Values.{Failure}
-use Rattle.ss_meaning.specs.Store.{World, Setting, Store}
-use Rattle.ss_meaning.proofs.Fine.{Fine}
+use Rattle.ss_meaning.specs.Store.{Setting}
 use Rattle.ss_code_instructions.specs.declared.instruction.Instruction.{Instruction as Running}
-use Rattle.ss_code_instructions.specs.Facts.{watch}
-use Rattle.ss_code_instructions.specs.States.{Core, To, Rest, Breaks, core_at, did, onward}
-use Rattle.ss_code_instructions.specs.Machine.{Code, act, is_due}
-use Rattle.ss_machine_frames.specs.Holding.{AreCellsAt, IsCoreHeld}
-use Rattle.ss_machine_frames.proofs.Writing.{cells_held}
-use Rattle.ss_machine_world.specs.Seen.{Seen, IsRight, HasChanged, with_seen}
-use Rattle.ss_machine_instructions.specs.declared.flow.Here.{Here}
-use Rattle.ss_machine_instructions.specs.declared.state.State.{State}
-use Rattle.ss_machine_instructions.specs.Doing.{Compiled, IsHeld, IsReadyFor, HasNoTick, HasPerformed}
-use Rattle.ss_machine_instructions.specs.Ways.{on_at, on_after, done_unless_fault, faulted, faulted_by}
 use Rattle.ss_machine_instructions.specs.Worldly.{IsSettled, IsSettling, IsNotedRight}
 use Rattle.ss_machine_instructions.proofs.Placing.{site, located, calm}
 use Rattle.ss_machine_instructions.proofs.Delivering.{faults}

@@ -2,39 +2,24 @@
 use Rattle.std.proofs.Common.{◌≡◌, ℕ, zero, suc, ◌+◌, ◌<◌, ◌≤◌, ◌^◌, ℤ, true, List, [], ◌∷◌, length, Option, Some, None, refl, sym, ap, ◌∙◌, subst, arith}
 use Rattle.std.proofs.lemmas.Option.{slice_get_within}
 use Rattle.std.specs.Prelude.{IfSome, is_some, slice_get}
-use Rattle.ss_base.specs.declared.layout.ClassKind.TheVariants.{Notice}
-use Rattle.ss_base.specs.declared.layout.Mode.{Mode}
-use Rattle.ss_base.specs.declared.layout.Mode.TheVariants.{Integer}
-use Rattle.ss_base.specs.declared.value.Value.{Value}
-use Rattle.ss_base.specs.Layout.{mode_of}
-use Rattle.ss_world.specs.PendingList.{least_event}
-use Rattle.ss_world.specs.State.{kind_in, kind_of, modes_of}
-use Rattle.ss_program.specs.Program.{Event, Program}
-use Rattle.ss_program.specs.WellTyped.{kind_of_class, field_mode, IsTypedEvent, IsPlain}
+use Rattle.ss_machine_notices.proofs.Common.{Compiled, Core, field_mode, frame_small, Here, hold_length, Integer, is_single, IsFittingStore, IsNextEvent, kind_of, least_event, located, Mode, mode_of, modes_of, Notice, Notices, Program, site, State, Store, TakeEvent, Value, with_seen}
+use Rattle.ss_world.specs.State.{kind_in}
+use Rattle.ss_program.specs.Program.{Event}
+use Rattle.ss_program.specs.WellTyped.{kind_of_class, IsTypedEvent, IsPlain}
 use Rattle.ss_program.specs.declared.expression.Variable.TheVariants.{Global}
-use Rattle.ss_meaning.specs.Entities.{comes_singly, is_single}
+use Rattle.ss_meaning.specs.Entities.{comes_singly}
 use Rattle.ss_meaning.specs.Events.{Coming, coming_with}
-use Rattle.ss_meaning.specs.Fitting.{IsFittingStore}
 use Rattle.ss_meaning.specs.Meaning.{said_of}
-use Rattle.ss_meaning.specs.Store.{Notices, Store}
 use Rattle.ss_meaning.proofs.Entities.{HasField, field_said, class_said}
 use Rattle.ss_meaning.proofs.Events.{ComingAs, fields_are, next_event_there}
 use Rattle.ss_meaning.proofs.Fine.{There}
 use Rattle.ss_meaning.proofs.Lists.{every_get}
-use Rattle.ss_code_instructions.specs.declared.instruction.Instruction.TheVariants.{TakeEvent}
 use Rattle.ss_code_instructions.specs.Instructions.{EntryPoint}
-use Rattle.ss_code_instructions.specs.States.{Core}
 use Rattle.ss_code_instructions.specs.Machine.{Code}
 use Rattle.ss_code_instructions.specs.Translation.{main_code, all_routines, prints_before_events, event_entry, event_entries, event_code, block_prints}
 use Rattle.ss_machine_events.proofs.Filing.{said_there}
-use Rattle.ss_machine_world.specs.Seen.{with_seen}
-use Rattle.ss_machine_frames.proofs.Reading.{above_constants, hold_length, found_in}
-use Rattle.ss_machine_instructions.specs.declared.flow.Here.{Here}
-use Rattle.ss_machine_instructions.specs.declared.state.State.{State}
-use Rattle.ss_machine_instructions.specs.Doing.{Compiled}
-use Rattle.ss_machine_notices.specs.Beginning.{IsNextEvent}
+use Rattle.ss_machine_frames.proofs.Reading.{above_constants, found_in}
 use Rattle.ss_machine_instructions.proofs.Calling.{HasEntry, has_entry}
-use Rattle.ss_machine_instructions.proofs.Placing.{site, located, frame_small}
 
 -- an event has its entry
 pub event_entered : (p : Program) (at first : ℕ) (es : List Event) (r : ℕ) (e : Event) → slice_get es r ≡ Some e → (place : ℕ) × (slice_get (event_entries p at first es) r ≡ Some (event_entry place e))

@@ -4,31 +4,22 @@ use Rattle.std.proofs.lemmas.Bool.{eqb-true}
 use Rattle.std.proofs.lemmas.Option.{slice_get_within}
 use Rattle.std.specs.Prelude.{◌&&◌, ◌==◌, IsOk, is_some, slice_get, MatchResult, Result as OkOr, if◌then◌else◌}
 use Rattle.std.specs.List.{AllByRecursion as Every}
-use Rattle.ss_base.specs.declared.fault.FaultKind.{FaultKind}
+use Rattle.ss_machine_notices.proofs.Common.{and_then, attribute_noted, due, Fails, Failure, Fault, FaultKind, field_mode, filed_notice, fine_right, HasChanged, HasChangedIf, HasChangedWithMemory, HasGivenValues, HasRearranged, HasSetField, if_ok, Integer, is_single, IsFittingStore, IsNoticeMade, IsRight, IsSettledIn, IsSettledWithMemory, Memory, Mode, mode_of, modes_of, noted, Notice, OfVariable, prepared, Program, Refused, rescheduled, Seen, Store, timed, turned, TwoRows, Value, Whole, with_seen}
 use Rattle.ss_base.specs.declared.fault.FaultKind.TheVariants.{AlreadyScheduled}
-use Rattle.ss_base.specs.declared.fault.Refused.{Refused}
-use Rattle.ss_base.specs.declared.fault.Refused.TheVariants.{Fault, Memory}
-use Rattle.ss_base.specs.declared.layout.ClassKind.TheVariants.{Notice}
-use Rattle.ss_base.specs.declared.layout.Mode.{Mode}
-use Rattle.ss_base.specs.declared.layout.Mode.TheVariants.{Integer, Alpha}
-use Rattle.ss_base.specs.declared.value.Value.{Value}
-use Rattle.ss_base.specs.declared.value.Value.TheVariants.{Whole}
-use Rattle.ss_base.specs.Layout.{mode_of}
-use Rattle.ss_world.specs.State.{State, modes_of, and_then, assigned, timed, known_in}
+use Rattle.ss_base.specs.declared.layout.Mode.TheVariants.{Alpha}
+use Rattle.ss_world.specs.State.{State, assigned, known_in}
 use Rattle.ss_world.specs.PendingList.{is_pending}
 use Rattle.ss_records.specs.Attributes.{IsAssigned}
 use Rattle.ss_program.specs.declared.sections.Statistic.{Statistic}
 use Rattle.ss_program.specs.declared.sections.Subject.{Subject}
-use Rattle.ss_program.specs.declared.sections.Subject.TheVariants.{OfVariable, OfAttribute, OfCount}
-use Rattle.ss_program.specs.Program.{Program}
-use Rattle.ss_program.specs.WellTyped.{field_mode, is_created_singly, IsTypedSubject}
-use Rattle.ss_meaning.specs.Values.{Failure, Fails, same_mode, if_ok, turned, due, where_fit, unless_fault}
-use Rattle.ss_meaning.specs.Store.{Setting, Store, with_heap}
-use Rattle.ss_meaning.specs.Entities.{comes_singly, is_single, made_one}
-use Rattle.ss_meaning.specs.Histories.{same_subject, noted}
+use Rattle.ss_program.specs.declared.sections.Subject.TheVariants.{OfAttribute, OfCount}
+use Rattle.ss_program.specs.WellTyped.{is_created_singly, IsTypedSubject}
+use Rattle.ss_meaning.specs.Values.{same_mode, where_fit, unless_fault}
+use Rattle.ss_meaning.specs.Store.{Setting, with_heap}
+use Rattle.ss_meaning.specs.Entities.{comes_singly, made_one}
+use Rattle.ss_meaning.specs.Histories.{same_subject}
 use Rattle.ss_meaning.specs.Places.{is_of_mode, assigned_attribute}
-use Rattle.ss_meaning.specs.Events.{endowed, with_notice_time, prepared, filed_notice, rescheduled}
-use Rattle.ss_meaning.specs.Fitting.{IsFittingStore}
+use Rattle.ss_meaning.specs.Events.{endowed, with_notice_time}
 use Rattle.ss_meaning.proofs.Fine.{Fine, fine_then, fine_turned, due_fine}
 use Rattle.ss_meaning.proofs.Heaps.{Changed, timed_sane}
 use Rattle.ss_meaning.proofs.Stores.{heap_fits}
@@ -36,17 +27,14 @@ use Rattle.ss_meaning.proofs.Entities.{HasField, field_said, class_said, attribu
 use Rattle.ss_meaning.proofs.Events.{endowed_fine}
 use Rattle.ss_code_instructions.specs.Facts.{watch}
 use Rattle.ss_code_instructions.proofs.Noting.{Quiet, noted_quiet}
-use Rattle.ss_machine_frames.specs.Rows.{TwoRows}
 use Rattle.ss_machine_frames.proofs.Places.{all_get}
 use Rattle.ss_machine_events.specs.Scheduled.{IsNoticeClass}
-use Rattle.ss_machine_world.specs.Numbers.{attribute_noted}
-use Rattle.ss_machine_world.specs.Seen.{Seen, IsRight, HasChanged, HasRearranged, HasMade, HasChangedWithMemory, with_seen}
+use Rattle.ss_machine_world.specs.Seen.{HasMade}
 use Rattle.ss_machine_world.proofs.Composing.{assigned_noted}
 use Rattle.ss_machine_world.proofs.Reading.{set_once}
-use Rattle.ss_machine_instructions.specs.Worldly.{HasChangedIf}
-use Rattle.ss_machine_notices.specs.Giving.{IsSettledIn, IsSettledWithMemory, IsNoticeMade, number_or, unpended, refiled, HasSetField, IsReadBack, IsSuitable, HasGivenOne, HasGivenValues}
+use Rattle.ss_machine_notices.specs.Giving.{number_or, unpended, refiled, IsReadBack, IsSuitable, HasGivenOne}
 use Rattle.ss_machine_instructions.proofs.Programs.{noticed_in}
-use Rattle.ss_machine_instructions.proofs.Settling.{fine_right, fine_is}
+use Rattle.ss_machine_instructions.proofs.Settling.{fine_is}
 use Rattle.ss_machine_instructions.proofs.Filing.{within_there}
 
 -- ## Modes

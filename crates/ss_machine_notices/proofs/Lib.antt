@@ -1,3 +1,4 @@
+mod Common
 pub mod Giving
 pub mod Notices
 pub mod Times

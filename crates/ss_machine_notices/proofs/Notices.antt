@@ -3,20 +3,10 @@ use Rattle.std.proofs.Common.{◌≡◌, inr, ℕ, zero, suc, ◌+◌, ◌<◌, 
 use Rattle.std.proofs.lemmas.Bool.{eq-eqb}
 use Rattle.std.specs.Prelude.{ℤ, slice_get, Result as OkOr}
 use Rattle.std.specs.Option.{option_and_then}
-use Rattle.ss_base.specs.declared.fault.Refused.{Refused}
-use Rattle.ss_base.specs.declared.fault.Refused.TheVariants.{Fault, Memory}
-use Rattle.ss_base.specs.declared.layout.Mode.{Mode}
-use Rattle.ss_base.specs.declared.layout.Mode.TheVariants.{Integer}
-use Rattle.ss_base.specs.declared.value.Value.{Value}
-use Rattle.ss_base.specs.declared.value.Value.TheVariants.{Whole, Text}
-use Rattle.ss_base.specs.Layout.{mode_of}
+use Rattle.ss_machine_notices.proofs.Common.{act, agree_out, all_agree, AreValuesAt, as_value, at_height, calm, Compiled, Core, did, elsewhere_value, Failure, Fault, field_mode, fine_right, fit, HasGivenValues, Here, hold_length, Integer, is_due, IsDelivering, IsFittingStore, IsNoticeMade, IsReadyFor, IsSettledWithMemory, IsSuited, located, Memory, Mode, mode_of, NoMemory, on_after, Program, Refused, rescheduled, Seen, site, State, Store, store_is, suits, Text, TwoRows, Value, Whole, with_seen}
 use Rattle.ss_program.specs.declared.sections.Subject.TheVariants.{OfAttribute}
-use Rattle.ss_program.specs.Program.{Program}
-use Rattle.ss_program.specs.WellTyped.{field_mode}
-use Rattle.ss_meaning.specs.Values.{Failure}
-use Rattle.ss_meaning.specs.Store.{Store}
-use Rattle.ss_meaning.specs.Events.{made_notice, rescheduled}
-use Rattle.ss_meaning.specs.Fitting.{AreOfModes, IsFittingStore}
+use Rattle.ss_meaning.specs.Events.{made_notice}
+use Rattle.ss_meaning.specs.Fitting.{AreOfModes}
 use Rattle.ss_meaning.proofs.Fine.{Fine}
 use Rattle.ss_meaning.proofs.Events.{made_notice_fine, rescheduled_fine}
 use Rattle.ss_code_instructions.specs.declared.address.Address.{Address}
@@ -24,26 +14,20 @@ use Rattle.ss_code_instructions.specs.declared.instruction.Instruction.{Instruct
 use Rattle.ss_code_instructions.specs.Facts.{watch}
 use Rattle.ss_code_instructions.specs.Instructions as i
 use Rattle.ss_code_instructions.specs.Instructions.{Instruction}
-use Rattle.ss_code_instructions.specs.States.{Core, Moved, Stuck, did, fit, onward, at_height, TakenOff, take_off, with_top_number, with_block, with_operand_value, deliver_with}
-use Rattle.ss_code_instructions.specs.Machine.{act, is_due}
-use Rattle.ss_code_instructions.specs.Shape.{IsSuited, HasOnTop, AreGivenModes}
+use Rattle.ss_code_instructions.specs.States.{Moved, Stuck, onward, TakenOff, take_off, with_top_number, with_block, with_operand_value, deliver_with}
+use Rattle.ss_code_instructions.specs.Shape.{HasOnTop, AreGivenModes}
 use Rattle.ss_code_instructions.specs.Carried.{HasCell, HasOperand, HasTarget, Is}
-use Rattle.ss_machine_frames.specs.Rows.{TwoRows, with_number as with_number_at, place_at}
-use Rattle.ss_machine_frames.specs.Holding.{AreValuesAt, AreCellsAt}
+use Rattle.ss_machine_frames.specs.Rows.{with_number as with_number_at, place_at}
+use Rattle.ss_machine_frames.specs.Holding.{AreCellsAt}
 use Rattle.ss_machine_frames.proofs.Entering.{cut}
-use Rattle.ss_machine_frames.proofs.Places.{Elsewhere, agree_out, elsewhere_value, value_same, all_agree, cells_agree, calls_agree}
-use Rattle.ss_machine_frames.proofs.Reading.{hold_length, own_is, above_constants, place_within, only_number, reads, read_within}
-use Rattle.ss_machine_world.specs.Seen.{Seen, with_seen, as_value}
-use Rattle.ss_machine_instructions.specs.declared.flow.Ending.TheVariants.{NoMemory}
-use Rattle.ss_machine_instructions.specs.declared.flow.Here.{Here}
-use Rattle.ss_machine_instructions.specs.declared.state.State.{State}
-use Rattle.ss_machine_instructions.specs.Doing.{Compiled, IsReadyFor, HasNoTick, HasPerformed, IsDelivering}
-use Rattle.ss_machine_instructions.specs.Ways.{on_after, stopped, refused_by}
+use Rattle.ss_machine_frames.proofs.Places.{Elsewhere, value_same, cells_agree, calls_agree}
+use Rattle.ss_machine_frames.proofs.Reading.{own_is, above_constants, place_within, only_number, reads, read_within}
+use Rattle.ss_machine_instructions.specs.Doing.{HasNoTick, HasPerformed}
+use Rattle.ss_machine_instructions.specs.Ways.{stopped, refused_by}
 use Rattle.ss_machine_instructions.specs.Worldly.{IsSettling, unless_refused, refused_where}
-use Rattle.ss_machine_notices.specs.Giving.{IsSettledWithMemory, IsNoticeMade, HasGivenValues}
-use Rattle.ss_machine_instructions.proofs.Placing.{site, located, suits, small, deep_at, deep_here, calm}
+use Rattle.ss_machine_instructions.proofs.Placing.{small, deep_at, deep_here}
 use Rattle.ss_machine_instructions.proofs.Calling.{blocked}
-use Rattle.ss_machine_instructions.proofs.Settling.{fine_right, fine_is, store_is, statistics_seen, fails_on}
+use Rattle.ss_machine_instructions.proofs.Settling.{fine_is, statistics_seen, fails_on}
 use Rattle.ss_machine_notices.proofs.Times.{refuses}
 
 -- a number on top of other cells

@@ -2,15 +2,11 @@
 use Rattle.std.proofs.Common.{◌≡◌, inl, inr, ℕ, zero, suc, ◌+◌, ◌<◌, ℤ, List, [], ◌∷◌, ◌++◌, length, map, take, Some, Ok, refl, sym, ap, ◌∙◌, subst, arith}
 use Rattle.std.proofs.lemmas.List.{take_all}
 use Rattle.std.specs.Prelude.{slice_get}
-use Rattle.ss_base.specs.declared.layout.Mode.{Mode}
-use Rattle.ss_base.specs.declared.value.Value.{Value}
-use Rattle.ss_base.specs.Layout.{mode_of}
-use Rattle.ss_world.specs.State.{State, value_in}
-use Rattle.ss_machine_frames.specs.Rows.{TwoRows, IsValueAt, with_value, AreAlike}
-use Rattle.ss_machine_frames.specs.Holding.{AreValuesAt}
+use Rattle.ss_machine_notices.proofs.Common.{agree_out, all_agree, AreRead, AreReceived, AreValuesAt, elsewhere_value, Mode, mode_of, TwoRows, Value, value_in}
+use Rattle.ss_world.specs.State.{State}
+use Rattle.ss_machine_frames.specs.Rows.{IsValueAt, with_value, AreAlike}
 use Rattle.ss_machine_frames.proofs.Entering.{value_long, value_texts}
-use Rattle.ss_machine_frames.proofs.Places.{agree_out, agree_within, agree_on, agree_same, elsewhere_value, value_same, all_agree}
-use Rattle.ss_machine_notices.specs.Beginning.{AreRead, AreReceived}
+use Rattle.ss_machine_frames.proofs.Places.{agree_within, agree_on, agree_same, value_same}
 
 -- ## One value more
 

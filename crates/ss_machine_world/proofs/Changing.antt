@@ -1,10 +1,7 @@
 -- Operations that are alike.
 use Rattle.std.proofs.Common.{◌≡◌, Ok, Err, ◌∙◌}
 use Rattle.std.specs.Prelude.{Result as OkOr}
-use Rattle.ss_base.specs.declared.fault.FaultKind.{FaultKind}
-use Rattle.ss_meaning.specs.Values.{Failure}
-use Rattle.ss_meaning.specs.Store.{Store}
-use Rattle.ss_machine_world.specs.Seen.{Seen, HasChanged, with_seen}
+use Rattle.ss_machine_world.proofs.Common.{Failure, FaultKind, HasChanged, Seen, Store, with_seen}
 
 pub changes_alike : (f g : Store → OkOr Store Failure) (old new : Seen) (r : OkOr (Unit {0}) FaultKind) → ((s : Store) → f (with_seen s old) ≡ g (with_seen s old)) → HasChanged g old new r → HasChanged f old new r
 changes_alike f g old new (Ok u) alike d = λ s right. alike s ∙ d s (λ wrong. right (alike s ∙ wrong))

@@ -2,31 +2,25 @@
 use Rattle.std.proofs.Common.{◌≡◌, ℕ, ℤ, Bool, true, false, List, length, Option, Some, None, Ok, Err, refl, ap, ◌∙◌, sym}
 use Rattle.std.specs.Prelude.{is_some, pos, slice_get, slice_index_or, MatchResult, Result as OkOr}
 use Rattle.std.specs.Option.{option_map}
-use Rattle.ss_base.specs.declared.fault.FaultKind.{FaultKind}
-use Rattle.ss_base.specs.declared.fault.FaultKind.TheVariants.{NoEntity}
-use Rattle.ss_base.specs.declared.layout.Discipline.{Discipline}
+use Rattle.ss_machine_world.proofs.Common.{attribute, Column, columns, columns_of, count_in, Discipline, due, Failure, FaultKind, HasChanged, if_ok, IsRight, known_in, looked_in, no_value, NoEntity, Notices, OfAttribute, OfCount, owner, present_in, renewed_known, Seen, State, Statistic, Store, Subject, subject_in, sure, Times, turned, Value, value_in, where_fit, Whole, with_histories, with_seen}
 use Rattle.ss_base.specs.declared.layout.SetLayout.{SetLayout}
-use Rattle.ss_base.specs.declared.value.Value.{Value}
-use Rattle.ss_base.specs.declared.value.Value.TheVariants.{Whole}
 use Rattle.ss_program.specs.declared.expression.Fold.{Fold}
 use Rattle.ss_program.specs.declared.expression.Variable.TheVariants.{Global}
-use Rattle.ss_program.specs.declared.sections.Subject.{Subject}
-use Rattle.ss_program.specs.declared.sections.Subject.TheVariants.{OfVariable, OfAttribute, OfCount}
-use Rattle.ss_program.specs.declared.sections.Statistic.{Statistic}
+use Rattle.ss_program.specs.declared.sections.Subject.TheVariants.{OfVariable}
 use Rattle.ss_stats.specs.History.{History}
-use Rattle.ss_world.specs.State.{State, Record, and_then, no_value, known_in, entity_in, value_in, members_of}
-use Rattle.ss_world.specs.Sets.{owner, owner_in, count_in}
-use Rattle.ss_machine_time.specs.Figures.{subject_in, variable_in, held_in, renewed_known}
-use Rattle.ss_machine_time.specs.Records.{columns_of, figured, renewed_where}
-use Rattle.ss_machine_time.specs.Times.{Times, IsAt, columns}
-use Rattle.ss_meaning.specs.Entities.{entity, attribute}
+use Rattle.ss_world.specs.State.{Record, and_then, entity_in, members_of}
+use Rattle.ss_world.specs.Sets.{owner_in}
+use Rattle.ss_machine_time.specs.Figures.{variable_in, held_in}
+use Rattle.ss_machine_time.specs.Records.{figured, renewed_where}
+use Rattle.ss_machine_time.specs.Times.{IsAt}
+use Rattle.ss_meaning.specs.Entities.{entity}
 use Rattle.ss_meaning.specs.Histories.{home, history_in, figure_kept, mean_kept, renewed}
 use Rattle.ss_meaning.specs.Sets.{owner_by_layout}
 use Rattle.ss_meaning.specs.Statistics.{subject_of_statistic, bearer_number, present, figure, mean, reset}
-use Rattle.ss_meaning.specs.Store.{Column, Notices, Store, fetched, with_histories}
-use Rattle.ss_meaning.specs.Values.{Failure, if_ok, turned, due, sure, where_fit, number_of}
-use Rattle.ss_machine_world.specs.Numbers.{IsReferenceTo, IsReferenceToSubject, HasValidSubject, IsHeldBySubject, looked_in, present_in}
-use Rattle.ss_machine_world.specs.Seen.{Seen, IsRight, HasAnswer, HasChanged, HasChangedWhere, as_value, number_if, with_seen, without_value}
+use Rattle.ss_meaning.specs.Store.{fetched}
+use Rattle.ss_meaning.specs.Values.{number_of}
+use Rattle.ss_machine_world.specs.Numbers.{IsReferenceTo, IsReferenceToSubject, HasValidSubject, IsHeldBySubject}
+use Rattle.ss_machine_world.specs.Seen.{HasAnswer, HasChangedWhere, as_value, number_if, without_value}
 use Rattle.ss_machine_world.proofs.Reading.{whole_is, value_once}
 use Rattle.ss_machine_world.proofs.Starting.{seen_of, seen_moved}
 

@@ -1,23 +1,16 @@
 -- Entities that go, with their histories, and notices that are pending no longer.
 use Rattle.std.proofs.Common.{arith, ◌≡◌, ℕ, zero, suc, ◌-◌, ◌<◌, ℤ, Bool, true, false, List, [], ◌∷◌, length, Option, Some, None, Ok, Err, refl, ap, sym, ◌∙◌}
 use Rattle.std.specs.Prelude.{is_some, slice_get, slice_set, MatchResult, if◌then◌else◌, Result as OkOr}
-use Rattle.ss_base.specs.declared.fault.FaultKind.{FaultKind}
+use Rattle.ss_machine_world.proofs.Common.{columns_of, Discipline, due, ending, Fails, Failure, FaultKind, gone, HasChanged, if_ok, is_single, known_in, Layout, no_value, Notices, Seen, State, Store, Times, turned, where_fit, Whole, with_seen}
 use Rattle.ss_base.specs.declared.fault.FaultKind.TheVariants.{Scheduled, InASet, OwnsMembers}
 use Rattle.ss_base.specs.declared.layout.ClassLayout.{ClassLayout}
-use Rattle.ss_base.specs.declared.layout.Discipline.{Discipline}
-use Rattle.ss_base.specs.declared.layout.Layout.{Layout}
-use Rattle.ss_base.specs.declared.value.Value.TheVariants.{Whole}
 use Rattle.ss_world.specs.PendingList.{is_pending, cancelled}
 use Rattle.ss_world.specs.State as S
-use Rattle.ss_world.specs.State.{State, destroyed, known_in, no_value}
-use Rattle.ss_machine_time.specs.Records.{columns_of}
-use Rattle.ss_machine_time.specs.Times.{Times}
-use Rattle.ss_meaning.specs.Values.{Failure, Fails, if_ok, turned, due, where_fit, unless_fault}
-use Rattle.ss_meaning.specs.Store.{Store, Notices, with_pending}
-use Rattle.ss_meaning.specs.Histories.{ending}
-use Rattle.ss_meaning.specs.Entities.{entity, is_single, gone, without, with_none}
+use Rattle.ss_world.specs.State.{destroyed}
+use Rattle.ss_meaning.specs.Values.{unless_fault}
+use Rattle.ss_meaning.specs.Store.{with_pending}
+use Rattle.ss_meaning.specs.Entities.{entity, without, with_none}
 use Rattle.ss_meaning.specs.Events.{unscheduled}
-use Rattle.ss_machine_world.specs.Seen.{Seen, HasChanged, with_seen}
 use Rattle.ss_machine_world.proofs.Changing.{changes_alike}
 use Rattle.ss_machine_world.proofs.Starting.{joined, seen_of}
 

@@ -1,3 +1,4 @@
+mod Common
 pub mod Changing
 pub mod Said
 pub mod Starting

@@ -1,23 +1,11 @@
 -- What histories note of what is so now.
 use Rattle.std.proofs.Common.{◌≡◌, ℕ, ℤ, List, Some, Ok, Err, refl, ap, ◌∙◌, sym}
 use Rattle.std.specs.Prelude.{is_some, slice_get, Result as OkOr}
-use Rattle.ss_base.specs.declared.fault.FaultKind.{FaultKind}
-use Rattle.ss_base.specs.declared.layout.Discipline.{Discipline}
-use Rattle.ss_base.specs.declared.layout.Mode.TheVariants.{Integer}
-use Rattle.ss_base.specs.declared.value.Value.{Value}
-use Rattle.ss_base.specs.declared.value.Value.TheVariants.{Whole}
-use Rattle.ss_program.specs.declared.sections.Subject.{Subject}
-use Rattle.ss_program.specs.declared.sections.Subject.TheVariants.{OfAttribute, OfCount}
-use Rattle.ss_world.specs.State.{State, modes_of, value_in}
-use Rattle.ss_world.specs.Sets.{count_in}
-use Rattle.ss_machine_time.specs.Times.{Times, IsNoted}
+use Rattle.ss_machine_world.proofs.Common.{attribute_noted, count_in, Discipline, due, FaultKind, HasChanged, if_ok, Integer, modes_of, noted, Notices, OfAttribute, OfCount, or_full, Seen, State, Store, Subject, Times, turned, Value, value_in, Whole, with_histories, with_seen}
+use Rattle.ss_machine_time.specs.Times.{IsNoted}
 use Rattle.ss_machine_time.specs.Unnoted.{Unnoted}
 use Rattle.ss_machine_time.specs.Unnoted.TheVariants.{Full, TypeError}
-use Rattle.ss_meaning.specs.Histories.{noted}
-use Rattle.ss_meaning.specs.Store.{Notices, Store, with_histories}
-use Rattle.ss_meaning.specs.Values.{if_ok, turned, due}
-use Rattle.ss_machine_world.specs.Numbers.{attribute_noted, count_noted, or_full}
-use Rattle.ss_machine_world.specs.Seen.{Seen, HasChanged, with_seen}
+use Rattle.ss_machine_world.specs.Numbers.{count_noted}
 use Rattle.ss_machine_world.proofs.Changing.{changes_alike}
 use Rattle.ss_machine_world.proofs.Reading.{value_once}
 use Rattle.ss_machine_world.proofs.Starting.{seen_of, seen_moved}

@@ -1,11 +1,8 @@
 -- Filing by the discipline of a set.
 use Rattle.std.proofs.Common.{◌≡◌, ℕ, ℤ, Some, Ok, Err, refl, ap, sym, ◌∙◌, subst}
 use Rattle.std.specs.Prelude.{slice_get, MatchResult, Result as OkOr}
-use Rattle.ss_base.specs.declared.fault.FaultKind.{FaultKind}
-use Rattle.ss_base.specs.declared.layout.Discipline.{Discipline}
-use Rattle.ss_world.specs.State.{State}
-use Rattle.ss_world.specs.Disciplines.{filed}
-use Rattle.ss_machine_world.specs.Seen.{Seen, HasRearranged}
+use Rattle.ss_machine_world.proofs.Common.{Discipline, FaultKind, filed, Seen, State}
+use Rattle.ss_machine_world.specs.Seen.{HasRearranged}
 
 got : {A : Type 0} {x y : A} → Some x ≡ Some y → x ≡ y
 got e = cc

@@ -6,15 +6,11 @@ use Rattle.std.specs.List.{list_any}
 use Rattle.ss_base.specs.Plain.{PlainLayout}
 use Rattle.ss_base.specs.Layout.{same_owner}
 use Rattle.ss_base.specs.declared.layout.Owner.{Owner}
-use Rattle.ss_base.specs.declared.layout.Owner.TheVariants.{Class}
-use Rattle.ss_machine_time.specs.Records.{is_home}
-use Rattle.ss_meaning.specs.Events.{Ranked, ranked_from}
-use Rattle.ss_meaning.specs.Histories.{home, at_start, begun_in, ended_in, starting, ending}
-use Rattle.ss_meaning.specs.Store.{Column, Notices}
-use Rattle.ss_program.specs.declared.sections.Statistic.{Statistic}
+use Rattle.ss_machine_world.proofs.Common.{AreSaid, AreSaidFrom, Class, ClassEntry, Column, ending, is_home, Notices, ranked_from, starting, Statistic}
+use Rattle.ss_meaning.specs.Events.{Ranked}
+use Rattle.ss_meaning.specs.Histories.{home, at_start, begun_in, ended_in}
 use Rattle.ss_machine_entities.proofs.Counting.{length_set}
-use Rattle.ss_machine_world.specs.declared.class.ClassEntry.{ClassEntry}
-use Rattle.ss_machine_world.specs.Classes.{IsSaid, AreSaidFrom, AreSaid, has_keys, with_rank}
+use Rattle.ss_machine_world.specs.Classes.{IsSaid, has_keys, with_rank}
 
 -- ## Where no statistic is kept of what an owner has, no history starts and none ends
 

@@ -7,16 +7,9 @@ use Rattle.std.proofs.lemmas.Bool.{eq-eqb}
 use Rattle.std.proofs.lemmas.List.Elements.{filter-append}
 use Rattle.std.proofs.lemmas.List.FromFn.{get_or-map-range_with_len}
 use Rattle.std.proofs.lemmas.Option.{same_Some}
-use Rattle.ss_base.specs.declared.layout.ClassKind.{ClassKind}
-use Rattle.ss_base.specs.declared.layout.Mode.{Mode}
-use Rattle.ss_tree.specs.Names.{NameBytes}
-use Rattle.ss_names_declarations.specs.NameTable.{place_in, same_name, value_for}
-use Rattle.ss_names_declarations.specs.declared.declaration.Declared.{Declared}
+use Rattle.ss_names_laws.proofs.Common.{Attribute, attribute_classes, attributes, attributes_after, attributes_of_class, classes, ClassKind, Declaration, Declared, keys_append, Mode, mode_of_name, NameBytes, place_in, same_name, value_for}
 use Rattle.ss_names_declarations.specs.declared.declaration.Declared.TheVariants as d
-use Rattle.ss_names_declarations.specs.declared.declaration.Declaration.{Declaration}
-use Rattle.ss_names_declarations.proofs.Entries.{keys_append}
-use Rattle.ss_names.specs.declared.entry.Attribute.{Attribute}
-use Rattle.ss_names.specs.Entries.{attribute_after, attribute_by, attribute_classes, attributes, attributes_after, attributes_of_class, classes, fields, mode_of_name}
+use Rattle.ss_names.specs.Entries.{attribute_after, attribute_by, fields}
 use Rattle.ss_names_laws.proofs.NameTable.{entry_from, place_in_below, value_declared}
 use Rattle.ss_names_laws.proofs.Items.{Among}
 

@@ -1,22 +1,12 @@
 -- What the names of classes mean, and N. of permanent ones.
 use Rattle.std.proofs.Common.{◌≡◌, ℕ, List, Some, None, inl, inr, refl, sym, ap, subst, ◌∙◌}
-use Rattle.ss_base.specs.declared.layout.ClassKind.{ClassKind}
-use Rattle.ss_base.specs.declared.layout.ClassKind.TheVariants.{Permanent, Temporary, Notice}
-use Rattle.ss_base.specs.declared.layout.Mode.TheVariants.{Integer}
-use Rattle.ss_base.specs.declared.line.Line.{Line}
-use Rattle.ss_program.specs.declared.statement.CountedClass.{CountedClass}
-use Rattle.ss_tree.specs.Names.{NameBytes}
-use Rattle.ss_tree.specs.Tree.{ProgramTree}
-use Rattle.ss_names_declarations.specs.Declarations.{at_line, declarations}
-use Rattle.ss_names_declarations.specs.NameTable.{entry_if, place_in, value_for}
-use Rattle.ss_names_declarations.specs.declared.declaration.Declared.{Declared}
+use Rattle.ss_names_laws.proofs.Common.{at_line, attributes, class_by, classes, ClassKind, CountedClass, Declaration, declarations, Declared, declares, entry_if, global_variables, Integer, Line, NameBytes, numbered, Permanent, place_in, ProgramTree, refusal_of_declarations, table, value_for}
+use Rattle.ss_base.specs.declared.layout.ClassKind.TheVariants.{Temporary, Notice}
 use Rattle.ss_names_declarations.specs.declared.declaration.Declared.TheVariants as d
-use Rattle.ss_names_declarations.specs.declared.declaration.Declaration.{Declaration}
 use Rattle.ss_names_declarations.proofs.Entries.{place_of_value}
 use Rattle.ss_names.specs.declared.meaning.Meaning.TheVariants as m
-use Rattle.ss_names.specs.Entries.{attributes, class_by, class_variables, classes, count_name, variable_by, global_variables}
-use Rattle.ss_names.specs.Table.{class_meaning, class_entry, count_meaning, count_entry, declares, numbered, table}
-use Rattle.ss_tables_rules.specs.Broken.{refusal_of_declarations}
+use Rattle.ss_names.specs.Entries.{class_variables, count_name, variable_by}
+use Rattle.ss_names.specs.Table.{class_meaning, class_entry, count_meaning, count_entry}
 use Rattle.ss_names_laws.proofs.NameTable.{declared_value, entry_here, value_declared}
 use Rattle.ss_names_laws.proofs.Items.{Among, in_left, in_right}
 use Rattle.ss_names_laws.proofs.Kept.{declared_once, meant}

@@ -6,27 +6,19 @@ use Rattle.std.specs.Cmp.Lexicographic.{bytes_decides}
 use Rattle.std.proofs.lemmas.Bool.{both_ways, not-false, or_parts}
 use Rattle.std.proofs.lemmas.List.{map-append}
 use Rattle.std.proofs.lemmas.Option.{none-some}
-use Rattle.ss_base.specs.declared.line.Line.{Line}
+use Rattle.ss_names_laws.proofs.Common.{broken_by, Declaration, declarations, declares, given_by, Line, Meaning, NameBytes, numbered, ProgramTree, refusal_of_declarations, Table, table, value_for, value_in_firsts}
 use Rattle.ss_base.specs.Lines.{line_if}
-use Rattle.ss_tree.specs.Names.{NameBytes}
-use Rattle.ss_tree.specs.Tree.{ProgramTree}
-use Rattle.ss_names_declarations.specs.Declarations.{declarations}
 use Rattle.ss_names_declarations.specs.Earliest.{precedes, earlier_of, earliest}
-use Rattle.ss_names_declarations.specs.NameTable.{value_for}
-use Rattle.ss_names_declarations.specs.declared.declaration.Declaration.{Declaration}
 use Rattle.ss_names_declarations.proofs.EarliestBreach.{found_and_rest}
-use Rattle.ss_names_declarations.proofs.Entries.{value_append, value_in_firsts}
-use Rattle.ss_names.specs.declared.meaning.Meaning.{Meaning}
+use Rattle.ss_names_declarations.proofs.Entries.{value_append}
 use Rattle.ss_names.specs.declared.meaning.Meaning.TheVariants as m
-use Rattle.ss_names.specs.Entries.{given_by}
-use Rattle.ss_names.specs.Table.{Entered, Table, clashes, clashes_after, declares, entered_in_line, entered_by, is_another, numbered, same_of_set, table}
+use Rattle.ss_names.specs.Table.{Entered, clashes, clashes_after, entered_in_line, entered_by, is_another, same_of_set}
 use Rattle.ss_tables_rules.specs.declared.error.TableError.TheVariants as errors
 use Rattle.ss_tables_rules.specs.declared.once.Once.{Once}
-use Rattle.ss_tables_rules.specs.Broken.{table_breaches, declaration_breaches, refusal_of_declarations, unmoded}
+use Rattle.ss_tables_rules.specs.Broken.{table_breaches, declaration_breaches, unmoded}
 use Rattle.ss_tables_rules.specs.Keys.{misranked}
 use Rattle.ss_tables_rules.specs.Once.{is_among, once_of, repeats, repeats_after, repeated_breach, same_once, again, once_added}
 use Rattle.ss_tables_rules.specs.Order.{table_error_order}
-use Rattle.ss_tables_rules.specs.Rules.{broken_by}
 use Rattle.ss_names_laws.proofs.NameTable.{has_value}
 use Rattle.std.specs.Prelude.{option_to_list}
 use Rattle.ss_names_laws.proofs.Items.{Among, in_image, in_pieces, in_right}

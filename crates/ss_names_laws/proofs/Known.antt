@@ -1,20 +1,12 @@
 -- What a table has of a name, by what the name means.
 use Rattle.std.proofs.Common.{◌≡◌, ℕ, ◌<◌, Bool, true, false, cond, List, length, Option, Some, None, option_map, is_some, ⊎_elim, refl, sym, ap, subst, ◌∙◌}
 use Rattle.std.proofs.lemmas.Option.{same_Some}
-use Rattle.ss_base.specs.declared.layout.ClassKind.{ClassKind}
-use Rattle.ss_base.specs.declared.layout.ClassKind.TheVariants.{Permanent}
-use Rattle.ss_base.specs.declared.layout.Mode.{Mode}
-use Rattle.ss_program.specs.declared.expression.Variable.TheVariants.{Global, Local}
-use Rattle.ss_tree.specs.Names.{NameBytes}
-use Rattle.ss_names_declarations.specs.NameTable.{entry_if, place_among, place_in, value_for}
-use Rattle.ss_names_declarations.specs.declared.declaration.Declared.{Declared}
+use Rattle.ss_names_laws.proofs.Common.{ClassKind, Declaration, Declared, declares, entry_if, Global, Local, Meaning, Mode, NameBytes, numbered, Permanent, place_among, place_in, Table, value_for}
 use Rattle.ss_names_declarations.specs.declared.declaration.Declared.TheVariants as d
-use Rattle.ss_names_declarations.specs.declared.declaration.Declaration.{Declaration}
-use Rattle.ss_names.specs.declared.meaning.Meaning.{Meaning}
 use Rattle.ss_names.specs.declared.meaning.Meaning.TheVariants as m
 use Rattle.ss_names.specs.Entries.{count_name}
 use Rattle.ss_names.specs.Modes.{value_mode}
-use Rattle.ss_names.specs.Table.{Table, attribute_meaning, class_meaning, class_entry, count_meaning, count_entry, declares, fold_of, meanings, numbered, set_meanings, variable_meaning}
+use Rattle.ss_names.specs.Table.{attribute_meaning, class_meaning, class_entry, count_meaning, count_entry, fold_of, meanings, set_meanings, variable_meaning}
 use Rattle.ss_names_laws.proofs.NameTable.{entry_from, mapped, place_below, value_declared}
 use Rattle.ss_names_laws.proofs.Items.{Among, at_item, in_one_of}
 

@@ -5,24 +5,10 @@ use Rattle.std.specs.List.{AllByRecursion as Every, filter, list_all}
 use Rattle.std.specs.Map.{values_of}
 use Rattle.std.proofs.lemmas.Bool.{and_from, cond-true, le-leb}
 use Rattle.std.proofs.lemmas.List.FromFn.{get_or-map-range_with_len}
-use Rattle.ss_base.specs.declared.layout.ClassKind.{ClassKind}
-use Rattle.ss_base.specs.declared.layout.Mode.{Mode}
+use Rattle.ss_names_laws.proofs.Common.{Attribute, attribute_classes, attributes, attributes_after, attributes_of_class, class_layout, classes, ClassKind, declarations, each, layout, Mode, mode_of_attribute, mode_of_name, NameBytes, PlainClass, PlainLayout, ProgramTree, refusal_of_declarations, Set, set_layout, set_names, set_of, SetLayout, Table, table, there, upto, value_at, value_for}
 use Rattle.ss_base.specs.declared.layout.Owner.{Owner}
-use Rattle.ss_base.specs.declared.layout.SetLayout.{SetLayout}
 use Rattle.ss_base.specs.Layout.{is_layout, is_narrow, is_sound, names_classes, owns_among}
-use Rattle.ss_base.specs.Plain.{PlainClass, PlainLayout}
-use Rattle.ss_tree.specs.Names.{NameBytes}
-use Rattle.ss_tree.specs.Tree.{ProgramTree}
-use Rattle.ss_names_declarations.specs.Declarations.{declarations}
-use Rattle.ss_names_declarations.specs.NameTable.{value_for}
-use Rattle.ss_names_declarations.proofs.Entries.{there, value_at}
-use Rattle.ss_names.specs.declared.entry.Attribute.{Attribute}
-use Rattle.ss_names.specs.declared.entry.Set.{Set}
-use Rattle.ss_names.specs.Entries.{attribute_after, attribute_classes, attributes, attributes_after, attributes_of_class, classes, fields, mode_of_name, set_names, set_of}
-use Rattle.ss_names.specs.Table.{Table, mode_of_attribute, table}
-use Rattle.ss_tables_rules.specs.Broken.{refusal_of_declarations}
-use Rattle.ss_names_meaning.specs.Answers.{each, upto}
-use Rattle.ss_names_meaning.specs.Layouts.{class_layout, layout, set_layout}
+use Rattle.ss_names.specs.Entries.{attribute_after, fields}
 use Rattle.ss_names_laws.specs.Laws.{LayoutsAreThere}
 use Rattle.ss_names_laws.proofs.Each.{every_image, every_passed}
 use Rattle.ss_names_laws.proofs.NameTable.{has_value}

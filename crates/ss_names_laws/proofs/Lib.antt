@@ -1,3 +1,4 @@
+mod Common
 pub mod Items
 mod NameTable
 pub mod Kept

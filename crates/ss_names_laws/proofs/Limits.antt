@@ -5,22 +5,11 @@ use Rattle.std.specs.Map.{keys_of}
 use Rattle.std.proofs.lemmas.Bool.{cases_lt, eqb-true, leb-false, not-true}
 use Rattle.std.proofs.lemmas.List.{length-append, length-map}
 use Rattle.std.proofs.lemmas.List.Elements.{filter-append}
-use Rattle.ss_base.specs.declared.line.Line.{Line}
-use Rattle.ss_base.specs.declared.layout.ClassKind.{ClassKind}
-use Rattle.ss_base.specs.declared.layout.Mode.{Mode}
-use Rattle.ss_tree.specs.Names.{NameBytes}
-use Rattle.ss_tree.specs.Tree.{ProgramTree}
-use Rattle.ss_names_declarations.specs.Declarations.{declarations}
-use Rattle.ss_names_declarations.specs.NameTable.{first_entries, place_among, place_in, same_name, value_for}
-use Rattle.ss_names_declarations.specs.declared.declaration.Declared.{Declared}
+use Rattle.ss_names_laws.proofs.Common.{Attribute, attribute_classes, attributes, attributes_after, attributes_of_class, broken_in, class_by, classes, ClassKind, declarations, Declared, first_entries, firsts_once, given_by, keys_append, Line, Mode, mode_of_name, NameBytes, place_among, place_from, place_in, ProgramTree, refusal_of_declarations, same_name, set_names, set_of, Table, table, there, value_for, value_from_place}
 use Rattle.ss_names_declarations.specs.declared.declaration.Declared.TheVariants as d
-use Rattle.ss_names_declarations.proofs.Entries.{firsts_once, keys_append, place_from, there, value_from_place}
-use Rattle.ss_names.specs.declared.entry.Attribute.{Attribute}
-use Rattle.ss_names.specs.Entries.{attribute_by, attribute_classes, attributes, attributes_after, attributes_of_class, class_by, classes, given_by, mode_of_name, set_by, set_names, set_of}
-use Rattle.ss_names.specs.Table.{Table, table}
+use Rattle.ss_names.specs.Entries.{attribute_by, set_by}
 use Rattle.ss_tables_rules.specs.declared.error.TableError.TheVariants as errors
-use Rattle.ss_tables_rules.specs.Broken.{refusal_of_declarations}
-use Rattle.ss_tables_rules.specs.Rules.{broken_in, field_number, has_member, has_owner, is_too_many, set_by_name}
+use Rattle.ss_tables_rules.specs.Rules.{field_number, has_member, has_owner, is_too_many, set_by_name}
 use Rattle.ss_names_laws.proofs.Each.{at_place, every_first, every_if, from_places}
 use Rattle.ss_names_laws.proofs.Names.{entry_of, every_entry, once_as_entries}
 use Rattle.ss_names_laws.proofs.Unbroken.{every_given, fits, two_fit}

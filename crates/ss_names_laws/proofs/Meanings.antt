@@ -3,30 +3,11 @@ use Rattle.std.proofs.Common.{◌≡◌, ℕ, ◌<◌, List, [], length, get_or,
 use Rattle.std.specs.Map.{keys_of, values_of}
 use Rattle.std.proofs.lemmas.List.{length-map}
 use Rattle.std.proofs.lemmas.Option.{same_Some, slice_get-map, slice_get_within}
-use Rattle.ss_base.specs.declared.layout.ClassKind.{ClassKind}
-use Rattle.ss_base.specs.declared.layout.ClassKind.TheVariants.{Permanent}
-use Rattle.ss_base.specs.declared.layout.Discipline.{Discipline}
-use Rattle.ss_base.specs.declared.layout.Mode.{Mode}
-use Rattle.ss_base.specs.declared.layout.Mode.TheVariants.{Integer}
-use Rattle.ss_base.specs.declared.layout.SetLayout.{SetLayout}
-use Rattle.ss_base.specs.Plain.{PlainClass}
-use Rattle.ss_program.specs.declared.expression.Variable.TheVariants.{Global, Local}
-use Rattle.ss_program.specs.declared.sections.Statistic.{Statistic}
-use Rattle.ss_program.specs.declared.sections.Subject.{Subject}
-use Rattle.ss_tree.specs.Names.{NameBytes}
-use Rattle.ss_tree.specs.Tree.{ProgramTree}
-use Rattle.ss_names_declarations.specs.Declarations.{declarations}
-use Rattle.ss_names_declarations.specs.NameTable.{place_in, value_for}
-use Rattle.ss_names_declarations.proofs.Entries.{firsts_once, key_at, place_from, there, value_at, value_by_place, value_from_place}
-use Rattle.ss_names.specs.declared.entry.Attribute.{Attribute}
-use Rattle.ss_names.specs.declared.meaning.Meaning.{Meaning}
+use Rattle.ss_names_laws.proofs.Common.{Attribute, class_by, class_layout, classes, ClassKind, count_by, counts, declarations, Discipline, each, firsts_once, given_by, Global, global_variables, Integer, Local, Meaning, Mode, mode_of_attribute, NameBytes, numbered, Permanent, place_from, place_in, PlainClass, ProgramTree, refusal_of_declarations, resolved_layout, resolved_statistic, ResolvedLayout, set_layout, set_names, set_of, SetLayout, Statistic, statistics, Subject, subject_of, table, there, upto, value_at, value_by_place, value_for, value_from_place}
+use Rattle.ss_names_declarations.proofs.Entries.{key_at}
 use Rattle.ss_names.specs.declared.meaning.Meaning.TheVariants as m
-use Rattle.ss_names.specs.Entries.{class_by, classes, given_by, routines, set_names, set_of, sets, global_variables}
-use Rattle.ss_names.specs.Table.{mode_of_attribute, numbered, subject_of, table}
+use Rattle.ss_names.specs.Entries.{routines, sets}
 use Rattle.ss_names_scopes.specs.Scopes.{mode_of_meaning}
-use Rattle.ss_tables_rules.specs.Broken.{refusal_of_declarations}
-use Rattle.ss_names_meaning.specs.Answers.{each, upto}
-use Rattle.ss_names_meaning.specs.Layouts.{ResolvedLayout, class_layout, count_by, counts, resolved_layout, set_layout, resolved_statistic, statistics}
 use Rattle.ss_names_laws.specs.Laws.{TablesAreValid}
 use Rattle.ss_names_laws.specs.ValidTables.{IsClassAt, IsMeant, IsNamedClass, IsPlainAt, IsSetAt, IsValidTable, IsWatched}
 use Rattle.ss_names_laws.proofs.Attributes.{attribute_there}

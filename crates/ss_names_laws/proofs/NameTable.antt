@@ -4,12 +4,8 @@ use Rattle.std.specs.List.{position_or_len}
 use Rattle.std.specs.Cmp.Lexicographic.{bytes_decides}
 use Rattle.std.proofs.lemmas.Bool.{ltb-true}
 use Rattle.std.proofs.lemmas.Option.{cond_some, same_Some, slice_get_within}
-use Rattle.ss_tree.specs.Names.{NameBytes}
-use Rattle.ss_names_declarations.specs.NameTable.{entry_if, first_entries, place_among, place_in, same_name, value_for}
-use Rattle.ss_names_declarations.specs.declared.declaration.Declared.{Declared}
-use Rattle.ss_names_declarations.specs.declared.declaration.Declaration.{Declaration}
-use Rattle.ss_names_declarations.proofs.Entries.{firsts_once, value_by_place, value_from_place, value_in_firsts}
-use Rattle.ss_names.specs.Entries.{given_by, named_by}
+use Rattle.ss_names_laws.proofs.Common.{Declaration, Declared, entry_if, first_entries, firsts_once, given_by, NameBytes, place_among, place_in, same_name, value_by_place, value_for, value_from_place, value_in_firsts}
+use Rattle.ss_names.specs.Entries.{named_by}
 use Rattle.ss_names_laws.proofs.Items.{Among, among_at, from_pieces, in_pieces}
 
 -- what an option holds, by what holds its image

@@ -6,24 +6,14 @@ use Rattle.std.specs.Cmp.Lexicographic.{bytes_decides}
 use Rattle.std.proofs.lemmas.Bool.{both_ways, lt-ltb}
 use Rattle.std.proofs.lemmas.List.Quantifiers.{position-Some}
 use Rattle.std.proofs.lemmas.Option.{slice_get-get_or, slice_get-map}
-use Rattle.ss_base.specs.declared.line.Line.{Line}
-use Rattle.ss_base.specs.declared.layout.ClassKind.{ClassKind}
+use Rattle.ss_names_laws.proofs.Common.{broken_in, classes, ClassKind, Declaration, declarations, Declared, given_by, Line, NameBytes, place_among, place_in, ProgramTree, refusal_of_declarations, same_name, Set, set_names, set_of, Table, table, value_for}
 use Rattle.ss_base.specs.declared.layout.Owner.{Owner}
 use Rattle.ss_base.specs.declared.layout.Owner.TheVariants as owners
 use Rattle.ss_base.specs.Layout.{owns_among}
-use Rattle.ss_tree.specs.Names.{NameBytes}
-use Rattle.ss_tree.specs.Tree.{ProgramTree}
-use Rattle.ss_names_declarations.specs.Declarations.{declarations}
-use Rattle.ss_names_declarations.specs.NameTable.{place_among, place_in, same_name, value_for}
-use Rattle.ss_names_declarations.specs.declared.declaration.Declared.{Declared}
 use Rattle.ss_names_declarations.specs.declared.declaration.Declared.TheVariants as d
-use Rattle.ss_names_declarations.specs.declared.declaration.Declaration.{Declaration}
-use Rattle.ss_names.specs.declared.entry.Set.{Set}
-use Rattle.ss_names.specs.Entries.{classes, given_by, member_by, owner_entry, owner_named, set_by, set_names, set_of}
-use Rattle.ss_names.specs.Table.{Table, table}
+use Rattle.ss_names.specs.Entries.{member_by, owner_entry, owner_named, set_by}
 use Rattle.ss_tables_rules.specs.declared.error.TableError.TheVariants as errors
-use Rattle.ss_tables_rules.specs.Broken.{refusal_of_declarations}
-use Rattle.ss_tables_rules.specs.Rules.{broken_in, has_member, has_owner, is_too_many, table_set_at, set_by_name}
+use Rattle.ss_tables_rules.specs.Rules.{has_member, has_owner, is_too_many, table_set_at, set_by_name}
 use Rattle.ss_names_laws.proofs.Each.{every_if, every_piece}
 use Rattle.ss_names_laws.proofs.NameTable.{mapped, place_in_below, value_among}
 use Rattle.ss_names_laws.proofs.Items.{at_item}

@@ -9,24 +9,16 @@ use Rattle.std.proofs.lemmas.Cmp.{nat_list_eq_equiv}
 use Rattle.std.proofs.lemmas.Grind.{flat_map-append}
 use Rattle.std.proofs.lemmas.List.{map-append}
 use Rattle.std.proofs.lemmas.List.Sums.{fold-append}
-use Rattle.ss_base.specs.declared.line.Line.{Line}
-use Rattle.ss_base.specs.declared.layout.Mode.{Mode}
-use Rattle.ss_tree.specs.Names.{NameBytes}
-use Rattle.ss_tree.specs.Tree.{SectionKindTree, main, routine, event, SectionTree, ProgramTree}
-use Rattle.ss_names_declarations.specs.Declarations.{at_line, flat_map_from, in_definition, in_section_head, in_section, in_preamble_statement, parameter_declaration}
-use Rattle.ss_names_declarations.specs.NameTable.{entry_beside, first_entries, same_name, value_for, with_first}
+use Rattle.ss_names_laws.proofs.Common.{at_line, Declaration, event, first_entries, flat_map_from, in_body, in_definition, in_places, in_preamble_statement, in_section, in_section_head, keys_append, Line, locals_of, main, Mode, NameBytes, parameter_declaration, parameters_of, ProgramTree, refusal_of_declarations, routine, same_name, SectionKindTree, SectionTree, Table, table, value_for}
+use Rattle.ss_names_declarations.specs.NameTable.{entry_beside, with_first}
 use Rattle.ss_names_declarations.specs.declared.declaration.Declared.TheVariants as d
-use Rattle.ss_names_declarations.specs.declared.declaration.Declaration.{Declaration}
-use Rattle.ss_names_declarations.proofs.Entries.{keys_append, value_append}
+use Rattle.ss_names_declarations.proofs.Entries.{value_append}
 use Rattle.ss_names_uses.specs.Uses as used
-use Rattle.ss_names_uses.specs.Uses.{as_attribute, in_body, in_kind, in_places, uses}
-use Rattle.ss_names.specs.Table.{Table, table}
-use Rattle.ss_names_scopes.specs.Locals.{defined, local_used, locals_of, moded_in}
+use Rattle.ss_names_uses.specs.Uses.{as_attribute, in_kind, uses}
+use Rattle.ss_names_scopes.specs.Locals.{defined, local_used, moded_in}
 use Rattle.ss_tables_rules.specs.declared.once.Once.{Once}
 use Rattle.ss_tables_rules.specs.declared.once.Once.TheVariants as once
-use Rattle.ss_tables_rules.specs.Broken.{refusal_of_declarations}
 use Rattle.ss_tables_rules.specs.Once.{once_of, same_once}
-use Rattle.ss_names_laws.specs.ValidTables.{parameters_of}
 use Rattle.ss_names_laws.proofs.Each.{at_number, in_parts}
 use Rattle.ss_names_laws.proofs.Items.{at_item, each_item, in_image}
 use Rattle.ss_names_laws.proofs.Kept.{onces, said_once}

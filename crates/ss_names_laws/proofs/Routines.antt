@@ -5,20 +5,14 @@ use Rattle.std.specs.List.{AllByRecursion as Every}
 use Rattle.std.specs.Map.{keys_of}
 use Rattle.std.proofs.lemmas.List.{length-map}
 use Rattle.std.proofs.lemmas.Option.{slice_get-map}
-use Rattle.ss_base.specs.declared.layout.Mode.{Mode}
-use Rattle.ss_tree.specs.Names.{NameBytes}
-use Rattle.ss_tree.specs.Tree.{SectionTree, ProgramTree}
-use Rattle.ss_names_declarations.specs.Declarations.{declarations}
-use Rattle.ss_names_declarations.specs.declared.declaration.Declared.{Declared}
+use Rattle.ss_names_laws.proofs.Common.{Declaration, declarations, Declared, given_by, locals_of, Mode, NameBytes, parameters_of, ProgramTree, SectionTree, table}
 use Rattle.ss_names_declarations.specs.declared.declaration.Declared.TheVariants as d
-use Rattle.ss_names_declarations.specs.declared.declaration.Declaration.{Declaration}
 use Rattle.ss_names_declarations.proofs.Entries.{entry_of_value}
 use Rattle.ss_names.specs.declared.entry.RoutineSection.{RoutineSection}
-use Rattle.ss_names.specs.Entries.{given_by, routine_by}
-use Rattle.ss_names.specs.Table.{table}
-use Rattle.ss_names_scopes.specs.Locals.{Moded, locals_of}
+use Rattle.ss_names.specs.Entries.{routine_by}
+use Rattle.ss_names_scopes.specs.Locals.{Moded}
 use Rattle.ss_names_laws.specs.Laws.{RoutinesAreThere, SectionsAreValid}
-use Rattle.ss_names_laws.specs.ValidTables.{IsValidSection, parameters_of}
+use Rattle.ss_names_laws.specs.ValidTables.{IsValidSection}
 use Rattle.ss_names_laws.proofs.Each.{at_place, every_first, every_piece, from_places}
 use Rattle.ss_names_laws.proofs.Items.{at_item}
 use Rattle.ss_names_laws.proofs.Locals.{hides, modes_there}

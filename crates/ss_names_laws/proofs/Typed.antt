@@ -5,42 +5,25 @@ use Rattle.std.specs.List.{AllZip, AllByRecursion as Every, filter}
 use Rattle.std.specs.Map.{keys_of, values_of}
 use Rattle.std.proofs.lemmas.Bool.{eqb-true}
 use Rattle.std.proofs.lemmas.Option.{same_Some, slice_get-map, slice_get_within}
-use Rattle.ss_base.specs.declared.layout.ClassKind.TheVariants.{Permanent}
-use Rattle.ss_base.specs.declared.layout.Discipline.{Discipline}
+use Rattle.ss_names_laws.proofs.Common.{Attribute, class_layout, classes, count_by, CountedClass, counts, declarations, declares, Discipline, disciplines, each, given_by, Global, Integer, layout, Meaning, Mode, mode_of_attribute, NameBytes, numbered, Permanent, PlainClass, PlainLayout, ProgramTree, resolved_layout, resolved_statistic, ResolvedLayout, same_name, Set, set_layout, SetLayout, Statistic, statistics, Subject, subject_of, Table, table, upto, value_at, value_by_place, value_for, where_holds}
 use Rattle.ss_base.specs.declared.layout.Discipline.TheVariants as orders_of
-use Rattle.ss_base.specs.declared.layout.Mode.{Mode}
-use Rattle.ss_base.specs.declared.layout.Mode.TheVariants.{Integer, Alpha}
+use Rattle.ss_base.specs.declared.layout.Mode.TheVariants.{Alpha}
 use Rattle.ss_base.specs.declared.layout.RankKey.{RankKey}
-use Rattle.ss_base.specs.declared.layout.SetLayout.{SetLayout}
-use Rattle.ss_base.specs.Plain.{PlainClass, PlainLayout}
 use Rattle.ss_program.specs.declared.expression.SetQuery.TheVariants.{MemberCount}
-use Rattle.ss_program.specs.declared.expression.Variable.TheVariants.{Global}
-use Rattle.ss_program.specs.declared.sections.Statistic.{Statistic}
-use Rattle.ss_program.specs.declared.sections.Subject.{Subject}
 use Rattle.ss_program.specs.declared.sections.Subject.TheVariants.{OfVariable, OfAttribute, OfCount}
-use Rattle.ss_program.specs.declared.statement.CountedClass.{CountedClass}
 use Rattle.ss_program.specs.Program.{Program}
 use Rattle.ss_program.specs.WellTyped as typed
-use Rattle.ss_tree.specs.Names.{NameBytes}
-use Rattle.ss_tree.specs.Tree.{ProgramTree}
-use Rattle.ss_names_declarations.specs.Declarations.{declarations}
-use Rattle.ss_names_declarations.specs.NameTable.{same_name, value_for}
 use Rattle.ss_names_declarations.specs.declared.declaration.SetRule.{SetRule}
 use Rattle.ss_names_declarations.specs.declared.declaration.SetRule.TheVariants as rules
-use Rattle.ss_names_declarations.proofs.Entries.{entry_of_key, value_at, value_by_place}
-use Rattle.ss_names.specs.declared.entry.Attribute.{Attribute}
+use Rattle.ss_names_declarations.proofs.Entries.{entry_of_key}
 use Rattle.ss_names.specs.declared.entry.DefinedOrder.{DefinedOrder}
 use Rattle.ss_names.specs.declared.entry.RankedBy.{RankedBy}
-use Rattle.ss_names.specs.declared.entry.Set.{Set}
 use Rattle.ss_names.specs.declared.entry.TiedBy.{TiedBy}
-use Rattle.ss_names.specs.declared.meaning.Meaning.{Meaning}
 use Rattle.ss_names.specs.declared.meaning.Meaning.TheVariants as m
-use Rattle.ss_names.specs.Entries.{classes, given_by}
-use Rattle.ss_names.specs.Table.{Table, declares, mode_of_attribute, numbered, subject_of, table}
 use Rattle.ss_check_rules.specs.Modes.{is_text}
 use Rattle.ss_check_rules.specs.Refusal.{refusal_of_uses}
-use Rattle.ss_names_meaning.specs.Answers.{◌>>=◌, each, upto, where_holds}
-use Rattle.ss_names_meaning.specs.Layouts.{ResolvedLayout, class_layout, count_by, counts, discipline, disciplines, rank_key, resolved_layout, layout, ordered, rank_keys, ranked_by, ruled, set_layout, resolved_statistic, statistics, tie_keys, tied_by}
+use Rattle.ss_names_meaning.specs.Answers.{◌>>=◌}
+use Rattle.ss_names_meaning.specs.Layouts.{discipline, rank_key, ordered, rank_keys, ranked_by, ruled, tie_keys, tied_by}
 use Rattle.ss_names_laws.specs.Laws.{HasLayout, IsWellLaid, LayoutsAreWellTyped, TablesAreThere}
 use Rattle.ss_names_laws.specs.ValidTables.{IsMeant, IsValidTable}
 use Rattle.ss_names_laws.proofs.Attributes.{attribute_there}

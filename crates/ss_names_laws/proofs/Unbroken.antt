@@ -3,17 +3,9 @@ use Rattle.std.proofs.Common.{◌≡◌, Bool, true, false, List, [], ◌∷◌,
 use Rattle.std.specs.Prelude.{if◌then◌else◌}
 use Rattle.std.specs.List.{AllByRecursion as Every}
 use Rattle.std.specs.Option.{option_or}
-use Rattle.ss_base.specs.declared.line.Line.{Line}
-use Rattle.ss_tree.specs.Tree.{ProgramTree}
-use Rattle.ss_names_declarations.specs.Declarations.{declarations}
-use Rattle.ss_names_declarations.specs.declared.declaration.Declared.{Declared}
-use Rattle.ss_names_declarations.specs.declared.declaration.Declaration.{Declaration}
-use Rattle.ss_names.specs.Entries.{given_by}
-use Rattle.ss_names.specs.Table.{table}
+use Rattle.ss_names_laws.proofs.Common.{broken_by, broken_in, Declaration, declarations, Declared, given_by, Line, ProgramTree, refusal_of_declarations, table}
 use Rattle.ss_tables_rules.specs.declared.error.TableError.{TableError}
-use Rattle.ss_tables_rules.specs.Broken.{refusal_of_declarations}
 use Rattle.ss_names_declarations.specs.Earliest.{unless}
-use Rattle.ss_tables_rules.specs.Rules.{broken_by, broken_in}
 use Rattle.ss_names_laws.proofs.Each.{every_piece}
 use Rattle.ss_names_laws.proofs.Items.{at_item}
 use Rattle.ss_names_laws.proofs.Kept.{none_broken}

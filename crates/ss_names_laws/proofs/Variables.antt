@@ -3,29 +3,16 @@ use Rattle.std.proofs.Common.{◌≡◌, ◌≢◌, ℕ, Bool, true, false, cond
 use Rattle.std.specs.List.{AllByRecursion as Every}
 use Rattle.std.specs.Map.{values_of}
 use Rattle.std.proofs.lemmas.Option.{same_Some, some_pair_parts}
-use Rattle.ss_base.specs.declared.layout.ClassKind.{ClassKind}
-use Rattle.ss_base.specs.declared.layout.ClassKind.TheVariants.{Permanent, Temporary, Notice}
-use Rattle.ss_base.specs.declared.layout.Mode.{Mode}
-use Rattle.ss_base.specs.declared.layout.Mode.TheVariants.{Integer}
-use Rattle.ss_base.specs.declared.line.Line.{Line}
-use Rattle.ss_program.specs.declared.expression.Variable.TheVariants.{Global}
-use Rattle.ss_program.specs.declared.statement.CountedClass.{CountedClass}
-use Rattle.ss_tree.specs.Names.{NameBytes}
-use Rattle.ss_tree.specs.Tree.{ProgramTree}
+use Rattle.ss_names_laws.proofs.Common.{at_line, attributes, ClassKind, count_by, CountedClass, counts, declarations, Declared, declares, given_by, Global, global_variables, Integer, Line, Meaning, Mode, NameBytes, numbered, Permanent, place_in, ProgramTree, refusal_of_declarations, table, value_at, value_by_place, value_for}
+use Rattle.ss_base.specs.declared.layout.ClassKind.TheVariants.{Temporary, Notice}
 use Rattle.ss_tree.specs.declared.preamble.ModeWord.{ModeWord}
-use Rattle.ss_names_declarations.specs.Declarations.{at_line, declarations}
-use Rattle.ss_names_declarations.specs.NameTable.{place_in, value_for}
-use Rattle.ss_names_declarations.specs.declared.declaration.Declared.{Declared}
 use Rattle.ss_names_declarations.specs.declared.declaration.Declared.TheVariants as d
-use Rattle.ss_names_declarations.proofs.Entries.{place_of_value, value_at, value_by_place}
-use Rattle.ss_names.specs.declared.meaning.Meaning.{Meaning}
+use Rattle.ss_names_declarations.proofs.Entries.{place_of_value}
 use Rattle.ss_names.specs.declared.meaning.Meaning.TheVariants as m
-use Rattle.ss_names.specs.Entries.{attributes, class_variables, given_by, variable_by, global_variables}
+use Rattle.ss_names.specs.Entries.{class_variables, variable_by}
 use Rattle.ss_names.specs.Modes.{value_mode}
-use Rattle.ss_names.specs.Table.{declares, numbered, table, variable_meaning}
+use Rattle.ss_names.specs.Table.{variable_meaning}
 use Rattle.ss_names_scopes.specs.Scopes.{mode_of_meaning}
-use Rattle.ss_tables_rules.specs.Broken.{refusal_of_declarations}
-use Rattle.ss_names_meaning.specs.Layouts.{count_by, counts}
 use Rattle.ss_names_laws.proofs.Classes.{class_meant, class_there, count_meant}
 use Rattle.ss_names_laws.proofs.NameTable.{declared_value, entry_here, value_declared, value_of_entry}
 use Rattle.ss_names_laws.proofs.Items.{Among, at_item, each_item, from_image, from_pieces}

@@ -2,23 +2,10 @@
 use Rattle.std.proofs.Common.{◌≡◌, ℕ, suc, List, slice_get, Some, Ok, inl, inr, refl, sym, ap, subst, ◌∙◌}
 use Rattle.std.specs.Prelude.{pos}
 use denote.RawPtr.{Ptr}
-use Rattle.ss_base.specs.declared.layout.ClassKind.{ClassKind}
-use Rattle.ss_base.specs.declared.layout.ClassKind.TheVariants.{Permanent, Temporary, Notice}
-use Rattle.ss_base.specs.declared.layout.Layout.{Layout}
-use Rattle.ss_records_blocks.specs.declared.store.BlockPlace.{BlockPlace}
-use Rattle.ss_records_blocks.specs.Cells.{Cells, words_at}
-use Rattle.ss_world.specs.State.{State, Members, and_then, of_class, entity_in, entity_of_kind, kind_of, numbered_record, indexed, number_in, members_of, owner_of}
-use Rattle.ss_world.specs.Sets.{member_in, member_class, AreMembersApart}
-use Rattle.ss_records_words.specs.Reading.{record_of}
-use Rattle.ss_records_words.specs.Places.{Directory, IsListedAt, class_at_place}
-use Rattle.ss_records_words.specs.Kept.{ArePartsKept, IsPermanent, state_of, issued_place, numbered_place}
-use Rattle.ss_records_words.specs.Slotted.{IsEntityOf}
-use Rattle.ss_records_blocks.proofs.Same.{same}
-use Rattle.ss_records_words.proofs.Splice.{not_and_in}
-use Rattle.ss_records_words.proofs.Disjoint.{entry_of}
-use Rattle.ss_records_blocks.proofs.Entries.{get_there}
+use Rattle.ss_records_entities.proofs.Common.{and_then, ArePartsKept, BlockPlace, Cells, class_at_place, ClassKind, Directory, entity_in, entity_of_kind, entry_of, get_there, IsEntityOf, IsListedAt, IsPermanent, issued_place, kind_of, Layout, listed, member_class, member_in, Members, members_of, not_and_in, Notice, number_in, numbered_place, numbered_record, of_class, owner_of, Permanent, record_of, same, State, state_of, Temporary, words_at}
+use Rattle.ss_world.specs.State.{indexed}
+use Rattle.ss_world.specs.Sets.{AreMembersApart}
 use Rattle.ss_records_words.proofs.Filed.{filed_or_not}
-use Rattle.ss_records_words.proofs.Listing.{listed}
 use Rattle.ss_records_entities.proofs.Keeps.{read_place, numbered_is}
 use Rattle.ss_records_entities.proofs.Indexing.{indexed_there, of_permanent}
 

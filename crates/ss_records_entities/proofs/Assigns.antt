@@ -4,32 +4,19 @@ use Rattle.std.specs.Prelude.{Result, Bool, false, ℤ, pos}
 use Rattle.std.specs.Int.{cast_signed}
 use mir.Syntax.{w64}
 use denote.RawPtr.{Ptr}
-use Rattle.ss_base.specs.declared.fault.FaultKind.{FaultKind}
+use Rattle.ss_records_entities.proofs.Common.{and_then, AreFormed, ArePartsKept, BlockPlace, by_same, Cells, class_at_place, class_in_words, ClassKind, ClassLayout, Directory, entity_in, FaultKind, get_inside, is_notice, IsListedAt, IsNumber, IsPermanent, IsValuePut, kind_of, Layout, links_start, Made, Members, Mode, modes_of, Notice, number, number_in, numbered_record, Permanent, plain, put_word, Record, record_at, record_of, records_at, State, state_of, Temporary, Value, value_at, value_in, value_of_words, values_end, Whole, Word, word_at, word_of, words_at}
 use Rattle.ss_base.specs.declared.fault.FaultKind.TheVariants.{WrongClass}
-use Rattle.ss_base.specs.declared.value.Value.{Value}
-use Rattle.ss_base.specs.declared.value.Value.TheVariants.{Whole}
-use Rattle.ss_base.specs.declared.layout.ClassKind.{ClassKind}
-use Rattle.ss_base.specs.declared.layout.ClassKind.TheVariants.{Permanent, Temporary, Notice}
-use Rattle.ss_base.specs.declared.layout.Mode.{Mode}
-use Rattle.ss_base.specs.declared.layout.ClassLayout.{ClassLayout}
-use Rattle.ss_base.specs.declared.layout.Layout.{Layout}
 use Rattle.ss_base.specs.Layout.{mode_of}
-use Rattle.ss_records_blocks.specs.declared.store.BlockPlace.{BlockPlace}
-use Rattle.ss_records_blocks.specs.Cells.{Word, number, Cells, IsNumber, MayBeNumber, words_at, word_of, word_at, with_word, put_word}
-use Rattle.ss_world.specs.State.{Record, State, Members, and_then, entity_in, numbered_record, of_notice, notice, value_in, time_in, number_in, kind_in, kind_of, modes_of, is_notice, record_with_value, with_time, with_indexed, with_entity, with_entity_of_kind, assigned, timed}
-use Rattle.ss_records_words.specs.Shape.{values_end, links_start}
-use Rattle.ss_records_words.specs.Reading.{plain, value_of_words, class_in_words, record_of, record_at, records_at, value_at, put_two, IsValuePut}
+use Rattle.ss_records_blocks.specs.Cells.{MayBeNumber, with_word}
+use Rattle.ss_world.specs.State.{of_notice, notice, time_in, kind_in, record_with_value, with_time, with_indexed, with_entity, with_entity_of_kind, assigned, timed}
+use Rattle.ss_records_words.specs.Reading.{put_two}
 use Rattle.ss_records_blocks.specs.Writes.{IsWrittenAt}
-use Rattle.ss_records_words.specs.Kept.{ArePartsKept, AreFormed, IsPermanent, state_of}
-use Rattle.ss_records_words.specs.Places.{Made, Directory, IsListedAt, class_at_place}
 use Rattle.ss_records_blocks.proofs.Numbers.{length-with_word}
-use Rattle.ss_records_blocks.proofs.Same.{by_same}
 use Rattle.ss_records_blocks.proofs.Puts.{word_other, word_here, words_written, written_put, written_twice}
 use Rattle.ss_records_blocks.proofs.WordKinds.{number_may}
 use Rattle.ss_records_entities.proofs.ReadWords.{read_as, with_two, two_first, two_second, two_other, value_read, record_value, record_time}
 use Rattle.ss_records_entities.proofs.Apart.{entity_is}
 use Rattle.ss_records_entities.proofs.Keeps.{kept_written, records_written, permanents_same, records_same, permanents_written}
-use Rattle.ss_records_blocks.proofs.Entries.{get_inside}
 
 with_numbered : (s : State) (k : ClassKind) (c n : ℕ) (r : Record) → (IsPermanent k → ⊥) → with_entity_of_kind s k c n r ≡ record s { records = slice_set s.records (n - 1) (Some r) }
 with_numbered s Permanent c n r h = absurd (h tt)

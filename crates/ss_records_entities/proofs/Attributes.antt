@@ -3,18 +3,11 @@ use Rattle.std.proofs.Common.{◌≡◌, ℕ, ◌+◌, ◌*◌, ◌<◌, length,
 use Rattle.std.specs.Prelude.{ℤ}
 use Rattle.std.specs.Int.{cast_signed}
 use mir.Syntax.{w64}
-use Rattle.ss_base.specs.declared.value.Value.{Value}
-use Rattle.ss_base.specs.declared.layout.Mode.{Mode}
+use Rattle.ss_records_entities.proofs.Common.{ArePartsKept, BlockPlace, Cells, class_at_place, IsEntityPlace, IsKept, IsNumber, IsValuePut, Mode, modes_of, number, places, put_word, Records, state, state_of, Value, value_at, value_in, values_end, word_at, words_at}
 use Rattle.ss_base.specs.Layout.{mode_of}
-use Rattle.ss_records_blocks.specs.declared.store.BlockPlace.{BlockPlace}
-use Rattle.ss_records_blocks.specs.Cells.{Cells, number, IsNumber, MayBeNumber, words_at, word_at, put_word}
-use Rattle.ss_world.specs.State.{modes_of, value_in, assigned, timed}
-use Rattle.ss_records_words.specs.Shape.{values_end}
-use Rattle.ss_records_words.specs.Reading.{value_at, IsValuePut}
-use Rattle.ss_records_words.specs.Kept.{ArePartsKept, state_of}
-use Rattle.ss_records_words.specs.Places.{class_at_place}
-use Rattle.ss_records_entities.specs.declared.records.Records.{Records}
-use Rattle.ss_records_entities.specs.Parts.{IsKept, state, places, IsEntityPlace, IsNoticePlace}
+use Rattle.ss_records_blocks.specs.Cells.{MayBeNumber}
+use Rattle.ss_world.specs.State.{assigned, timed}
+use Rattle.ss_records_entities.specs.Parts.{IsNoticePlace}
 use Rattle.ss_records_entities.proofs.Assigns.{first_number, second_number, is_value, kept_assigned, length_assigned, is_assigned, reads_back, may_time, kept_timed, length_timed, is_set}
 
 -- the attribute f of what was found at p, whose words begin at k

@@ -1,16 +1,8 @@
 -- The class of an entity that is known by its creation number.
 use Rattle.std.proofs.Common.{◌≡◌, ℕ, ◌<◌, length, Ok, inl, refl, ap, subst, ◌∙◌}
 use Rattle.std.specs.Prelude.{ℤ}
-use Rattle.ss_base.specs.declared.layout.ClassKind.{ClassKind}
-use Rattle.ss_base.specs.declared.layout.ClassKind.TheVariants.{Permanent, Temporary, Notice}
-use Rattle.ss_world.specs.State.{State, numbered_record, and_then, of_class, no_value, kind_of, entity_of_kind, known_in}
-use Rattle.ss_records_entities.specs.declared.records.Records.{Records}
-use Rattle.ss_records_blocks.specs.declared.store.BlockPlace.{BlockPlace}
-use Rattle.ss_records_blocks.specs.Cells.{number, words_at, word_at}
-use Rattle.ss_records_words.specs.Reading.{plain, record_of}
-use Rattle.ss_records_words.specs.Places.{class_at_place}
-use Rattle.ss_records_words.specs.Kept.{IsPermanent, numbered_place}
-use Rattle.ss_records_entities.specs.Parts.{IsKept, state, places}
+use Rattle.ss_records_entities.proofs.Common.{and_then, BlockPlace, class_at_place, ClassKind, entity_of_kind, IsKept, IsPermanent, kind_of, no_value, Notice, number, numbered_place, numbered_record, of_class, Permanent, places, plain, record_of, Records, State, state, Temporary, word_at, words_at}
+use Rattle.ss_world.specs.State.{known_in}
 use Rattle.ss_records_entities.specs.Classed.{HasClass}
 use Rattle.ss_records_entities.proofs.Keeps.{read_place, numbered_is, there}
 

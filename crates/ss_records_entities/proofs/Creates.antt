@@ -5,28 +5,16 @@ use Rattle.std.specs.Int.{cast_signed}
 use Rattle.std.proofs.lemmas.Bool.{lt-ltb}
 use mir.Syntax.{w64}
 use denote.RawPtr.{Ptr}
-use Rattle.ss_base.specs.declared.layout.Mode.{Mode}
-use Rattle.ss_base.specs.declared.layout.Mode.TheVariants.{Integer, Alpha}
-use Rattle.ss_base.specs.declared.layout.Layout.{Layout}
-use Rattle.ss_base.specs.declared.layout.Owner.TheVariants.{System, Class}
+use Rattle.ss_records_entities.proofs.Common.{AreFormed, ArePartsKept, blanks, block_words, BlockPlace, by_same, Cells, Class, class_at_place, class_in_words, Directory, entry_of, get_inside, Integer, is_notice, IsBorn, IsEntityOf, IsListedAt, IsNumber, IsPermanent, kind_of, LAST_NUMBER, Layout, length-blanks, links_start, listed, listing, lying, Made, Members, Mode, modes_of, number, Numbers, own_or, permanent_count, plain, Record, record_at, record_of, records_at, state_of, System, value_of_words, values_end, Word, word_at, word_of, words_at, words_new}
+use Rattle.ss_base.specs.declared.layout.Mode.TheVariants.{Alpha}
 use Rattle.ss_base.specs.Layout.{first_value}
-use Rattle.ss_records_blocks.specs.declared.store.BlockPlace.{BlockPlace}
-use Rattle.ss_records_blocks.specs.Cells.{Word, number, Cells, IsNumber, words_at, word_of, word_at, blanks}
-use Rattle.ss_world.specs.State.{Record, Members, kind_of, modes_of, is_notice, first_record, created, LAST_NUMBER}
-use Rattle.ss_records_words.specs.Shape.{values_end, links_start, block_words}
-use Rattle.ss_records_words.specs.Reading.{plain, value_of_words, values_from, class_in_words, record_of, record_at, records_at}
-use Rattle.ss_records_words.specs.Kept.{ArePartsKept, AreFormed, IsPermanent, state_of}
-use Rattle.ss_records_blocks.specs.Places.{Numbers}
-use Rattle.ss_records_words.specs.Places.{Made, Directory, lying, own_or, listing, IsListedAt, class_at_place, permanent_count}
-use Rattle.ss_records_words.specs.Laid.{IsLaid, IsBorn}
-use Rattle.ss_records_blocks.proofs.Same.{by_same}
-use Rattle.ss_records_blocks.proofs.Puts.{words_new, words_old, length-blanks}
-use Rattle.ss_records_words.specs.Slotted.{IsEntityOf}
-use Rattle.ss_records_words.proofs.Listing.{listed}
-use Rattle.ss_records_words.proofs.Disjoint.{entry_of}
+use Rattle.ss_world.specs.State.{first_record, created}
+use Rattle.ss_records_words.specs.Reading.{values_from}
+use Rattle.ss_records_words.specs.Laid.{IsLaid}
+use Rattle.ss_records_blocks.proofs.Puts.{words_old}
 use Rattle.ss_records_entities.proofs.ReadWords.{read_as}
 use Rattle.ss_records_entities.proofs.Keeps.{map_same, made_same, entry_is}
-use Rattle.ss_records_blocks.proofs.Entries.{get_inside, living_push, living_bound}
+use Rattle.ss_records_blocks.proofs.Entries.{living_push, living_bound}
 use Rattle.ss_records_entities.proofs.NamesCreated.{name_born}
 
 first_of : (m : Mode) → value_of_words m 0 0 ≡ first_value m

@@ -2,22 +2,10 @@
 use Rattle.std.proofs.Common.{◌≡◌, ℕ, ◌+◌, ◌<◌, Bool, true, false, List, [], ◌∷◌, ◌++◌, length, slice_get, Some, Ok, Err, refl, sym, ap, subst, ◌∙◌, append_assoc, append-nil}
 use Rattle.std.specs.Prelude.{ℤ, if◌then◌else◌, Result, MatchResult}
 use denote.RawPtr.{Ptr}
-use Rattle.ss_base.specs.declared.fault.FaultKind.{FaultKind}
+use Rattle.ss_records_entities.proofs.Common.{and_then, AreAllDistinct, AreNeighbours, CanJoin, contains, contains_in, distinct_less, entity_at, EntityBlock, FaultKind, get_there, HasLink, HasNeighbours, head0, is_filed, IsInList, IsInPlace, IsKept, IsNotInList, IsOwnerBlock, joiner, last_or, less, link, member_base, members_of, number, owner, owner_base, places, pred_from, put_before, put_in, Records, SetLayout, State, succ, succ_cut, with_list_of, word_at}
 use Rattle.ss_base.specs.declared.fault.FaultKind.TheVariants.{FiledTwice, NotFiled}
-use Rattle.ss_base.specs.declared.layout.SetLayout.{SetLayout}
-use Rattle.ss_records_entities.specs.declared.records.Records.{Records}
-use Rattle.ss_records_blocks.specs.declared.links.EntityBlock.{EntityBlock}
-use Rattle.ss_records_blocks.specs.Cells.{number, link, word_at}
-use Rattle.ss_world.specs.State.{State, and_then, members_of, contains, is_filed}
-use Rattle.ss_world.specs.Sets.{joiner, owner, put_before, put_after, less, with_list_of, put_in, put_beside, filed_before, filed_after, taken_out}
-use Rattle.ss_world.specs.Lists.{head0, last_or, succ, pred_from, IsInList, IsNotInList, AreAllDistinct}
-use Rattle.ss_records_words.specs.Places.{entity_at}
-use Rattle.ss_records_blocks.specs.Links.{HasLink}
-use Rattle.ss_records_words.specs.Slotted.{member_base, owner_base}
-use Rattle.ss_records_entities.specs.Parts.{IsKept, places, IsInPlace, IsOwnerBlock, CanJoin, AreNeighbours, HasNeighbours}
-use Rattle.ss_records_words.proofs.Splice.{cut, succ_cut, pred_cut, distinct_less, last_splice}
-use Rattle.ss_records_blocks.proofs.Entries.{get_there}
-use Rattle.ss_records_words.proofs.Filed.{contains_in}
+use Rattle.ss_world.specs.Sets.{put_after, put_beside, filed_before, filed_after, taken_out}
+use Rattle.ss_records_words.proofs.Splice.{cut, pred_cut, last_splice}
 use Rattle.ss_records_entities.proofs.Listed.{put_before_cut, put_after_cut, less_cut, not_in_front}
 use Rattle.ss_records_entities.proofs.Leading.{To, leads, at_target, its_number, its_members, positive, first_to, last_to, next_to, prev_to}
 

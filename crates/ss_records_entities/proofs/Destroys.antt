@@ -2,23 +2,11 @@
 use Rattle.std.proofs.Common.{◌≡◌, ℕ, zero, suc, ◌-◌, ◌<◌, true, false, List, [], ◌∷◌, map, length, slice_get, slice_set, Option, Some, None, Ok, Err, inl, inr, refl, sym, ap, subst, ◌∙◌, arith}
 use Rattle.std.specs.Prelude.{ℤ, pos}
 use denote.RawPtr.{Ptr}
-use Rattle.ss_base.specs.declared.layout.Layout.{Layout}
-use Rattle.ss_base.specs.declared.layout.SetLayout.{SetLayout}
-use Rattle.ss_base.specs.declared.layout.Owner.TheVariants.{Class}
-use Rattle.ss_records_blocks.specs.declared.store.BlockPlace.{BlockPlace}
-use Rattle.ss_records_blocks.specs.Cells.{Cells, words_at, word_of, without_block}
-use Rattle.ss_world.specs.State.{Members, members_of, kind_of, and_then, entity_in, number_in, in_a_set, owns_members, let_go, destroyed}
-use Rattle.ss_records_words.specs.Shape.{block_words}
-use Rattle.ss_records_words.specs.Reading.{class_in_words, record_of, record_at, records_at}
-use Rattle.ss_records_words.specs.Kept.{ArePartsKept, AreFormed, IsPermanent, state_of}
-use Rattle.ss_records_blocks.specs.Places.{Numbers}
-use Rattle.ss_records_words.specs.Places.{Directory, lying, own_or, listing, IsMade, IsListedAt, class_at_place}
-use Rattle.ss_records_blocks.proofs.Same.{by_same}
+use Rattle.ss_records_entities.proofs.Common.{and_then, AreFormed, ArePartsKept, block_words, BlockPlace, by_same, Cells, Class, class_at_place, class_in_words, Directory, entity_in, in_a_set, IsListedAt, IsMade, IsNotInList, IsPermanent, kind_of, Layout, listed, listing, lying, Members, members_of, number_in, Numbers, own_or, owns_members, record_at, record_of, records_at, SetLayout, state_of, without_block, word_of, words_at}
+use Rattle.ss_world.specs.State.{let_go, destroyed}
 use Rattle.ss_records_blocks.proofs.Puts.{words_without}
-use Rattle.ss_records_words.proofs.Listing.{listed}
 use Rattle.ss_records_entities.proofs.Keeps.{made_same, entry_is}
 use Rattle.ss_records_entities.proofs.NamesGone.{name_gone}
-use Rattle.ss_world.specs.Lists.{IsNotInList}
 use Rattle.ss_base.specs.declared.fault.FaultKind.TheVariants.{InASet, OwnsMembers}
 use Rattle.ss_records_blocks.proofs.Count.{blocks_without}
 use Rattle.ss_records_blocks.proofs.Entries.{living_gone, length_set}

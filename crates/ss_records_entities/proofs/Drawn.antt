@@ -1,16 +1,6 @@
 -- The first member of a set, and those after it.
 use Rattle.std.proofs.Common.{◌≡◌, ℕ, ◌<◌, List, [], ◌∷◌, length, slice_get, Some, refl, sym, ap, subst, ◌∙◌}
-use Rattle.ss_base.specs.declared.layout.SetLayout.{SetLayout}
-use Rattle.ss_records_entities.specs.declared.records.Records.{Records}
-use Rattle.ss_records_blocks.specs.declared.links.EntityBlock.{EntityBlock}
-use Rattle.ss_records_blocks.specs.Cells.{number, link, word_at}
-use Rattle.ss_world.specs.State.{members_of}
-use Rattle.ss_world.specs.Sets.{less}
-use Rattle.ss_world.specs.Lists.{head0, succ, IsInList, AreAllDistinct}
-use Rattle.ss_records_words.specs.Slotted.{member_base}
-use Rattle.ss_records_entities.specs.Parts.{IsKept, places, CanJoin, HasNeighbours}
-use Rattle.ss_records_words.proofs.Splice.{succ_cut}
-use Rattle.ss_records_blocks.proofs.Entries.{get_there}
+use Rattle.ss_records_entities.proofs.Common.{AreAllDistinct, CanJoin, EntityBlock, get_there, HasNeighbours, head0, IsInList, IsKept, less, link, member_base, members_of, number, places, Records, SetLayout, succ, succ_cut, word_at}
 use Rattle.ss_records_entities.proofs.Listed.{less_cut}
 use Rattle.ss_records_entities.proofs.Leading.{next_to}
 use Rattle.ss_records_entities.proofs.Cuts.{lies_there}

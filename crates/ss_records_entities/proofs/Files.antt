@@ -2,22 +2,10 @@
 use Rattle.std.proofs.Common.{◌≡◌, ℕ, ◌+◌, ◌<◌, ◌==◌, Bool, true, false, List, [], ◌∷◌, ◌++◌, length, slice_get, Some, refl, sym, ap, subst, ◌∙◌, arith}
 use Rattle.std.specs.Prelude.{nat_eq}
 use denote.RawPtr.{Ptr}
-use Rattle.ss_base.specs.declared.layout.SetLayout.{SetLayout}
-use Rattle.ss_records_entities.specs.declared.records.Records.{Records}
-use Rattle.ss_records_blocks.specs.declared.links.EntityBlock.{EntityBlock}
-use Rattle.ss_records_blocks.specs.Cells.{Cells, Memory, IsLink, IsCounter, word_at}
-use Rattle.ss_world.specs.State.{Members, members_of, contains, is_filed, with_members}
-use Rattle.ss_world.specs.Sets.{member_in, owner_in, put_before, less, with_list_of}
-use Rattle.ss_world.specs.Lists.{head0, last_or, IsInList, IsNotInList, AreAllDistinct}
-use Rattle.ss_records_words.specs.Places.{entity_at, owner_at}
-use Rattle.ss_records_words.specs.Kept.{ArePartsKept, state_of}
-use Rattle.ss_records_blocks.specs.Links.{linked_in, unlinked_in, slots_at}
-use Rattle.ss_records_words.specs.Slotted.{slots_of, member_base, owner_base, IsEntityOf, MayOwn}
-use Rattle.ss_records_entities.specs.Parts.{IsKept, state, places, uncounted, IsInPlace, IsOwnerBlock, CanJoin, AreNeighbours, HasNeighbours}
-use Rattle.ss_records_blocks.proofs.Same.{by_same, false_is_not_true}
-use Rattle.ss_records_words.proofs.Splice.{not_in, not_and_in, before_in, after_in, in_left, in_mid, distinct_less}
-use Rattle.ss_records_blocks.proofs.Entries.{get_there}
-use Rattle.ss_records_words.proofs.Filed.{above_zero, not_filed_in, contains_in, in_contains}
+use Rattle.ss_records_entities.proofs.Common.{after_in, AreAllDistinct, AreNeighbours, ArePartsKept, before_in, by_same, CanJoin, Cells, contains, contains_in, distinct_less, entity_at, EntityBlock, false_is_not_true, get_there, HasNeighbours, head0, in_contains, in_left, in_mid, is_filed, IsCounter, IsEntityOf, IsInList, IsInPlace, IsKept, IsNotInList, IsOwnerBlock, last_or, less, linked_in, MayOwn, member_base, member_in, Members, members_of, not_and_in, not_in, owner_at, owner_base, owner_in, places, put_before, Records, SetLayout, slots_of, state, state_of, uncounted, unlinked_in, with_list_of, with_members, word_at}
+use Rattle.ss_records_blocks.specs.Cells.{Memory, IsLink}
+use Rattle.ss_records_blocks.specs.Links.{slots_at}
+use Rattle.ss_records_words.proofs.Filed.{above_zero, not_filed_in}
 use Rattle.ss_records_entities.proofs.Listed.{put_cut, less_cut, not_in_front}
 use Rattle.ss_records_entities.proofs.Leading.{is_link, first_to, last_to, is_counter, next_to, prev_to, owner_to, next_self, prev_self, owner_self}
 use Rattle.ss_records_entities.proofs.Still.{reads_only, unmoved}

@@ -2,15 +2,7 @@
 use Rattle.std.proofs.Common.{◌≡◌, ℕ, suc, false, List, slice_get, Some, inl, inr, sym, ap, subst, ◌∙◌, zero-add}
 use Rattle.std.specs.Prelude.{ℤ}
 use denote.RawPtr.{Ptr}
-use Rattle.ss_base.specs.declared.layout.Owner.TheVariants.{Class}
-use Rattle.ss_base.specs.declared.layout.Layout.{Layout}
-use Rattle.ss_records_entities.specs.declared.records.Records.{Records}
-use Rattle.ss_records_blocks.specs.declared.store.BlockPlace.{BlockPlace}
-use Rattle.ss_records_blocks.specs.Cells.{Cells}
-use Rattle.ss_world.specs.State.{Members, kind_of, members_of, is_filed, has_members, in_a_set, owns_members}
-use Rattle.ss_records_words.specs.Places.{Directory, IsListedAt, class_at_place}
-use Rattle.ss_records_words.specs.Kept.{ArePartsKept, IsPermanent}
-use Rattle.ss_records_entities.specs.Parts.{IsKept, places, IsEntityPlace}
+use Rattle.ss_records_entities.proofs.Common.{ArePartsKept, BlockPlace, Cells, Class, class_at_place, Directory, has_members, in_a_set, is_filed, IsEntityPlace, IsKept, IsListedAt, IsPermanent, kind_of, Layout, Members, members_of, owns_members, places, Records}
 use Rattle.ss_records_words.proofs.Filed.{in_none_of, owns_none_of, not_filed_in, no_members}
 use Rattle.ss_records_entities.proofs.Destroys.{Free}
 

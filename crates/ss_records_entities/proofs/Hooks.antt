@@ -1,12 +1,10 @@
 -- What the two hooks of a filing or a removal do to the words of the set name, at any slots.
 use Rattle.std.proofs.Common.{◌≡◌, ℕ, ◌<◌, true, false, cond, ◌==◌, length, inl, inr, refl, sym, ap, subst, ◌∙◌}
 use denote.RawPtr.{Ptr}
-use Rattle.ss_records_blocks.specs.Cells.{Word, link, Cells, same_ptr, words_at, word_at, put_word}
-use Rattle.ss_records_blocks.specs.Links.{hooked, Slots}
-use Rattle.ss_records_words.specs.Links.{IsOfMember, IsOfOwner, AreSlotsApart}
+use Rattle.ss_records_entities.proofs.Common.{AreSlotsApart, by_same, Cells, differs, hooked, IsOfMember, IsOfOwner, length_put, link, put_other, put_word, same, Slots, Word, word_at, words_at}
+use Rattle.ss_records_blocks.specs.Cells.{same_ptr}
 use Rattle.ss_records_blocks.proofs.Numbers.{same_ptr_refl}
-use Rattle.ss_records_blocks.proofs.Same.{same, differs, by_same}
-use Rattle.ss_records_blocks.proofs.Puts.{words_put, ptr_differs, length_put, word_with, put_other}
+use Rattle.ss_records_blocks.proofs.Puts.{words_put, ptr_differs, word_with}
 
 -- a word that is written, at places that are distinguished by numbers
 pub put_here : (at : ℕ → Ptr) (cs : Cells) (x y k : ℕ) (v : Word) → (at x ≡ at y → x ≡ y) → k < length (words_at cs (at y))

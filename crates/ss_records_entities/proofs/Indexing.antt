@@ -1,19 +1,10 @@
 -- A permanent entity by its index.
 use Rattle.std.proofs.Common.{◌≡◌, ℕ, zero, suc, List, [], ◌∷◌, map, slice_get, Option, Some, None, Ok, Err, inr, refl, sym, ap, ◌∙◌}
 use Rattle.std.specs.Prelude.{Result, MatchResult, ℤ, pos, negsuc}
-use Rattle.ss_base.specs.declared.fault.FaultKind.{FaultKind}
-use Rattle.ss_base.specs.declared.layout.ClassKind.{ClassKind}
-use Rattle.ss_base.specs.declared.layout.ClassKind.TheVariants.{Permanent, Temporary, Notice}
-use Rattle.ss_base.specs.declared.layout.Layout.{Layout}
-use Rattle.ss_records_entities.specs.declared.records.Records.{Records}
-use Rattle.ss_records_blocks.specs.declared.store.BlockPlace.{BlockPlace}
-use Rattle.ss_records_blocks.specs.Cells.{Cells, words_at}
-use Rattle.ss_world.specs.State.{State, Members, entity_in, entity_of_kind, kind_of, indexed, indexed_record, records_in}
-use Rattle.ss_records_words.specs.Reading.{record_of, records_at}
-use Rattle.ss_records_words.specs.Places.{Made, Directory}
+use Rattle.ss_records_entities.proofs.Common.{BlockPlace, Cells, ClassKind, Directory, entity_in, entity_of_kind, FaultKind, IsEntityPlace, IsKept, IsPermanent, kind_of, Layout, Made, Members, Notice, Permanent, places, record_of, Records, records_at, State, state, state_of, Temporary, words_at}
+use Rattle.ss_world.specs.State.{indexed, indexed_record, records_in}
 use Rattle.ss_records_blocks.specs.Places.{row_in}
-use Rattle.ss_records_words.specs.Kept.{IsPermanent, state_of, place_or, indexed_place}
-use Rattle.ss_records_entities.specs.Parts.{IsKept, state, places, IsEntityPlace}
+use Rattle.ss_records_words.specs.Kept.{place_or, indexed_place}
 use Rattle.ss_records_entities.proofs.Keeps.{read_place}
 
 pub of_permanent : (st : State) (k : ClassKind) (c : ℕ) (x : ℤ) → IsPermanent k → entity_of_kind st k c x ≡ indexed st c x

@@ -5,14 +5,8 @@ use Rattle.std.proofs.lemmas.Bool.{lt-ltb, le-leb}
 use Rattle.std.proofs.lemmas.Int.{ints}
 use lib.Signed.{lt_z}
 use Rattle.ss_base.specs.declared.fault.FaultKind.TheVariants.{CreatedTwice}
-use Rattle.ss_records_blocks.specs.declared.store.BlockPlace.{BlockPlace}
-use Rattle.ss_base.specs.declared.layout.Layout.{Layout}
-use Rattle.ss_records_blocks.specs.Cells.{Cells}
-use Rattle.ss_world.specs.State.{State, Members, LAST_NUMBER, MOST_ENTITIES, created, created_all, made_many, with_made, is_made_in}
-use Rattle.ss_records_words.specs.Reading.{record_at, records_at}
-use Rattle.ss_records_words.specs.Kept.{state_of}
-use Rattle.ss_records_blocks.specs.Places.{Numbers}
-use Rattle.ss_records_words.specs.Places.{Made, Directory}
+use Rattle.ss_records_entities.proofs.Common.{BlockPlace, Cells, Directory, LAST_NUMBER, Layout, Made, Members, Numbers, record_at, records_at, State, state_of}
+use Rattle.ss_world.specs.State.{MOST_ENTITIES, created, created_all, made_many, with_made, is_made_in}
 
 -- the words of a block can be asked for
 pub block_fits : (w : ℕ) → (2 ≤ w) × (w < 2 ^ 32) → (0 < w) × (w * 8 < 2 ^ 63)

@@ -4,23 +4,13 @@ use Rattle.std.specs.Prelude.{Result, ℤ, pos, negsuc}
 use Rattle.std.proofs.Math.Dec.{ltb}
 use Rattle.std.proofs.lemmas.Bool.{ltb-true, ltb-false}
 use denote.RawPtr.{Ptr}
-use Rattle.ss_base.specs.declared.fault.FaultKind.{FaultKind}
+use Rattle.ss_records_entities.proofs.Common.{and_then, AreFormed, AreOfClass, ArePartsKept, BlockPlace, Cells, class_at_place, class_in_words, differs, Directory, FaultKind, is_notice, IsListedAt, IsMade, IsNumber, IsOfName, IsPermanent, issued_place, kind_of, Layout, links_start, Made, Members, number, numbered_place, numbered_record, Numbers, of_class, plain, Record, record_at, record_of, records_at, same, state_of, word_at, word_of, words_at}
 use Rattle.ss_base.specs.declared.fault.FaultKind.TheVariants.{WrongClass}
-use Rattle.ss_base.specs.declared.layout.Layout.{Layout}
-use Rattle.ss_records_blocks.specs.declared.store.BlockPlace.{BlockPlace}
-use Rattle.ss_records_blocks.specs.Cells.{number, Cells, IsNumber, words_at, word_of, word_at}
-use Rattle.ss_world.specs.State.{Record, Members, issued_record, numbered_record, and_then, of_class, of_notice, notice, is_notice, kind_of}
-use Rattle.ss_records_words.specs.Reading.{plain, class_in_words, record_of, record_at, records_at}
+use Rattle.ss_world.specs.State.{issued_record, of_notice, notice}
 use Rattle.ss_records_blocks.specs.Writes.{IsWrittenAt}
-use Rattle.ss_records_words.specs.Kept.{ArePartsKept, IsPermanent, AreFormed, AreOfClass, state_of, issued_place, numbered_place}
-use Rattle.ss_records_blocks.specs.Places.{Numbers}
-use Rattle.ss_records_words.specs.Places.{Made, Directory, IsMade, IsListedAt, class_at_place}
-use Rattle.ss_records_words.specs.Shape.{links_start}
-use Rattle.ss_records_words.specs.Slotted.{IsOfName}
 use Rattle.ss_records_blocks.proofs.Puts.{by_ptr}
 use Rattle.ss_records_words.proofs.Disjoint.{above_head}
 use Rattle.ss_records_entities.proofs.NamesKept.{names_same}
-use Rattle.ss_records_blocks.proofs.Same.{same, differs}
 
 abbrev pub read_place : Layout → Cells → Result BlockPlace FaultKind → Result Record FaultKind
 read_place l cs (Ok p) = Ok (record_of l (words_at cs p.at))

@@ -2,24 +2,11 @@
 use Rattle.std.proofs.Common.{◌≡◌, ℕ, ◌+◌, ◌^◌, ◌<◌, ◌≤◌, Bool, true, false, List, [], length, slice_get, Option, Some, None, ◌⊎◌, inl, inr, refl, sym, ap, subst, ◌∙◌, arith}
 use Rattle.std.specs.Prelude.{is_some}
 use denote.RawPtr.{Ptr}
-use Rattle.ss_base.specs.declared.layout.Owner.{Owner}
-use Rattle.ss_base.specs.declared.layout.Owner.TheVariants.{System, Class}
-use Rattle.ss_base.specs.declared.layout.SetLayout.{SetLayout}
-use Rattle.ss_base.specs.declared.layout.Layout.{Layout}
-use Rattle.ss_records_blocks.specs.Cells.{Word, number, counter, link, Cells, IsLink, IsCounter, word_at}
-use Rattle.ss_world.specs.State.{Members, members_of, owner_of, is_filed}
-use Rattle.ss_world.specs.Sets.{member_in, owner_in, member_class, owner_kind, follower, precursor, members_by, companions}
-use Rattle.ss_records_words.specs.Reading.{plain}
-use Rattle.ss_records_words.specs.Places.{Directory, listing, entity_at, owner_at}
-use Rattle.ss_records_words.specs.Kept.{ArePartsKept}
-use Rattle.ss_world.specs.Lists.{head0, last_or, succ, pred_from, IsInList, IsNotInList}
-use Rattle.ss_records_blocks.specs.Links.{HasLink}
-use Rattle.ss_records_words.specs.Slotted.{member_base, owner_base, IsEntityOf, MayOwn}
-use Rattle.ss_records_blocks.proofs.Same.{by_same}
-use Rattle.ss_records_blocks.proofs.Entries.{get_inside, get_there}
+use Rattle.ss_records_entities.proofs.Common.{ArePartsKept, by_same, Cells, Class, counter, Directory, entity_at, entry_of, follower, get_inside, get_there, HasLink, head0, is_filed, IsCounter, IsEntityOf, IsInList, IsNotInList, last_or, Layout, link, listing, MayOwn, member_base, member_class, member_in, Members, members_of, number, Owner, owner_at, owner_base, owner_in, owner_kind, owner_of, plain, precursor, pred_from, pred_is, SetLayout, succ, succ_is, System, Word, word_at}
+use Rattle.ss_records_blocks.specs.Cells.{IsLink}
+use Rattle.ss_world.specs.Sets.{members_by, companions}
 use Rattle.ss_records_words.proofs.Listing.{not_many}
-use Rattle.ss_records_words.proofs.Splice.{head_is, last_is, succ_is, pred_is, succ_differs}
-use Rattle.ss_records_words.proofs.Disjoint.{entry_of}
+use Rattle.ss_records_words.proofs.Splice.{head_is, last_is, succ_differs}
 use Rattle.ss_records_words.proofs.Filed.{number_at, owner_number_at, above_zero, filed_or_not}
 use Rattle.ss_records_entities.proofs.Listed.{follower_is, precursor_is, pred_differs, few}
 

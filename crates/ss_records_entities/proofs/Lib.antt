@@ -1,3 +1,4 @@
+mod Common
 pub mod Apart
 pub mod Assigns
 pub mod Attributes

@@ -1,11 +1,9 @@
 -- The lists of the sets once one of them has changed, and lists with a member put in or taken out.
 use Rattle.std.proofs.Common.{◌≡◌, ℕ, zero, suc, ◌≤◌, Bool, true, false, cond, ◌==◌, List, [], ◌∷◌, ◌++◌, length, inl, inr, refl, sym, ap, subst, ◌∙◌, arith}
 use Rattle.std.specs.Prelude.{◌&&◌}
-use Rattle.ss_world.specs.State.{Members, members_of, with_members}
-use Rattle.ss_world.specs.Lists.{head0, succ, pred_from, IsInList, IsNotInList, AreAllDistinct, with_list}
-use Rattle.ss_world.specs.Sets.{follower, precursor, put_before, put_after, less}
-use Rattle.ss_records_blocks.proofs.Same.{same, differs, by_same}
-use Rattle.ss_records_words.proofs.Splice.{not_and_in, in_left, distinct_less, length_splice, cut, in_or_not, not_in_mid}
+use Rattle.ss_records_entities.proofs.Common.{AreAllDistinct, by_same, differs, distinct_less, follower, head0, in_left, IsInList, IsNotInList, length_splice, less, Members, members_of, not_and_in, precursor, pred_from, put_before, same, succ, with_list, with_members}
+use Rattle.ss_world.specs.Sets.{put_after}
+use Rattle.ss_records_words.proofs.Splice.{cut, in_or_not, not_in_mid}
 
 both : (b c : Bool) → b ≡ true → c ≡ true → (b && c) ≡ true
 both b c e f = (λ i. e i && f i)

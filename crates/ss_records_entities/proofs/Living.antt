@@ -2,22 +2,13 @@
 use Rattle.std.proofs.Common.{◌≡◌, ℕ, zero, suc, ◌+◌, ◌<◌, ◌≤◌, List, [], ◌∷◌, map, length, drop, slice_get, Option, Some, None, inl, inr, refl, sym, ap, subst, ◌∙◌, arith}
 use Rattle.std.specs.Prelude.{replicate}
 use denote.RawPtr.{Ptr}
-use Rattle.ss_base.specs.declared.layout.ClassLayout.{ClassLayout}
-use Rattle.ss_base.specs.declared.layout.Layout.{Layout}
-use Rattle.ss_base.specs.declared.layout.Owner.TheVariants.{System, Class}
-use Rattle.ss_records_blocks.specs.declared.store.BlockPlace.{BlockPlace}
-use Rattle.ss_records_blocks.specs.Cells.{Cells, words_at, blanks, without_block}
-use Rattle.ss_world.specs.State.{Members, not_made as unmade, living_numbers, made_entities, living_records}
-use Rattle.ss_records_words.specs.Shape.{block_words}
-use Rattle.ss_records_words.specs.Reading.{class_in_words, record_of, record_at, records_at}
-use Rattle.ss_records_blocks.specs.Places.{row_in, Numbers, living_count}
-use Rattle.ss_records_words.specs.Kept.{ArePartsKept, IsSmall, AreRowsHeld, state_of}
-use Rattle.ss_records_words.specs.Places.{Made, Directory, lying, IsMade, IsListedAt, permanent_count}
-use Rattle.ss_records_words.specs.Laid.{IsSystemLaid}
+use Rattle.ss_records_entities.proofs.Common.{ArePartsKept, blanks, block_words, BlockPlace, Cells, Class, class_in_words, ClassLayout, Directory, IsListedAt, IsMade, IsSmall, IsSystemLaid, Layout, length-blanks, listed, lying, Made, Members, Numbers, permanent_count, record_at, record_of, records_at, state_of, System, without_block, words_at, words_new}
+use Rattle.ss_world.specs.State.{not_made as unmade, living_numbers, made_entities, living_records}
+use Rattle.ss_records_blocks.specs.Places.{row_in, living_count}
+use Rattle.ss_records_words.specs.Kept.{AreRowsHeld}
 use Rattle.ss_records_blocks.specs.Pages.{in_page}
-use Rattle.ss_records_blocks.proofs.Puts.{words_new, words_without, length-blanks}
+use Rattle.ss_records_blocks.proofs.Puts.{words_without}
 use Rattle.ss_records_blocks.proofs.Count.{blocks_without}
-use Rattle.ss_records_words.proofs.Listing.{listed}
 use Rattle.ss_records_entities.proofs.Destroys.{not_made}
 use Rattle.ss_records_entities.proofs.NamesGone.{name_first}
 

@@ -5,20 +5,8 @@ use Rattle.std.specs.Int.{cast_signed}
 use Rattle.std.proofs.lemmas.Int.{ints}
 use mir.Syntax.{w64}
 use denote.RawPtr.{Ptr}
-use Rattle.ss_base.specs.declared.fault.FaultKind.{FaultKind}
-use Rattle.ss_base.specs.declared.layout.SetLayout.{SetLayout}
-use Rattle.ss_records_entities.specs.declared.records.Records.{Records}
-use Rattle.ss_records_blocks.specs.declared.links.EntityBlock.{EntityBlock}
-use Rattle.ss_records_blocks.specs.Cells.{number, counter, link, IsCounter, word_at}
-use Rattle.ss_world.specs.State.{State, and_then, members_of, owner_of, is_filed}
-use Rattle.ss_world.specs.Sets.{joiner, owner, as_number, companions, follower, precursor, first_in, last_in, count_in, next_in, previous_in, owner_of_member}
-use Rattle.ss_world.specs.Lists.{head0, last_or, succ, pred_from, IsInList}
-use Rattle.ss_records_words.specs.Places.{entity_at, owner_at}
-use Rattle.ss_records_blocks.specs.Links.{HasLink}
-use Rattle.ss_records_words.specs.Slotted.{member_base, owner_base}
-use Rattle.ss_records_entities.specs.Parts.{IsKept, state, places, IsOwnerBlock, CanJoin}
-use Rattle.ss_records_blocks.proofs.Same.{differs, by_same}
-use Rattle.ss_records_blocks.proofs.Entries.{get_there}
+use Rattle.ss_records_entities.proofs.Common.{and_then, by_same, CanJoin, counter, differs, entity_at, EntityBlock, FaultKind, follower, get_there, HasLink, head0, is_filed, IsCounter, IsInList, IsKept, IsOwnerBlock, joiner, last_or, link, member_base, members_of, number, owner, owner_at, owner_base, owner_of, places, precursor, pred_from, Records, SetLayout, State, state, succ, word_at}
+use Rattle.ss_world.specs.Sets.{as_number, companions, first_in, last_in, count_in, next_in, previous_in, owner_of_member}
 use Rattle.ss_records_entities.proofs.Leading.{To, leads, its_number, first_to, last_to, is_counter, count_is, count_small, Beside, next_beside, prev_beside, owner_to, filed_is, next_value, prev_value, in_which}
 
 pub as_whole : (n m : ℕ) → n ≡ m → m < 2 ^ 62 → cast_signed w64 n ≡ pos m

@@ -2,21 +2,11 @@
 use Rattle.std.proofs.Common.{◌≡◌, ℕ, zero, suc, ◌+◌, ◌^◌, ◌<◌, ◌≤◌, List, [], ◌∷◌, ◌++◌, map, length, slice_get, slice_set, Option, Some, None, ◌⊎◌, inl, inr, refl, sym, ap, subst, ◌∙◌, arith}
 use Rattle.std.specs.Prelude.{replicate}
 use denote.RawPtr.{Ptr}
-use Rattle.ss_base.specs.declared.layout.Layout.{Layout}
-use Rattle.ss_base.specs.declared.layout.Owner.TheVariants.{System, Class}
-use Rattle.ss_records_blocks.specs.declared.store.BlockPlace.{BlockPlace}
-use Rattle.ss_records_blocks.specs.Cells.{Cells, words_at, word_of}
-use Rattle.ss_world.specs.State.{Record, Members, kind_of, first_record, with_made}
-use Rattle.ss_records_words.specs.Shape.{block_words}
-use Rattle.ss_records_words.specs.Reading.{plain, class_in_words, record_of, record_at, records_at}
-use Rattle.ss_records_words.specs.Places.{Made, Directory, lying, own_or, listing, IsMade, IsListedAt, class_at_place, permanent_count}
-use Rattle.ss_records_words.specs.Kept.{ArePartsKept, AreFormed, AreOfClass, IsPermanent, state_of}
+use Rattle.ss_records_entities.proofs.Common.{AreFormed, AreOfClass, ArePartsKept, block_words, BlockPlace, by_same, Cells, Class, class_at_place, class_in_words, Directory, entry_of, is_of, IsBorn, IsEntityOf, IsListedAt, IsMade, IsPermanent, kind_of, Layout, listed, listing, lying, Made, Members, own_or, permanent_count, plain, Record, record_at, record_of, records_at, state_of, System, word_of, words_at}
+use Rattle.ss_world.specs.State.{first_record, with_made}
 use Rattle.ss_records_blocks.specs.Writes.{HasNoneAt, ArePlaced, AreUnchanged}
-use Rattle.ss_records_words.specs.Laid.{IsBorn, AreLaidTo}
-use Rattle.ss_records_words.specs.Slotted.{IsEntityOf}
-use Rattle.ss_records_blocks.proofs.Same.{by_same}
-use Rattle.ss_records_words.proofs.Listing.{unmapped, listed}
-use Rattle.ss_records_words.proofs.Disjoint.{entry_of, is_of}
+use Rattle.ss_records_words.specs.Laid.{AreLaidTo}
+use Rattle.ss_records_words.proofs.Listing.{unmapped}
 use Rattle.ss_records_entities.proofs.Keeps.{map_same, made_same}
 use Rattle.ss_records_entities.proofs.NamesCreated.{name_born}
 use Rattle.ss_records_blocks.proofs.Entries.{living_bound}

@@ -2,10 +2,8 @@
 -- or those of newcomers without lists.
 use Rattle.std.proofs.Common.{◌≡◌, ℕ, List, [], length, ◌⊎◌, inl, inr, sym, ap, subst, ◌∙◌}
 use denote.RawPtr.{Ptr}
-use Rattle.ss_records_blocks.specs.Cells.{counter, link}
-use Rattle.ss_world.specs.Lists.{head0, last_or, succ, pred_from, IsInList, IsNotInList}
-use Rattle.ss_records_words.specs.Links.{Words, AreShowing}
-use Rattle.ss_records_words.proofs.Splice.{head_is, last_is, succ_is, pred_is, not_and_in}
+use Rattle.ss_records_entities.proofs.Common.{AreShowing, counter, head0, IsInList, IsNotInList, last_or, link, not_and_in, pred_from, pred_is, succ, succ_is, Words}
+use Rattle.ss_records_words.proofs.Splice.{head_is, last_is}
 
 module _ (m m' : Words) (at at' home home' : ℕ → Ptr) (alive alive' owns owns' : ℕ → Type 0) (f : ℕ → List ℕ) where
   abbrev pub OldMember : ℕ → Type 0

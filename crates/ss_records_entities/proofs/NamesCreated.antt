@@ -1,27 +1,11 @@
 -- The links of a set name once an entity is new or gone.
 use Rattle.std.proofs.Common.{◌≡◌, ℕ, suc, ◌+◌, ◌-◌, ◌*◌, ◌<◌, ◌≤◌, List, [], ◌∷◌, slice_get, Some, ◌⊎◌, inl, inr, refl, sym, ap, subst, ◌∙◌, arith}
 use denote.RawPtr.{Ptr}
-use Rattle.ss_base.specs.declared.layout.Owner.{Owner}
-use Rattle.ss_base.specs.declared.layout.Owner.TheVariants.{System, Class}
-use Rattle.ss_base.specs.declared.layout.SetLayout.{SetLayout}
-use Rattle.ss_base.specs.declared.layout.Layout.{Layout}
-use Rattle.ss_records_blocks.specs.declared.store.BlockPlace.{BlockPlace}
-use Rattle.ss_records_blocks.specs.Cells.{Cells, words_at, word_of, word_at, link, counter}
-use Rattle.ss_world.specs.State.{Members, members_of}
-use Rattle.ss_records_words.specs.Shape.{owned_start, block_words, count_before, owned_by}
-use Rattle.ss_records_words.specs.Reading.{class_in_words}
-use Rattle.ss_records_words.specs.Places.{Directory, listing, place_in_record, entity_at, owner_at, class_at_place}
-use Rattle.ss_records_words.specs.Kept.{ArePartsKept}
+use Rattle.ss_records_entities.proofs.Common.{ArePartsKept, block_words, BlockPlace, Cells, Class, class_at_place, class_in_words, count_before, counter, Directory, entity_at, entry_of, is_of, IsBorn, IsEntityOf, IsInList, IsNameKept, IsOfMember, IsOfOwner, Layout, link, listing, MayOwn, Members, members_of, not_in, owned_by, owned_start, Owner, owner_at, place_in_record, SetLayout, Slots, slots_of, System, word_at, word_of, Words, words_at, words_of}
 use Rattle.ss_records_blocks.specs.Writes.{owned_word, owned_from}
-use Rattle.ss_records_words.specs.Laid.{IsBorn}
-use Rattle.ss_world.specs.Lists.{IsInList}
-use Rattle.ss_records_blocks.specs.Links.{Slots}
-use Rattle.ss_records_words.specs.Links.{Words, words_of, IsOfMember, IsOfOwner}
-use Rattle.ss_records_words.specs.Slotted.{slots_of, IsEntityOf, MayOwn, IsNameKept}
-use Rattle.ss_records_words.proofs.Splice.{not_in}
 use Rattle.ss_records_blocks.proofs.Fills.{owned_first, owned_last, owned_count}
 use Rattle.ss_records_entities.proofs.Moved.{OldMember, NewMember, OldOwner, NewOwner, shows_moved}
-use Rattle.ss_records_words.proofs.Disjoint.{member_inside, owner_inside, entry_of, is_of}
+use Rattle.ss_records_words.proofs.Disjoint.{member_inside, owner_inside}
 
 pub empty : (l : List ℕ) → ((n : ℕ) → IsInList n l → ⊥) → l ≡ []
 empty [] h = refl

@@ -1,20 +1,8 @@
 -- The links of a set name where its words are as they were.
 use Rattle.std.proofs.Common.{◌≡◌, ℕ, List, slice_get, Some, inl, inr, refl, sym, subst, ◌∙◌}
 use denote.RawPtr.{Ptr}
-use Rattle.ss_base.specs.declared.layout.Owner.{Owner}
-use Rattle.ss_base.specs.declared.layout.Owner.TheVariants.{System, Class}
-use Rattle.ss_base.specs.declared.layout.SetLayout.{SetLayout}
-use Rattle.ss_base.specs.declared.layout.Layout.{Layout}
-use Rattle.ss_records_blocks.specs.declared.store.BlockPlace.{BlockPlace}
-use Rattle.ss_records_blocks.specs.Cells.{Cells, word_at}
-use Rattle.ss_world.specs.State.{Members, members_of}
-use Rattle.ss_records_words.specs.Places.{Directory, IsListedAt, entity_at, owner_at, class_at_place}
-use Rattle.ss_records_words.specs.Kept.{ArePartsKept}
-use Rattle.ss_records_words.specs.Links.{words_of}
-use Rattle.ss_records_words.specs.Slotted.{slots_of, IsEntityOf, MayOwn, IsNameKept, IsOfName}
+use Rattle.ss_records_entities.proofs.Common.{ArePartsKept, BlockPlace, Cells, Class, class_at_place, Directory, entity_at, entry_of, is_of, IsEntityOf, IsListedAt, IsNameKept, IsOfName, Layout, listed, MayOwn, Members, members_of, Owner, owner_at, SetLayout, slots_of, System, word_at, words_of}
 use Rattle.ss_records_entities.proofs.Moved.{shows_moved}
-use Rattle.ss_records_words.proofs.Listing.{listed}
-use Rattle.ss_records_words.proofs.Disjoint.{entry_of, is_of}
 
 -- classes that stay the same
 module _ (cs ds : Cells) (d : Directory) (classes : (j : ℕ) (q : BlockPlace) → IsListedAt d j q → class_at_place ds q ≡ class_at_place cs q) where

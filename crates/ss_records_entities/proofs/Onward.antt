@@ -3,26 +3,9 @@ use Rattle.std.proofs.Common.{◌≡◌, ℕ, ◌+◌, ◌^◌, ◌<◌, Bool, t
 use Rattle.std.specs.Prelude.{ℤ, pos, negsuc, if◌then◌else◌, is_some, Result}
 use Rattle.std.specs.Int.{cast_signed}
 use mir.Syntax.{w64}
-use Rattle.ss_base.specs.declared.fault.FaultKind.{FaultKind}
-use Rattle.ss_base.specs.declared.layout.ClassKind.{ClassKind}
-use Rattle.ss_base.specs.declared.layout.ClassKind.TheVariants.{Permanent, Temporary, Notice}
-use Rattle.ss_base.specs.declared.layout.Owner.{Owner}
-use Rattle.ss_base.specs.declared.layout.Owner.TheVariants.{System, Class}
-use Rattle.ss_base.specs.declared.layout.SetLayout.{SetLayout}
-use Rattle.ss_records_entities.specs.declared.records.Records.{Records}
-use Rattle.ss_records_blocks.specs.declared.links.EntityBlock.{EntityBlock}
-use Rattle.ss_records_blocks.specs.Cells.{number, link, word_at}
-use Rattle.ss_world.specs.State.{State, Record, and_then, entity_of_kind, kind_of, number_in, members_of, contains, owner_of, is_filed}
-use Rattle.ss_world.specs.Sets.{joiner, owner, owner_in, owner_kind, owner_by, next_in, previous_in}
+use Rattle.ss_records_entities.proofs.Common.{and_then, CanJoin, Class, ClassKind, contains, contains_in, differs, entity_at, entity_of_kind, EntityBlock, false_is_not_true, FaultKind, get_there, HasLink, in_contains, is_filed, IsInList, IsKept, joiner, kind_of, link, MayOwn, member_base, members_of, Notice, number, number_in, Owner, owner, owner_in, owner_kind, owner_of, Permanent, places, Record, Records, SetLayout, State, state, System, Temporary, word_at}
+use Rattle.ss_world.specs.Sets.{owner_by, next_in, previous_in}
 use Rattle.ss_world.specs.Disciplines.{member_test}
-use Rattle.ss_world.specs.Lists.{IsInList}
-use Rattle.ss_records_blocks.specs.Links.{HasLink}
-use Rattle.ss_records_words.specs.Places.{entity_at}
-use Rattle.ss_records_words.specs.Slotted.{member_base, MayOwn}
-use Rattle.ss_records_entities.specs.Parts.{IsKept, state, places, CanJoin}
-use Rattle.ss_records_blocks.proofs.Same.{differs, false_is_not_true}
-use Rattle.ss_records_blocks.proofs.Entries.{get_there}
-use Rattle.ss_records_words.proofs.Filed.{contains_in, in_contains}
 use Rattle.ss_records_entities.proofs.Leading.{its_number, next_beside, prev_beside}
 use Rattle.ss_records_entities.proofs.Looks.{next_leads, prev_leads, next_small, prev_small, next_fits, prev_fits, is_filed_value, next_is, prev_is, as_whole, owner_has, owner_small}
 use Rattle.ss_records_entities.proofs.Ends.{tested}

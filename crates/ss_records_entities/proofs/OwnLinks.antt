@@ -1,17 +1,7 @@
 -- Whether an entity is in a set, by the words of its own block.
 use Rattle.std.proofs.Common.{◌≡◌, ℕ, suc, inl, true, false, slice_get, Some, ap, sym, subst, ◌∙◌}
 use Rattle.std.specs.Prelude.{not, nat_eq}
-use Rattle.ss_base.specs.declared.layout.SetLayout.{SetLayout}
-use Rattle.ss_records_blocks.specs.declared.store.BlockPlace.{BlockPlace}
-use Rattle.ss_records_blocks.specs.declared.links.EntityBlock.{EntityBlock}
-use Rattle.ss_records_entities.specs.declared.records.Records.{Records}
-use Rattle.ss_records_blocks.specs.Cells.{number, link, word_at}
-use Rattle.ss_records_blocks.specs.Links.{HasLink}
-use Rattle.ss_world.specs.State.{is_filed}
-use Rattle.ss_records_words.specs.Places.{entity_at, class_at_place}
-use Rattle.ss_records_words.specs.Slotted.{member_base}
-use Rattle.ss_records_entities.specs.Parts.{IsKept, places}
-use Rattle.ss_records_blocks.proofs.Same.{differs, by_same}
+use Rattle.ss_records_entities.proofs.Common.{BlockPlace, by_same, class_at_place, differs, entity_at, EntityBlock, HasLink, is_filed, IsKept, link, member_base, number, places, Records, SetLayout, word_at}
 use Rattle.ss_records_words.proofs.Tied.{its_next, next_word, filed_value}
 
 -- where its links of a set begin at the word k

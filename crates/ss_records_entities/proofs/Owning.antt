@@ -1,24 +1,10 @@
 -- What a reference means as an owner, or as one that may be a member, of a set.
 use Rattle.std.proofs.Common.{◌≡◌, ℕ, suc, ◌<◌, true, length, slice_get, Some, Ok, Err, refl, sym, ap, subst, ◌∙◌}
 use Rattle.std.specs.Prelude.{ℤ}
-use Rattle.ss_base.specs.declared.fault.FaultKind.{FaultKind}
-use Rattle.ss_base.specs.declared.layout.Owner.{Owner}
-use Rattle.ss_base.specs.declared.layout.Owner.TheVariants.{System, Class}
-use Rattle.ss_base.specs.declared.layout.SetLayout.{SetLayout}
-use Rattle.ss_base.specs.declared.layout.Layout.{Layout}
-use Rattle.ss_records_entities.specs.declared.records.Records.{Records}
-use Rattle.ss_records_blocks.specs.declared.store.BlockPlace.{BlockPlace}
-use Rattle.ss_records_blocks.specs.Cells.{number, IsNumber, word_at}
-use Rattle.ss_world.specs.State.{State, and_then, entity_in, number_in}
-use Rattle.ss_world.specs.Sets.{member_class, owner_kind, joiner, owner_by, owner}
-use Rattle.ss_records_words.specs.Reading.{plain}
-use Rattle.ss_records_words.specs.Places.{listing, place_in_record, entity_at, owner_at}
-use Rattle.ss_records_words.specs.Slotted.{IsEntityOf, MayOwn}
+use Rattle.ss_records_entities.proofs.Common.{and_then, BlockPlace, CanJoin, Class, entity_at, entity_in, FaultKind, get_there, is_of, IsEntityOf, IsEntityPlace, IsKept, IsNumber, IsOwnerBlock, joiner, Layout, listing, MayOwn, member_class, number, number_in, Owner, owner, owner_at, owner_kind, place_in_record, places, plain, Records, SetLayout, State, state, System, word_at}
+use Rattle.ss_world.specs.Sets.{owner_by}
 use Rattle.ss_records_words.specs.Plans.{is_system}
-use Rattle.ss_records_entities.specs.Parts.{IsKept, state, places, IsEntityPlace, IsOwnerBlock, CanJoin}
 use Rattle.ss_records_words.proofs.Listing.{lists_place}
-use Rattle.ss_records_words.proofs.Disjoint.{is_of}
-use Rattle.ss_records_blocks.proofs.Entries.{get_there}
 
 module _ (r : Records) (K : IsKept r) (c : ℕ) (x : ℤ) (p : BlockPlace) (f : IsEntityPlace r c x p) where
   pub has_number : IsNumber (word_at r.blocks.cells p.at 1)

@@ -4,30 +4,11 @@ use Rattle.std.specs.Prelude.{ℤ, pos, not}
 use Rattle.std.specs.Ordering.{match_ordering, int_cmp}
 use denote.RawPtr.{Ptr}
 use Rattle.ss_base.specs.Order.{value_cmp}
-use Rattle.ss_base.specs.declared.value.Value.{Value}
-use Rattle.ss_base.specs.declared.value.Value.TheVariants.{Whole}
-use Rattle.ss_base.specs.declared.layout.Mode.{Mode}
-use Rattle.ss_base.specs.declared.layout.Mode.TheVariants.{Integer}
-use Rattle.ss_base.specs.declared.layout.SetLayout.{SetLayout}
-use Rattle.ss_records_blocks.specs.declared.store.BlockPlace.{BlockPlace}
-use Rattle.ss_records_entities.specs.declared.records.Records.{Records}
-use Rattle.ss_records_blocks.specs.declared.links.EntityBlock.{EntityBlock}
-use Rattle.ss_records_blocks.specs.Cells.{number, link, IsNumber, words_at, word_at}
-use Rattle.ss_world.specs.State.{members_of, modes_of, entity_in, value_in}
-use Rattle.ss_world.specs.Sets.{member_class}
+use Rattle.ss_records_entities.proofs.Common.{AreAllDistinct, AreNeighbours, BlockPlace, CanJoin, class_at_place, entity_at, entity_in, EntityBlock, entry_of, get_there, HasLink, head0, Integer, IsInList, IsInPlace, IsKept, IsListedAt, IsNumber, length_splice, link, listed, member_base, member_class, members_of, Mode, modes_of, number, place_in_record, places, ranks_past, record_of, Records, SetLayout, state, succ, succ_cut, Value, value_at, value_in, Whole, word_at, words_at}
 use Rattle.ss_world.specs.Disciplines.{value_or_zero}
-use Rattle.ss_world.specs.Lists.{head0, succ, IsInList, AreAllDistinct}
-use Rattle.ss_records_words.specs.Reading.{record_of, value_at}
-use Rattle.ss_records_words.specs.Places.{IsListedAt, place_in_record, entity_at, class_at_place}
-use Rattle.ss_records_blocks.specs.Links.{HasLink}
-use Rattle.ss_records_words.specs.Slotted.{member_base}
-use Rattle.ss_records_entities.specs.Parts.{IsKept, state, places, IsInPlace, CanJoin, AreNeighbours}
-use Rattle.ss_records_entities.specs.Passing.{ranks_past, first_where, before_where}
-use Rattle.ss_records_blocks.proofs.Entries.{get_there}
-use Rattle.ss_records_words.proofs.Listing.{listed}
-use Rattle.ss_records_words.proofs.Disjoint.{entry_of}
+use Rattle.ss_records_entities.specs.Passing.{first_where, before_where}
 use Rattle.ss_records_entities.proofs.Assigns.{first_number, second_number, is_value}
-use Rattle.ss_records_words.proofs.Splice.{head_in, succ_cut, length_splice}
+use Rattle.ss_records_words.proofs.Splice.{head_in}
 use Rattle.ss_records_entities.proofs.Leading.{To, leads, next_to, small_of, count_small}
 use Rattle.ss_records_entities.proofs.Apart.{entity_is}
 use Rattle.ss_records_entities.proofs.Cuts.{lies_there}

@@ -3,13 +3,10 @@ use Rattle.std.proofs.Common.{◌≡◌, ℕ, zero, suc, ◌+◌, ◌*◌, ◌�
 use Rattle.std.specs.Prelude.{pos, ℤ}
 use Rattle.std.specs.Int.{cast_signed}
 use mir.Syntax.{w64}
-use Rattle.ss_base.specs.declared.value.Value.{Value}
-use Rattle.ss_base.specs.declared.layout.Mode.{Mode}
-use Rattle.ss_base.specs.declared.layout.Layout.{Layout}
-use Rattle.ss_records_blocks.specs.Cells.{Word, number, word_of, with_word}
-use Rattle.ss_world.specs.State.{Record, kind_of, modes_of, is_notice, record_with_value, with_time}
-use Rattle.ss_records_words.specs.Shape.{values_end, links_start}
-use Rattle.ss_records_words.specs.Reading.{plain, value_of_words, values_from, class_in_words, record_of}
+use Rattle.ss_records_entities.proofs.Common.{class_in_words, is_notice, kind_of, Layout, links_start, Mode, modes_of, number, plain, Record, record_of, Value, value_of_words, values_end, Word, word_of}
+use Rattle.ss_records_blocks.specs.Cells.{with_word}
+use Rattle.ss_world.specs.State.{record_with_value, with_time}
+use Rattle.ss_records_words.specs.Reading.{values_from}
 use Rattle.ss_records_blocks.proofs.Numbers.{length-with_word}
 use Rattle.ss_records_blocks.proofs.Puts.{word_other, word_here}
 

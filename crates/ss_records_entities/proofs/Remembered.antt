@@ -3,30 +3,13 @@ use Rattle.std.proofs.Common.{◌≡◌, ℕ, zero, suc, ◌+◌, ◌-◌, ◌%�
 use Rattle.std.specs.Prelude.{ℤ, pos, negsuc, if◌then◌else◌, ◌⊎◌}
 use Rattle.std.proofs.lemmas.Int.{ints}
 use Rattle.std.proofs.lemmas.Option.{slice_get_within}
-use Rattle.ss_base.specs.declared.layout.ClassKind.{ClassKind}
-use Rattle.ss_base.specs.declared.layout.ClassKind.TheVariants.{Permanent, Temporary, Notice}
-use Rattle.ss_base.specs.declared.layout.SetLayout.{SetLayout}
-use Rattle.ss_records_entities.specs.declared.records.Records.{Records}
-use Rattle.ss_records_blocks.specs.declared.store.BlockPlace.{BlockPlace}
-use Rattle.ss_records_blocks.specs.declared.links.EntityBlock.{EntityBlock}
-use Rattle.ss_records_blocks.specs.Cells.{number, link, word_at}
-use Rattle.ss_world.specs.State.{entity_in, kind_of, members_of}
-use Rattle.ss_world.specs.Sets.{member_class}
-use Rattle.ss_world.specs.Lists.{IsInList}
-use Rattle.ss_records_blocks.specs.Places.{Numbers}
-use Rattle.ss_records_words.specs.Places.{IsListedAt, place_in_record, entity_at, class_at_place}
-use Rattle.ss_records_words.specs.Kept.{IsPermanent, issued_place, numbered_place}
-use Rattle.ss_records_words.specs.Slotted.{member_base}
+use Rattle.ss_records_entities.proofs.Common.{BlockPlace, CanJoin, class_at_place, ClassKind, entity_at, entity_in, EntityBlock, entry_of, IsEntityPlace, IsInList, IsInPlace, IsKept, IsListedAt, IsPermanent, issued_place, kind_of, link, listed, member_base, member_class, members_of, Notice, number, numbered_place, Numbers, Permanent, place_in_record, places, pred_is, Records, SetLayout, state, succ_is, Temporary, word_at}
 use Rattle.ss_records_words.specs.Plans.{is_permanent_kind}
-use Rattle.ss_records_entities.specs.Parts.{IsKept, state, places, IsEntityPlace, IsInPlace, CanJoin}
 use Rattle.ss_records_entities.proofs.Apart.{entity_is}
 use Rattle.ss_records_entities.proofs.Cuts.{lies_there}
-use Rattle.ss_records_words.proofs.Disjoint.{entry_of}
 use Rattle.ss_records_entities.proofs.Ends.{joins_it}
 use Rattle.ss_records_entities.proofs.Keeps.{there}
 use Rattle.ss_records_entities.proofs.Leading.{next_to, prev_to}
-use Rattle.ss_records_words.proofs.Listing.{listed}
-use Rattle.ss_records_words.proofs.Splice.{succ_is, pred_is}
 
 -- where it is, by the word of its number
 pub numbered_at : (ps : Numbers) → length ps < 2 ^ 62 → (x : ℤ) → FitsSigned w64 x → (i : ℕ) → i ≡ of_z w64 x → (p : BlockPlace) → slice_get ps ((i + 18446744073709551615) % 18446744073709551616) ≡ Some (Some p) → numbered_place ps x ≡ Ok p

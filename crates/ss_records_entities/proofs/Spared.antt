@@ -2,18 +2,8 @@
 use Rattle.std.proofs.Common.{◌≡◌, ℕ, suc, ◌<◌, List, map, length, slice_get, Some, None, inl, inr, refl, sym, ap, subst, ◌∙◌, arith}
 use Rattle.std.specs.Prelude.{Option}
 use denote.RawPtr.{Ptr}
-use Rattle.ss_base.specs.declared.layout.SetLayout.{SetLayout}
-use Rattle.ss_base.specs.declared.layout.Layout.{Layout}
-use Rattle.ss_records_blocks.specs.declared.store.BlockPlace.{BlockPlace}
-use Rattle.ss_records_blocks.specs.Cells.{Cells, IsNumber, words_at, word_at}
-use Rattle.ss_world.specs.State.{Members, kind_of, members_of}
-use Rattle.ss_records_words.specs.Shape.{links_start}
-use Rattle.ss_records_words.specs.Reading.{plain, record_of, record_at, records_at}
-use Rattle.ss_records_words.specs.Places.{Directory, IsListedAt, entity_at, owner_at, class_at_place}
-use Rattle.ss_records_words.specs.Kept.{ArePartsKept, AreFormed, AreOfClass, IsPermanent}
-use Rattle.ss_records_words.specs.Links.{Words, AreShowing, words_of}
-use Rattle.ss_records_words.specs.Slotted.{slots_of, IsNameKept, IsEntityOf, MayOwn, IsOfName, AreSpared}
-use Rattle.ss_records_blocks.proofs.Same.{by_same}
+use Rattle.ss_records_entities.proofs.Common.{AreFormed, AreOfClass, ArePartsKept, AreShowing, BlockPlace, by_same, Cells, class_at_place, Directory, entity_at, IsEntityOf, IsListedAt, IsNameKept, IsNumber, IsOfName, IsPermanent, kind_of, Layout, links_start, MayOwn, Members, members_of, owner_at, plain, record_at, record_of, records_at, SetLayout, slots_of, word_at, Words, words_at, words_of}
+use Rattle.ss_records_words.specs.Slotted.{AreSpared}
 use Rattle.ss_records_entities.proofs.ReadWords.{record_same}
 use Rattle.ss_records_entities.proofs.Keeps.{map_same, made_same}
 use Rattle.ss_records_entities.proofs.Moved.{shows_moved}

@@ -1,6 +1,5 @@
 use Rattle.std.proofs.Common.{rules, ◌≡◌, ◌++◌, [], ◌∷◌}
-use Rattle.ss_meaning.specs.Values.{line_end}
-use Rattle.ss_picture.specs.Pictures.{filled}
+use Rattle.ss_machine.proofs.Common.{filled, line_end}
 use Rattle.ss_machine.proofs.Known.{first_of}
 use Rattle.ss_machine.proofs.printing.print_line.Goals as goal
 

@@ -1,8 +1,7 @@
 use Rattle.std.proofs.Common.{rules, ◌≡◌, ◌+◌, ◌++◌, [], ◌∷◌, min, length, drop, refl, sym, ap, ◌∙◌, arith}
 use Rattle.std.proofs.lemmas.List.{append_assoc}
 use Rattle.std.proofs.lemmas.Result.{err_from_is_err_and}
-use Rattle.ss_meaning.specs.Values.{lines_with, line_end}
-use Rattle.ss_picture.specs.Pictures.{filled, picture_fields}
+use Rattle.ss_machine.proofs.Common.{filled, line_end, lines_with, picture_fields}
 use Rattle.ss_machine.proofs.Known.{turn, took_both, part_after}
 use Rattle.ss_machine.proofs.Fields.{now_suits, later_suits}
 use Rattle.ss_machine.proofs.printing.print_lines.Goals as goal

@@ -1,9 +1,7 @@
 use Rattle.std.proofs.Common.{◌≡◌, ◌++◌, ℕ, List, drop}
 use Rattle.std.specs.Io.KnownBytes.{Appends}
 use Rattle.std.specs.List.{flat_map}
-use Rattle.ss_base.specs.Failures.{HasRisenBy}
-use Rattle.ss_meaning.specs.Values.{lines_with}
-use Rattle.ss_picture.specs.Pictures.{picture_fields}
+use Rattle.ss_machine.proofs.Common.{HasRisenBy, lines_with, picture_fields}
 use Rattle.ss_picture.specs.Suited.{AreSuitedItems}
 use Rattle.ss_machine.proofs.printing.print_lines.Given as goal
 

@@ -1,7 +1,6 @@
 use Rattle.std.proofs.Common.{replicate}
 use Rattle.std.specs.Io.KnownBytes.{Appends}
-use Rattle.ss_base.specs.Failures.{HasRisenBy}
-use Rattle.ss_meaning.specs.Values.{line_end}
+use Rattle.ss_machine.proofs.Common.{HasRisenBy, line_end}
 use Rattle.ss_machine.proofs.printing.send_empty.Given as goal
 
 abbrev pub invariant-loop-line : goal.invariant-loop-line

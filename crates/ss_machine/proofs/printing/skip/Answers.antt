@@ -2,14 +2,9 @@ use Rattle.std.proofs.Common.{rules, ◌≡◌, true, replicate, inr, sym, ap, �
 use Rattle.std.specs.Prelude.{int_lt, ◌||◌}
 use Rattle.std.specs.Io.KnownBytes.{Appends}
 use Rattle.ss_base.specs.declared.fault.FaultKind.TheVariants.{BadCount}
-use Rattle.ss_meaning.specs.Values.{line_end}
+use Rattle.ss_machine.proofs.Common.{Breaks, Compiled, HasTakenPart, HasWritten, IsSending, line_end, line_or, NoOutput, on_after, Rest}
 use Rattle.ss_code_instructions.specs.declared.instruction.Instruction.TheVariants.{Skip as Runs}
-use Rattle.ss_code_instructions.specs.States.{Rest, Breaks}
-use Rattle.ss_machine_instructions.specs.declared.flow.Ending.TheVariants.{NoOutput}
-use Rattle.ss_machine_instructions.specs.Doing.{Compiled, line_or}
-use Rattle.ss_machine_instructions.specs.Ways.{on_after}
-use Rattle.ss_machine.specs.Sent.{HasTakenPart}
-use Rattle.ss_machine.specs.Writing.{IsUnsent, IsSending, HasWritten}
+use Rattle.ss_machine.specs.Writing.{IsUnsent}
 use Rattle.ss_machine.proofs.Known.{keeps_same}
 use Rattle.ss_machine.proofs.Written.{count_within, skip_fails, skip_sends, skip_on, few_lines, bad_lines, unsent}
 use Rattle.ss_machine.proofs.printing.skip.Goals as goal

@@ -1,6 +1,5 @@
 use Rattle.std.proofs.Common.{rules, ◌≡◌, Some, None, sym, subst, w64, of_z, to_z}
-use Rattle.ss_base.specs.declared.value.Value.TheVariants.{Whole}
-use Rattle.ss_picture.specs.declared.items.Item.TheVariants.{Is}
+use Rattle.ss_machine.proofs.Common.{Is, Whole}
 use Rattle.ss_code_instructions.specs.declared.item.ItemKind.TheVariants as shows
 use Rattle.ss_machine_world.specs.Numbers.{IsReferenceToSubject}
 use Rattle.ss_machine.specs.Shown.{CanShowOne, IsShown}

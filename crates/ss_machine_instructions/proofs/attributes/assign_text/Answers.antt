@@ -1,9 +1,6 @@
 use Rattle.std.proofs.Common.{rules, ◌≡◌, Ok, Err, refl, ap, subst, to_z, of_z, w64}
 use Rattle.std.specs.Prelude.{MatchResult}
-use Rattle.ss_base.specs.declared.value.Value.TheVariants.{Text}
-use Rattle.ss_world.specs.State.{assigned}
-use Rattle.ss_machine_world.specs.Seen.{Seen}
-use Rattle.ss_machine_world.proofs.Said.{said_still}
+use Rattle.ss_machine_instructions.proofs.Common.{assigned, said_still, Seen, Text}
 use Rattle.ss_machine_instructions.proofs.attributes.assign_text.Goals as goal
 
 pub invariant_of-world : goal.invariant_of-world

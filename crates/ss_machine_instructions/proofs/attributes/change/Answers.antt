@@ -1,10 +1,6 @@
 use Rattle.std.proofs.Common.{rules, ◌≡◌, Err, refl, ap, subst, to_z, of_z, w64}
 use Rattle.std.specs.Prelude.{MatchResult}
-use Rattle.ss_world.specs.State.{value_in}
-use Rattle.ss_meaning.specs.Values.{computed, operator_of}
-use Rattle.ss_records.specs.Attributes.{changed_number, IsChanged}
-use Rattle.ss_machine_world.specs.Seen.{Seen}
-use Rattle.ss_machine_world.proofs.Said.{said_still}
+use Rattle.ss_machine_instructions.proofs.Common.{changed_number, computed, IsChanged, operator_of, said_still, Seen, value_in}
 use Rattle.ss_machine_instructions.proofs.attributes.change.Goals as goal
 
 pub invariant_of-world : goal.invariant_of-world

@@ -1,13 +1,7 @@
 use Rattle.std.proofs.Common.{rules, ◌≡◌, ◌<◌, ℤ, length, refl, ap, sym, ◌∙◌, subst, to_z, of_z, w64}
-use Rattle.ss_base.specs.declared.layout.Layout.{Layout}
-use Rattle.ss_base.specs.declared.value.Value.TheVariants.{Whole}
-use Rattle.ss_meaning.specs.Sets.{JustAfter}
+use Rattle.ss_machine_instructions.proofs.Common.{HasFiled, IsCounted, JustAfter, Layout, said_still, Seen, seen_of, Whole}
 use Rattle.ss_world.specs.Sets.{filed_after}
 use Rattle.ss_world.specs.State.{State}
-use Rattle.ss_machine_world.specs.Seen.{Seen}
-use Rattle.ss_machine_world.proofs.Said.{said_still}
-use Rattle.ss_machine_world.proofs.Starting.{seen_of}
-use Rattle.ss_machine_instructions.specs.Worldly.{IsCounted, HasFiled}
 use Rattle.ss_machine_instructions.proofs.Filing.{rearranged, within_there, after_filed}
 use Rattle.ss_machine_instructions.proofs.sets.put_after.Goals as goal
 

@@ -1,10 +1,6 @@
 use Rattle.std.proofs.Common.{rules, ◌≡◌, ◌<◌, ℤ, length, refl, ap, sym, ◌∙◌, subst, to_z, of_z, w64}
-use Rattle.ss_base.specs.declared.layout.Layout.{Layout}
+use Rattle.ss_machine_instructions.proofs.Common.{HasTaken, IsCountedOut, Layout, said_still, Seen, seen_of}
 use Rattle.ss_base.specs.declared.words.End.TheVariants as ends
-use Rattle.ss_machine_world.specs.Seen.{Seen}
-use Rattle.ss_machine_world.proofs.Said.{said_still}
-use Rattle.ss_machine_world.proofs.Starting.{seen_of}
-use Rattle.ss_machine_instructions.specs.Worldly.{IsCountedOut, HasTaken}
 use Rattle.ss_machine_instructions.proofs.Filing.{within_there, end_taken}
 use Rattle.ss_machine_instructions.proofs.sets.take_last.Goals as goal
 

@@ -1,6 +1,5 @@
 use Rattle.std.proofs.Common.{rules, ◌≡◌, ℤ, subst, to_z, of_z, w64}
-use Rattle.ss_meaning.specs.Fitting.{living}
-use Rattle.ss_machine_world.specs.Seen.{Seen}
+use Rattle.ss_machine_notices.proofs.Common.{living, Seen}
 use Rattle.ss_machine_notices.proofs.events.class_of.Goals as goal
 
 pub returns : goal.returns

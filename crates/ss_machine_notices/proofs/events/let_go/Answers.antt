@@ -1,12 +1,7 @@
 use Rattle.std.proofs.Common.{rules, ◌≡◌, ◌<◌, ℤ, length, refl, ap, sym, ◌∙◌, subst, to_z, of_z, w64}
 use Rattle.std.specs.Prelude.{pos, IfSome}
-use Rattle.ss_base.specs.declared.value.Value.TheVariants.{Whole}
-use Rattle.ss_program.specs.declared.sections.Subject.TheVariants.{OfVariable}
+use Rattle.ss_machine_notices.proofs.Common.{HasChanged, HasLetGo, noted, OfVariable, TwoRows, Whole, with_number}
 use Rattle.ss_meaning.specs.Entities.{gone}
-use Rattle.ss_meaning.specs.Histories.{noted}
-use Rattle.ss_machine_frames.specs.Rows.{TwoRows, with_number}
-use Rattle.ss_machine_world.specs.Seen.{HasChanged}
-use Rattle.ss_machine_notices.specs.Beginning.{HasLetGo}
 use Rattle.ss_machine_notices.proofs.Giving.{got_at}
 use Rattle.ss_machine_notices.proofs.events.let_go.Goals as goal
 

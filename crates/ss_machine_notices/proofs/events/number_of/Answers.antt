@@ -1,8 +1,6 @@
 use Rattle.std.proofs.Common.{rules, ◌≡◌, Ok, Err, subst, to_z, of_z, w64}
 use Rattle.std.specs.Prelude.{MatchResult}
-use Rattle.ss_base.specs.declared.value.Value.TheVariants.{Whole}
-use Rattle.ss_world.specs.State.{value_in}
-use Rattle.ss_machine_world.specs.Seen.{Seen}
+use Rattle.ss_machine_notices.proofs.Common.{Seen, value_in, Whole}
 use Rattle.ss_machine_notices.proofs.events.number_of.Goals as goal
 
 pub returns : goal.returns

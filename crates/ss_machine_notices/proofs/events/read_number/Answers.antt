@@ -1,7 +1,5 @@
 use Rattle.std.proofs.Common.{arith, rules, ◌≡◌, ◌+◌, ℤ, Ok, Err, refl, ap, ◌∙◌, subst, to_z, of_z, w64}
-use Rattle.ss_base.specs.declared.value.Value.TheVariants.{Whole}
-use Rattle.ss_world.specs.State.{value_in}
-use Rattle.ss_machine_frames.specs.Rows.{with_number}
+use Rattle.ss_machine_notices.proofs.Common.{value_in, Whole, with_number}
 use Rattle.ss_machine_notices.proofs.events.read_number.Goals as goal
 
 pub set_number_at-requires : goal.set_number_at-requires

@@ -1,6 +1,5 @@
 use Rattle.std.proofs.Common.{arith, rules, ◌≡◌, ℤ, Ok, Err, refl, subst, to_z, of_z, w64}
-use Rattle.ss_base.specs.declared.value.Value.TheVariants.{Text}
-use Rattle.ss_world.specs.State.{value_in}
+use Rattle.ss_machine_notices.proofs.Common.{Text, value_in}
 use Rattle.ss_machine_notices.proofs.events.read_text.Goals as goal
 
 pub set_text_at-requires : goal.set_text_at-requires

@@ -1,9 +1,7 @@
 use Rattle.std.proofs.Common.{◌≡◌, ◌<◌, Some, length, refl, ap, sym, ◌∙◌, arith}
 use Rattle.std.specs.Prelude.{slice_get}
 use Rattle.std.proofs.lemmas.Option.{slice_get_read}
-use Rattle.ss_meaning.specs.Store.{Notices}
-use Rattle.ss_machine_world.specs.Seen.{Seen}
-use Rattle.ss_machine_instructions.proofs.Filing.{one}
+use Rattle.ss_machine_notices.proofs.Common.{Notices, one, Seen}
 use Rattle.ss_machine_notices.proofs.events.saved_of.Goals as goal
 
 pub bounds-notices-rank : goal.bounds-notices-rank

@@ -1,19 +1,11 @@
 use Rattle.std.proofs.Common.{Option, rules, ◌≡◌, ℤ, Some, None, true, false, ap, sym, ◌∙◌, subst, to_z, of_z, w64}
-use Rattle.ss_meaning.specs.Fitting.{living}
-use Rattle.ss_world.specs.PendingList.{least_event}
+use Rattle.ss_machine_notices.proofs.Common.{act, frame_small, HasOneTick, Here, is_due, IsNextEvent, least_event, living, Seen, State}
 use Rattle.ss_code_instructions.specs.declared.instruction.Instruction.TheVariants.{TakeEvent as Runs}
-use Rattle.ss_code_instructions.specs.Machine.{act, is_due}
 use Rattle.ss_machine_instructions.specs.Ways.{led, begun_event_at, led_to}
 use Rattle.ss_machine_events.specs.Events.{IsNextNotice}
-use Rattle.ss_machine_world.specs.Seen.{Seen}
-use Rattle.ss_machine_instructions.specs.declared.flow.Here.{Here}
-use Rattle.ss_machine_instructions.specs.declared.state.State.{State}
-use Rattle.ss_machine_instructions.specs.Doing.{HasOneTick}
-use Rattle.ss_machine_notices.specs.Beginning.{IsNextEvent}
 use Rattle.ss_machine_instructions.proofs.Leading.{led_stopped, begun_is}
 use Rattle.ss_machine_instructions.proofs.Ticking.{pauses, ticks}
 use Rattle.ss_machine_notices.proofs.Beginning.{goes_past, lives_as, next_taken}
-use Rattle.ss_machine_instructions.proofs.Placing.{frame_small}
 use Rattle.ss_machine_notices.proofs.events.take_event.Goals as goal
 
 pub returns-then-not-has_taken_tick : goal.returns-then-not-has_taken_tick

@@ -1,9 +1,6 @@
 use Rattle.std.proofs.Common.{rules, ◌≡◌, ℤ, subst, to_z, of_z, w64, ap}
-use Rattle.ss_base.specs.declared.value.Value.TheVariants.{Whole}
-use Rattle.ss_meaning.specs.Events.{filed_notice}
+use Rattle.ss_machine_notices.proofs.Common.{filed_notice, HasChangedWithMemory, on_after, Whole}
 use Rattle.ss_code_instructions.specs.declared.instruction.Instruction.TheVariants.{FileNotice as Runs}
-use Rattle.ss_machine_instructions.specs.Ways.{on_after}
-use Rattle.ss_machine_world.specs.Seen.{HasChangedWithMemory}
 use Rattle.ss_machine_notices.proofs.Times.{file_notice_in, file_notices}
 use Rattle.ss_machine_notices.proofs.scheduling.file_notice.Goals as goal
 

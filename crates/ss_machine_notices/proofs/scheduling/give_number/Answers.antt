@@ -1,12 +1,8 @@
 use Rattle.std.proofs.Common.{rules, ◌≡◌, ◌<◌, ℤ, Some, Ok, Err, length, ap, sym, ◌∙◌, subst, to_z, of_z, w64}
 use Rattle.std.specs.Prelude.{slice_get}
 use Rattle.ss_base.specs.declared.layout.Layout.{Layout}
-use Rattle.ss_base.specs.declared.layout.Mode.TheVariants.{Integer}
-use Rattle.ss_base.specs.declared.value.Value.TheVariants.{Whole}
-use Rattle.ss_world.specs.State.{modes_of}
-use Rattle.ss_machine_world.specs.Numbers.{attribute_noted}
-use Rattle.ss_machine_instructions.specs.Worldly.{HasChangedIf}
-use Rattle.ss_machine_notices.specs.Giving.{HasSetField, IsReadBack}
+use Rattle.ss_machine_notices.proofs.Common.{attribute_noted, HasChangedIf, HasSetField, Integer, modes_of, Whole}
+use Rattle.ss_machine_notices.specs.Giving.{IsReadBack}
 use Rattle.ss_machine_notices.proofs.Giving.{suits_class, suits_mode, set_not, set_noted}
 use Rattle.ss_machine_notices.proofs.scheduling.give_number.Goals as goal
 

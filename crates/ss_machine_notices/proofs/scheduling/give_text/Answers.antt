@@ -1,6 +1,5 @@
 use Rattle.std.proofs.Common.{rules, ◌≡◌, ℤ, Some, ap, sym, ◌∙◌, subst, to_z, of_z, w64}
-use Rattle.ss_base.specs.declared.value.Value.TheVariants.{Text}
-use Rattle.ss_machine_notices.specs.Giving.{HasSetField}
+use Rattle.ss_machine_notices.proofs.Common.{HasSetField, Text}
 use Rattle.ss_machine_notices.proofs.Giving.{suits_class, suits_mode, text_set}
 use Rattle.ss_machine_notices.proofs.scheduling.give_text.Goals as goal
 

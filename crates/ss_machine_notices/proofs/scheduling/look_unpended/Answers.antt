@@ -1,10 +1,9 @@
 use Rattle.std.proofs.Common.{rules, ◌≡◌, ℤ, Bool, Ok, Err, ap, sym, ◌∙◌, subst, to_z, of_z, w64}
 use Rattle.std.specs.Prelude.{Result as OkOr, if◌then◌else◌}
-use Rattle.ss_base.specs.declared.fault.FaultKind.{FaultKind}
+use Rattle.ss_machine_notices.proofs.Common.{and_then, FaultKind, Seen}
 use Rattle.ss_base.specs.declared.fault.FaultKind.TheVariants.{AlreadyScheduled}
 use Rattle.ss_world.specs.PendingList.{is_pending}
-use Rattle.ss_world.specs.State.{and_then, known_in}
-use Rattle.ss_machine_world.specs.Seen.{Seen}
+use Rattle.ss_world.specs.State.{known_in}
 use Rattle.ss_machine_notices.proofs.scheduling.look_unpended.Goals as goal
 
 -- what is left to see once the notice is there

@@ -1,15 +1,9 @@
 use Rattle.std.proofs.Common.{rules, ◌≡◌, ◌+◌, ℤ, Some, Ok, Err, ap, sym, ◌∙◌, subst, to_z, of_z, w64, arith}
 use Rattle.std.specs.Prelude.{slice_get}
 use Rattle.ss_code_instructions.specs.declared.instruction.Instruction.TheVariants.{MakeNotice as Runs}
-use Rattle.ss_code_instructions.specs.Machine.{act}
-use Rattle.ss_machine_instructions.specs.Ways.{on_after}
-use Rattle.ss_machine_frames.specs.Rows.{TwoRows, with_number}
-use Rattle.ss_machine_instructions.specs.Doing.{IsDelivering}
-use Rattle.ss_machine_notices.specs.Giving.{IsNoticeMade, HasGivenValues}
+use Rattle.ss_machine_notices.proofs.Common.{act, as_value, frame_small, HasGivenValues, IsDelivering, IsNoticeMade, on_after, TwoRows, with_number}
 use Rattle.ss_machine_notices.proofs.Notices.{makes_in, make_gives, make_core, make_delivers, makes, makes_not}
-use Rattle.ss_machine_instructions.proofs.Placing.{frame_small}
 use Rattle.ss_machine_notices.proofs.scheduling.make_notice.Goals as goal
-use Rattle.ss_machine_world.specs.Seen.{as_value}
 
 pub cell-from-requires : goal.cell-from-requires
 cell-from-requires c = let z = c.requires in frame_small z.0 z.1 c.args.here c.args.state.now (Runs c.args.values.class c.args.values.cell c.args.values.count c.args.to.now c.args.values.noted) z.2

@@ -1,7 +1,5 @@
 use Rattle.std.proofs.Common.{rules, ◌≡◌, ℤ, Bool, Ok, refl, sym, subst, to_z, of_z, w64}
-use Rattle.ss_machine_world.specs.Numbers.{attribute_noted}
-use Rattle.ss_machine_world.specs.Seen.{HasChanged}
-use Rattle.ss_machine_instructions.specs.Worldly.{HasChangedIf}
+use Rattle.ss_machine_notices.proofs.Common.{attribute_noted, HasChanged, HasChangedIf}
 use Rattle.ss_machine_notices.proofs.scheduling.note_if.Goals as goal
 
 pub returns-then-noted : goal.returns-then-noted

@@ -1,6 +1,5 @@
 use Rattle.std.proofs.Common.{rules, ◌≡◌, ℤ, subst, to_z, of_z, w64}
-use Rattle.ss_world.specs.State.{timed}
-use Rattle.ss_machine_world.specs.Seen.{HasRearranged}
+use Rattle.ss_machine_notices.proofs.Common.{HasRearranged, timed}
 use Rattle.ss_machine_notices.proofs.Giving.{not_endowed, time_set}
 use Rattle.ss_machine_notices.proofs.scheduling.prepare.Goals as goal
 

@@ -1,9 +1,5 @@
 use Rattle.std.proofs.Common.{rules, ◌≡◌, ℤ, Ok, Err, subst, to_z, of_z, w64}
-use Rattle.ss_base.specs.declared.value.Value.TheVariants.{Whole}
-use Rattle.ss_meaning.specs.Values.{Fails}
-use Rattle.ss_meaning.specs.Events.{prepared, filed_notice}
-use Rattle.ss_machine_world.specs.Seen.{HasChangedWithMemory, with_seen}
-use Rattle.ss_machine_notices.specs.Giving.{IsSettledIn}
+use Rattle.ss_machine_notices.proofs.Common.{Fails, filed_notice, HasChangedWithMemory, IsSettledIn, prepared, Whole, with_seen}
 use Rattle.ss_machine_notices.proofs.Giving.{not_prepared, noticed_then, filed_then}
 use Rattle.ss_machine_notices.proofs.scheduling.prepare_and_file.Goals as goal
 

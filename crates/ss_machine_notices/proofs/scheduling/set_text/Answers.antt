@@ -1,9 +1,5 @@
 use Rattle.std.proofs.Common.{rules, ◌≡◌, refl, subst, to_z, of_z, w64}
-use Rattle.ss_base.specs.declared.value.Value.TheVariants.{Text}
-use Rattle.ss_machine_world.specs.Seen.{Seen}
-use Rattle.ss_machine_world.proofs.Said.{said_still}
-use Rattle.ss_machine_world.proofs.Starting.{seen_of}
-use Rattle.ss_machine_notices.specs.Giving.{HasSetField}
+use Rattle.ss_machine_notices.proofs.Common.{HasSetField, said_still, Seen, seen_of, Text}
 use Rattle.ss_machine_notices.proofs.Giving.{value_set}
 use Rattle.ss_machine_notices.proofs.scheduling.set_text.Goals as goal
 

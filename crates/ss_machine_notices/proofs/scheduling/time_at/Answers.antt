@@ -1,10 +1,7 @@
 use Rattle.std.proofs.Common.{rules, ◌≡◌, ℤ, ap, subst, to_z, of_z, w64}
 use Rattle.ss_meaning.specs.Events.{not_past}
 use Rattle.ss_code_instructions.specs.declared.instruction.Instruction.TheVariants.{At as Runs}
-use Rattle.ss_code_instructions.specs.Machine.{act, is_due}
-use Rattle.ss_machine_instructions.specs.Ways.{on_after}
-use Rattle.ss_machine_world.specs.Seen.{HasAnswer}
-use Rattle.ss_machine_instructions.proofs.Placing.{calm}
+use Rattle.ss_machine_notices.proofs.Common.{act, calm, HasAnswer, is_due, on_after}
 use Rattle.ss_machine_notices.proofs.Times.{at_in, ats}
 use Rattle.ss_machine_notices.proofs.scheduling.time_at.Goals as goal
 

@@ -1,7 +1,6 @@
 use Rattle.std.proofs.Common.{List, [], length, drop, sym, ◌∙◌, subst}
 use Rattle.std.proofs.lemmas.List.{take_at}
-use Rattle.ss_machine_world.specs.declared.class.ClassEntry.{ClassEntry}
-use Rattle.ss_machine_world.specs.Classes.{AreSaid}
+use Rattle.ss_machine_world.proofs.Common.{AreSaid, ClassEntry}
 use Rattle.ss_machine_world.proofs.class.class_entries.Goals as goal
 
 pub returns : goal.returns

@@ -1,6 +1,5 @@
 use Rattle.std.proofs.Common.{arith, rules, ◌≡◌, ◌+◌, ◌++◌, suc, Bool, false, List, [], ◌∷◌, length, ap, sym, ◌∙◌, subst}
-use Rattle.ss_machine_world.specs.declared.class.ClassEntry.{ClassEntry}
-use Rattle.ss_machine_world.specs.Classes.{AreSaid}
+use Rattle.ss_machine_world.proofs.Common.{AreSaid, ClassEntry}
 use Rattle.ss_machine_world.proofs.Said.{unranked_to, unranked_said}
 use Rattle.ss_machine_world.proofs.class.unranked_entries.Goals as goal
 

@@ -1,9 +1,6 @@
 use Rattle.std.proofs.Common.{◌≡◌, ℕ, inl, drop, ◌+◌, ◌-◌, ◌*◌, ◌/◌, ◌<◌, ◌≤◌, length, slice_get, None, sym, ap, subst, ◌∙◌, arith}
-use Rattle.ss_base.specs.declared.layout.Owner.TheVariants.{Class}
-use Rattle.ss_records_blocks.specs.Cells.{IsNumber, word_of}
+use Rattle.ss_records_entities.proofs.Common.{Class, class_at_place, class_in_words, IsNumber, lying, plain, word_of}
 use Rattle.ss_records_blocks.specs.Places.{living_count}
-use Rattle.ss_records_words.specs.Places.{lying, class_at_place}
-use Rattle.ss_records_words.specs.Reading.{plain, class_in_words}
 use Rattle.ss_records_blocks.specs.Pages.{in_page}
 use Rattle.ss_records_blocks.proofs.Paging.{quot, rem}
 use Rattle.ss_records_entities.proofs.Living.{Left, living_drop, rows_held, is_there, left_given, left_past}

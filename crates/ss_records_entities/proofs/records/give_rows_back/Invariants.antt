@@ -1,7 +1,5 @@
 use Rattle.std.proofs.Common.{◌≡◌, ℕ, ◌+◌, ◌≤◌, List, Some, slice_get, length, drop}
-use Rattle.ss_records_blocks.specs.declared.store.BlockPlace.{BlockPlace}
-use Rattle.ss_records_blocks.specs.Cells.{words_at}
-use Rattle.ss_records_words.specs.Places.{permanent_count}
+use Rattle.ss_records_entities.proofs.Common.{BlockPlace, permanent_count, words_at}
 use Rattle.ss_records_entities.proofs.records.give_rows_back.Given as goal
 
 abbrev pub invariant-loop-class : goal.invariant-loop-class

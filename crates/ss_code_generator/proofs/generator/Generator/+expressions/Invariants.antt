@@ -1,9 +1,5 @@
 use Rattle.std.proofs.Common.{take}
-use Rattle.ss_program.specs.Program.{Expression}
-use Rattle.ss_code_pieces.specs.Lined.{Lined}
-use Rattle.ss_code_generator.specs.declared.generator.Generator.{Generator}
-use Rattle.ss_code_generator.specs.Calculations.{with_operations}
-use Rattle.ss_code_generator.specs.Emitted.{HasReadOperand}
+use Rattle.ss_code_generator.proofs.Common.{Expression, Generator, HasReadOperand, Lined, with_operations}
 use Rattle.ss_code_generator.proofs.generator.Generator.+expressions.Given as goal
 
 abbrev pub invariant-work_off-loop-i : goal.invariant-work_off-loop-i

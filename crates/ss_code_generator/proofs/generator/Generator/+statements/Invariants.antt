@@ -1,6 +1,5 @@
 use Rattle.std.proofs.Common.{take}
-use Rattle.ss_program.specs.View.{view_body}
-use Rattle.ss_code_generator.specs.Printed.{HasEmittedBlock}
+use Rattle.ss_code_generator.proofs.Common.{HasEmittedBlock, view_body}
 use Rattle.ss_code_generator.proofs.generator.Generator.+statements.Given as goal
 
 abbrev pub invariant-body-loop-s : goal.invariant-body-loop-s

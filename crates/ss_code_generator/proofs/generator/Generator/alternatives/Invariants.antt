@@ -1,9 +1,6 @@
 use Rattle.std.proofs.Common.{drop, map}
 use Rattle.ss_program.specs.View.{view_conjunction}
-use Rattle.ss_program.specs.WellTyped.{IsTypedCondition}
-use Rattle.ss_code_instructions.specs.Translation.{condition_code}
-use Rattle.ss_code_pieces.specs.Lined.{no_code}
-use Rattle.ss_code_generator.specs.Emitted.{HasEmitted}
+use Rattle.ss_code_generator.proofs.Common.{condition_code, HasEmitted, IsTypedCondition, no_code}
 use Rattle.ss_code_generator.proofs.generator.Generator.alternatives.Given as goal
 
 abbrev pub invariant-loop-i : goal.invariant-loop-i

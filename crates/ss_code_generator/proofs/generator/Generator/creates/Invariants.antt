@@ -1,6 +1,5 @@
 use Rattle.std.proofs.Common.{take}
-use Rattle.ss_code_instructions.specs.Translation.{creates_code}
-use Rattle.ss_code_generator.specs.Emitted.{HasEmitted}
+use Rattle.ss_code_generator.proofs.Common.{creates_code, HasEmitted}
 use Rattle.ss_code_generator.proofs.generator.Generator.creates.Given as goal
 
 abbrev pub invariant-loop-counted : goal.invariant-loop-counted

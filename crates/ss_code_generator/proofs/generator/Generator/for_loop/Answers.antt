@@ -1,9 +1,6 @@
 use Rattle.std.proofs.Common.{ℕ, Some, ap}
 use Rattle.std.proofs.lemmas.Result.{on_ok_weaker}
-use Rattle.ss_program.specs.Program.{Each}
-use Rattle.ss_program.specs.View.{view_expression}
-use Rattle.ss_program.specs.WellTyped.{IsTypedHead}
-use Rattle.ss_code_instructions.specs.Translation.{for_code}
+use Rattle.ss_code_generator.proofs.Common.{Each, for_code, IsTypedHead, view_expression}
 use Rattle.ss_code_generator.specs.Looped.{item_loop_code}
 use Rattle.ss_code_generator.proofs.Testing.{around_for}
 use Rattle.ss_code_generator.proofs.Rounds.{range_looped}

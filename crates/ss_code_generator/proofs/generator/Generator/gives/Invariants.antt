@@ -1,6 +1,5 @@
 use Rattle.std.proofs.Common.{◌+◌, ◌≤◌, length, map}
-use Rattle.ss_program.specs.View.{view_place}
-use Rattle.ss_code_generator.specs.Emitted.{Final, IsAround, HasEmitted}
+use Rattle.ss_code_generator.proofs.Common.{Final, HasEmitted, IsAround, view_place}
 use Rattle.ss_code_generator.proofs.Called.{GoodPlaces, gives_front}
 use Rattle.ss_code_generator.proofs.generator.Generator.gives.Given as goal
 

@@ -1,10 +1,6 @@
 use Rattle.std.proofs.Common.{◌+◌, ◌++◌, drop, length, map}
 use Rattle.std.specs.List.{AllByRecursion as Every}
-use Rattle.ss_program.specs.View.{view_guard}
-use Rattle.ss_program.specs.WellTyped.{IsTypedCondition}
-use Rattle.ss_code_instructions.specs.Translation.{guards_code}
-use Rattle.ss_code_pieces.specs.Lined.{no_code}
-use Rattle.ss_code_generator.specs.Emitted.{HasEmittedAround}
+use Rattle.ss_code_generator.proofs.Common.{guards_code, HasEmittedAround, IsTypedCondition, no_code, view_guard}
 use Rattle.ss_code_generator.proofs.generator.Generator.guards.Given as goal
 
 abbrev pub invariant-loop-i : goal.invariant-loop-i

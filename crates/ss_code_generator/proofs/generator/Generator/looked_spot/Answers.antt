@@ -1,6 +1,5 @@
-use Rattle.ss_program.specs.View.{view_expression}
+use Rattle.ss_code_generator.proofs.Common.{entity_code, view_expression}
 use Rattle.std.proofs.Common.{true}
-use Rattle.ss_code_instructions.specs.Translation.{entity_code}
 use Rattle.ss_code_generator.proofs.Spotted.{attribute_looked, attribute_spotted, count_spotted_ok}
 use Rattle.ss_code_generator.proofs.generator.Generator.looked_spot.Goals as goal
 

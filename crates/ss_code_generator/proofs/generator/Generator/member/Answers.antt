@@ -1,6 +1,4 @@
-use Rattle.ss_base.specs.declared.layout.Mode.TheVariants.{Integer}
-use Rattle.ss_program.specs.View.{view_expression}
-use Rattle.ss_code_generator.specs.Emitted.{IsInteger}
+use Rattle.ss_code_generator.proofs.Common.{Integer, IsInteger, view_expression}
 use Rattle.ss_code_generator.proofs.Operands.{unlooked_reads}
 use Rattle.ss_code_generator.proofs.Filed.{member_looked}
 use Rattle.ss_code_generator.proofs.generator.Generator.member.Goals as goal

@@ -1,10 +1,6 @@
 use Rattle.std.proofs.Common.{drop, map}
 use Rattle.std.specs.List.{AllByRecursion as Every}
-use Rattle.ss_program.specs.View.{view_phrase}
-use Rattle.ss_program.specs.WellTyped.{IsTypedPhrase}
-use Rattle.ss_code_instructions.specs.Translation.{phrases_code}
-use Rattle.ss_code_pieces.specs.Lined.{no_code}
-use Rattle.ss_code_generator.specs.Emitted.{HasEmittedAround}
+use Rattle.ss_code_generator.proofs.Common.{HasEmittedAround, IsTypedPhrase, no_code, phrases_code, view_phrase}
 use Rattle.ss_code_generator.proofs.generator.Generator.phrases.Given as goal
 
 abbrev pub invariant-loop-i : goal.invariant-loop-i

@@ -1,8 +1,6 @@
 use Rattle.std.proofs.Common.{Some, None}
 use Rattle.std.proofs.lemmas.Result.{on_ok_weaker}
-use Rattle.ss_base.specs.declared.layout.Mode.TheVariants.{Integer}
-use Rattle.ss_program.specs.View.{view_expression}
-use Rattle.ss_code_generator.specs.Emitted.{IsTyped}
+use Rattle.ss_code_generator.proofs.Common.{Integer, IsTyped, view_expression}
 use Rattle.ss_code_generator.proofs.Rounds.{ranged}
 use Rattle.ss_code_generator.proofs.generator.Generator.range.Goals as goal
 

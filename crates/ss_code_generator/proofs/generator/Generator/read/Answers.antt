@@ -1,8 +1,7 @@
 use Rattle.std.proofs.Common.{refl}
 use Rattle.std.proofs.lemmas.Result.{on_ok_weaker}
-use Rattle.ss_program.specs.View.{view_place}
+use Rattle.ss_code_generator.proofs.Common.{code_of, place, view_place}
 use Rattle.ss_code_instructions.specs.Instructions as i
-use Rattle.ss_code_instructions.specs.Translation.{place, code_of}
 use Rattle.ss_code_instructions.specs.Forms.{reading}
 use Rattle.ss_code_generator.proofs.Forms as forms
 use Rattle.ss_code_generator.proofs.Letting.{to_place_made}

@@ -1,9 +1,7 @@
 use Rattle.std.proofs.Common.{◌≡◌, ◌+◌, [], ◌∷◌, ◌++◌, map, take}
 use Rattle.ss_program.specs.Program.{InputTarget}
-use Rattle.ss_program.specs.View.{view_target}
-use Rattle.ss_program.specs.WellTyped.{CanTakeMode}
+use Rattle.ss_code_generator.proofs.Common.{CanTakeMode, place, reads_code, to_place_code, view_target}
 use Rattle.ss_code_instructions.specs.Instructions.{Read}
-use Rattle.ss_code_instructions.specs.Translation.{place, reads_code, to_place_code}
 use Rattle.ss_code_generator.proofs.Listed.{next_mapped, listed_more, reads_more}
 use Rattle.ss_code_generator.proofs.generator.Generator.reads.Goals as goal
 

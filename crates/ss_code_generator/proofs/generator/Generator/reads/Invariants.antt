@@ -1,9 +1,6 @@
 use Rattle.std.proofs.Common.{map, take}
 use Rattle.std.specs.List.{AllByRecursion as Every}
-use Rattle.ss_program.specs.View.{view_target}
-use Rattle.ss_program.specs.WellTyped.{CanTakeMode}
-use Rattle.ss_code_instructions.specs.Translation.{reads_code}
-use Rattle.ss_code_generator.specs.Emitted.{HasEmitted}
+use Rattle.ss_code_generator.proofs.Common.{CanTakeMode, HasEmitted, reads_code, view_target}
 use Rattle.ss_code_generator.proofs.generator.Generator.reads.Given as goal
 
 abbrev pub invariant-loop-target : goal.invariant-loop-target

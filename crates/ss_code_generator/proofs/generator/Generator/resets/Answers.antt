@@ -1,8 +1,5 @@
 use Rattle.std.proofs.Common.{◌≡◌, ◌+◌, [], ◌∷◌, ◌++◌, map, take}
-use Rattle.ss_program.specs.Program.{Restart}
-use Rattle.ss_program.specs.View.{view_restart}
-use Rattle.ss_program.specs.WellTyped.{IsTypedRestart}
-use Rattle.ss_code_instructions.specs.Translation.{restarts_code}
+use Rattle.ss_code_generator.proofs.Common.{IsTypedRestart, Restart, restarts_code, view_restart}
 use Rattle.ss_code_generator.proofs.Listed.{next_mapped, listed_more, restarts_more}
 use Rattle.ss_code_generator.proofs.generator.Generator.resets.Goals as goal
 

@@ -1,9 +1,6 @@
 use Rattle.std.proofs.Common.{map, take}
 use Rattle.std.specs.List.{AllByRecursion as Every}
-use Rattle.ss_program.specs.View.{view_restart}
-use Rattle.ss_program.specs.WellTyped.{IsTypedRestart}
-use Rattle.ss_code_instructions.specs.Translation.{restarts_code}
-use Rattle.ss_code_generator.specs.Emitted.{HasEmitted}
+use Rattle.ss_code_generator.proofs.Common.{HasEmitted, IsTypedRestart, restarts_code, view_restart}
 use Rattle.ss_code_generator.proofs.generator.Generator.resets.Given as goal
 
 abbrev pub invariant-loop-restart : goal.invariant-loop-restart

@@ -1,5 +1,4 @@
-use Rattle.ss_program.specs.View.{view_expression}
-use Rattle.ss_code_instructions.specs.Translation.{operand_code}
+use Rattle.ss_code_generator.proofs.Common.{operand_code, view_expression}
 use Rattle.ss_code_generator.proofs.Spotted.{attribute_spotted, count_spotted_ok}
 use Rattle.ss_code_generator.proofs.generator.Generator.spot.Goals as goal
 

@@ -1,8 +1,6 @@
 use Rattle.std.proofs.Common.{◌+◌, ◌≤◌, map, take}
 use Rattle.std.specs.List.{AllByRecursion as Every}
-use Rattle.ss_program.specs.View.{view_expression}
-use Rattle.ss_code_instructions.specs.Translation.{values_code}
-use Rattle.ss_code_generator.specs.Emitted.{HasEmitted, IsTyped}
+use Rattle.ss_code_generator.proofs.Common.{HasEmitted, IsTyped, values_code, view_expression}
 use Rattle.ss_code_generator.proofs.generator.Generator.values.Given as goal
 
 abbrev pub invariant-loop-i : goal.invariant-loop-i

@@ -1,9 +1,5 @@
 use Rattle.std.proofs.Common.{None, IfOk, refl, sym, subst}
-use Rattle.ss_code.specs.Running.{IsGenerated}
-use Rattle.ss_machine_instructions.specs.declared.state.State.{State}
-use Rattle.ss_machine.specs.Beginning.{IsFirstState}
-use Rattle.ss_machine.specs.Situations.{situated}
-use Rattle.ss_machine.specs.Start.{IsAtStart}
+use Rattle.ss_machine.proofs.Common.{IsAtStart, IsFirstState, IsGenerated, situated, State}
 use Rattle.ss_machine.specs.Held.{IsReady}
 use Rattle.ss_machine.proofs.Readiness.{first_ready}
 use Rattle.ss_machine.proofs.Starting.{frame_small}

@@ -1,10 +1,6 @@
 use Rattle.std.proofs.Common.{rules, ◌≡◌, ◌+◌, ◌-◌, ◌*◌, ◌≤◌, ◌<◌, ◌^◌, length, min, refl, sym, ap, subst, ◌∙◌, arith}
 use Rattle.std.proofs.lemmas.Option.{none-some, same_Some}
-use Rattle.ss_machine_instructions.specs.declared.state.State.{State}
-use Rattle.ss_machine_instructions.specs.declared.flow.Here.{Here}
-use Rattle.ss_machine.specs.Situations.{situated}
-use Rattle.ss_machine.specs.Counts.{HasSteps}
-use Rattle.ss_machine.specs.Runs.{IsRunResult}
+use Rattle.ss_machine.proofs.Common.{HasSteps, Here, IsRunResult, situated, State}
 use Rattle.ss_machine.specs.Held.{Held, answer_again}
 use Rattle.ss_machine.proofs.Readiness.{kept_none}
 use Rattle.ss_machine.proofs.Resuming.{stands_ticked, situated_ticked, ran_from, never, used_by}

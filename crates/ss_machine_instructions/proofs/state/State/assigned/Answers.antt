@@ -1,6 +1,5 @@
 use Rattle.std.proofs.Common.{rules, Ok, Err, refl}
-use Rattle.ss_machine_world.specs.Seen.{HasChanged}
-use Rattle.ss_machine_world.specs.Numbers.{attribute_noted}
+use Rattle.ss_machine_instructions.proofs.Common.{attribute_noted, HasChanged}
 use Rattle.ss_machine_instructions.proofs.Figuring.{after_fault, after_unnoted, after_noted}
 use Rattle.ss_machine_instructions.proofs.state.State.assigned.Goals as goal
 

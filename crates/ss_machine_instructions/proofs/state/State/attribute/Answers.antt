@@ -1,17 +1,12 @@
 use Rattle.std.proofs.Common.{rules, ◌≡◌, Ok, Err, ap}
 use Rattle.std.specs.Prelude.{MatchResult}
 use Rattle.ss_code_instructions.specs.declared.instruction.Instruction.TheVariants.{Attribute as Runs}
-use Rattle.ss_base.specs.declared.layout.Mode.TheVariants.{Integer}
-use Rattle.ss_base.specs.declared.value.Value.TheVariants.{Whole}
-use Rattle.ss_world.specs.State.{value_in}
-use Rattle.ss_code_instructions.specs.Machine.{is_due}
-use Rattle.ss_machine_instructions.specs.Ways.{on_after}
+use Rattle.ss_machine_instructions.proofs.Common.{as_value, Integer, is_due, on_after, value_in, Whole}
 use Rattle.ss_machine_instructions.proofs.Placing.{calm}
 use Rattle.ss_machine_instructions.proofs.Delivering.{number_right}
 use Rattle.ss_machine_instructions.proofs.Seeing.{whole_answer, mode_there, class_within}
 use Rattle.ss_machine_instructions.proofs.Assigning.{attribute_in, attributes}
 use Rattle.ss_machine_instructions.proofs.state.State.attribute.Goals as goal
-use Rattle.ss_machine_world.specs.Seen.{as_value}
 
 pub number-entity-requires : goal.number-entity-requires
 number-entity-requires c = let z = c.requires in attribute_in z.0 z.1 c.args.here c.args.self.now (Runs c.args.class c.args.field c.args.entity.now c.args.to.now) z.2 Integer c.args.class c.args.field c.args.entity.now c.args.to.now z.2.runs.carries

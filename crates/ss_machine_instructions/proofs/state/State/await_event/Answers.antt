@@ -1,7 +1,6 @@
 use Rattle.std.proofs.Common.{ap, refl}
 use Rattle.ss_code_instructions.specs.declared.instruction.Instruction.TheVariants.{Await as Runs}
-use Rattle.ss_machine_world.specs.Seen.{Seen}
-use Rattle.ss_machine_instructions.specs.Ways.{on_if_at}
+use Rattle.ss_machine_instructions.proofs.Common.{on_if_at, Seen}
 use Rattle.ss_machine_instructions.proofs.Comparing.{awaits}
 use Rattle.ss_machine_instructions.proofs.state.State.await_event.Goals as goal
 

@@ -1,8 +1,6 @@
 use Rattle.std.proofs.Common.{rules, ◌≡◌, ap}
 use Rattle.ss_code_instructions.specs.Forms.{calculating}
-use Rattle.ss_code_instructions.specs.Machine.{is_due}
-use Rattle.ss_meaning.specs.Values.{computed}
-use Rattle.ss_machine_instructions.specs.Ways.{on_after}
+use Rattle.ss_machine_instructions.proofs.Common.{computed, is_due, on_after}
 use Rattle.ss_machine_instructions.proofs.Placing.{calm}
 use Rattle.ss_machine_instructions.proofs.Calculating.{calculates_in, calculates}
 use Rattle.ss_machine_instructions.proofs.Forms.{calculated}

@@ -1,9 +1,6 @@
 use Rattle.std.proofs.Common.{rules, ◌≡◌, ap, ℤ, Ok, sym, subst, to_z, of_z, w64}
 use Rattle.ss_code_instructions.specs.declared.instruction.Instruction.TheVariants.{Clock as Runs}
-use Rattle.ss_code_instructions.specs.Machine.{act, is_due}
-use Rattle.ss_base.specs.declared.value.Value.TheVariants.{Whole}
-use Rattle.ss_machine_instructions.specs.Ways.{on_after}
-use Rattle.ss_machine_instructions.specs.Doing.{IsDelivering}
+use Rattle.ss_machine_instructions.proofs.Common.{act, is_due, IsDelivering, on_after, Whole}
 use Rattle.ss_machine_instructions.proofs.Placing.{calm}
 use Rattle.ss_machine_instructions.proofs.Assigning.{clocks}
 use Rattle.ss_machine_instructions.proofs.state.State.clock.Goals as goal

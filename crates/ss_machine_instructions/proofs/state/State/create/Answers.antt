@@ -1,11 +1,8 @@
 use Rattle.std.proofs.Common.{rules, Ok, Err, ◌≡◌, ℤ, sym, subst, to_z, of_z, w64, ap}
 use Rattle.ss_code_instructions.specs.declared.instruction.Instruction.TheVariants.{Create as Runs}
 use Rattle.ss_meaning.specs.Entities.{made_one}
-use Rattle.ss_machine_world.specs.Seen.{HasMade}
-use Rattle.ss_code_instructions.specs.Machine.{act}
-use Rattle.ss_base.specs.declared.value.Value.TheVariants.{Whole}
-use Rattle.ss_machine_instructions.specs.Ways.{on_after}
-use Rattle.ss_machine_instructions.specs.Doing.{IsDelivering, IsDelivered}
+use Rattle.ss_machine_instructions.proofs.Common.{act, HasMade, IsDelivering, on_after, Whole}
+use Rattle.ss_machine_instructions.specs.Doing.{IsDelivered}
 use Rattle.ss_machine_instructions.proofs.Creating.{creates_within, creates_single, creates, created, creates_not}
 use Rattle.ss_machine_instructions.proofs.state.State.create.Goals as goal
 

@@ -1,9 +1,7 @@
 use Rattle.std.proofs.Common.{rules, ◌≡◌, ℤ, subst, to_z, of_z, w64, ap}
 use Rattle.ss_code_instructions.specs.declared.instruction.Instruction.TheVariants.{Destroy as Runs}
-use Rattle.ss_base.specs.declared.value.Value.TheVariants.{Whole}
+use Rattle.ss_machine_instructions.proofs.Common.{HasChanged, on_after, Whole}
 use Rattle.ss_meaning.specs.Entities.{without}
-use Rattle.ss_machine_world.specs.Seen.{HasChanged}
-use Rattle.ss_machine_instructions.specs.Ways.{on_after}
 use Rattle.ss_machine_instructions.proofs.Creating.{destroys_in, destroys_within, destroys_single, destroys}
 use Rattle.ss_machine_instructions.proofs.state.State.destroy.Goals as goal
 

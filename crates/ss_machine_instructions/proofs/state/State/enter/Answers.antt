@@ -1,7 +1,6 @@
 use Rattle.std.proofs.Common.{rules, arith, ◌≤◌, length, ap, refl}
-use Rattle.ss_machine_frames.specs.Rows.{TwoRows}
+use Rattle.ss_machine_instructions.proofs.Common.{State, TwoRows}
 use Rattle.ss_machine_frames.proofs.Entering.{cleared_long}
-use Rattle.ss_machine_instructions.specs.declared.state.State.{State}
 use Rattle.ss_machine_instructions.specs.Entered.{IsOutOfMemory}
 use Rattle.ss_machine_instructions.proofs.Calling.{on_err, cleared_from}
 use Rattle.ss_machine_instructions.proofs.state.State.enter.Goals as goal

@@ -1,11 +1,7 @@
 use Rattle.std.proofs.Common.{rules, Option, ap}
 use Rattle.ss_code_instructions.specs.declared.instruction.Instruction.TheVariants.{Figure as Runs}
-use Rattle.ss_base.specs.declared.value.Value.{Value}
+use Rattle.ss_machine_instructions.proofs.Common.{HasAnswer, HasValidSubject, is_due, IsReferenceToSubject, on_after, Value}
 use Rattle.ss_meaning.specs.Statistics.{figure}
-use Rattle.ss_code_instructions.specs.Machine.{is_due}
-use Rattle.ss_machine_world.specs.Seen.{HasAnswer}
-use Rattle.ss_machine_world.specs.Numbers.{IsReferenceToSubject, HasValidSubject}
-use Rattle.ss_machine_instructions.specs.Ways.{on_after}
 use Rattle.ss_machine_instructions.proofs.Placing.{calm}
 use Rattle.ss_machine_instructions.proofs.Figuring.{figures_in, figures, has_subject}
 use Rattle.ss_machine_world.specs.Seen as seen

@@ -1,9 +1,6 @@
 use Rattle.std.proofs.Common.{rules, ◌≡◌, ℤ, subst, to_z, of_z, w64, true, ap}
-use Rattle.ss_base.specs.declared.value.Value.TheVariants.{Whole}
+use Rattle.ss_machine_instructions.proofs.Common.{HasFiled, JustAfter, on_after, Whole}
 use Rattle.ss_code_instructions.specs.declared.instruction.Instruction.TheVariants.{FileBeside as Runs}
-use Rattle.ss_meaning.specs.Sets.{JustAfter}
-use Rattle.ss_machine_instructions.specs.Ways.{on_after}
-use Rattle.ss_machine_instructions.specs.Worldly.{HasFiled}
 use Rattle.ss_machine_instructions.proofs.Setwork.{files_after_in, files_after}
 use Rattle.ss_machine_instructions.proofs.state.State.file_after.Goals as goal
 

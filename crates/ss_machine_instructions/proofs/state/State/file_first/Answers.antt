@@ -1,8 +1,6 @@
 use Rattle.std.proofs.Common.{rules, ◌≡◌, ℤ, subst, to_z, of_z, w64, ap}
 use Rattle.ss_code_instructions.specs.declared.instruction.Instruction.TheVariants.{FileFirst as Runs}
-use Rattle.ss_meaning.specs.Sets.{Foremost}
-use Rattle.ss_machine_instructions.specs.Ways.{on_after}
-use Rattle.ss_machine_instructions.specs.Worldly.{HasFiled}
+use Rattle.ss_machine_instructions.proofs.Common.{Foremost, HasFiled, on_after}
 use Rattle.ss_machine_instructions.proofs.Setwork.{files_first_in, files_first}
 use Rattle.ss_machine_instructions.proofs.state.State.file_first.Goals as goal
 

@@ -1,8 +1,6 @@
 use Rattle.std.proofs.Common.{rules, ◌≡◌, ℤ, subst, to_z, of_z, w64, ap}
 use Rattle.ss_code_instructions.specs.declared.instruction.Instruction.TheVariants.{FileLast as Runs}
-use Rattle.ss_meaning.specs.Sets.{Hindmost}
-use Rattle.ss_machine_instructions.specs.Ways.{on_after}
-use Rattle.ss_machine_instructions.specs.Worldly.{HasFiled}
+use Rattle.ss_machine_instructions.proofs.Common.{HasFiled, Hindmost, on_after}
 use Rattle.ss_machine_instructions.proofs.Setwork.{files_last_in, files_last}
 use Rattle.ss_machine_instructions.proofs.state.State.file_last.Goals as goal
 

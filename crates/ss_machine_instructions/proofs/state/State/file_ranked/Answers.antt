@@ -1,8 +1,6 @@
 use Rattle.std.proofs.Common.{rules, ◌≡◌, ℤ, subst, to_z, of_z, w64, ap}
 use Rattle.ss_code_instructions.specs.declared.instruction.Instruction.TheVariants.{FileRanked as Runs}
-use Rattle.ss_meaning.specs.Sets.{ByRule}
-use Rattle.ss_machine_instructions.specs.Ways.{on_after}
-use Rattle.ss_machine_instructions.specs.Worldly.{HasFiled}
+use Rattle.ss_machine_instructions.proofs.Common.{ByRule, HasFiled, on_after}
 use Rattle.ss_machine_instructions.proofs.Setwork.{files_ranked_in, files_ranked}
 use Rattle.ss_machine_instructions.proofs.state.State.file_ranked.Goals as goal
 

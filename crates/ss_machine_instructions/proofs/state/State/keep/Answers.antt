@@ -1,11 +1,8 @@
 use Rattle.std.proofs.Common.{rules, ap}
 use Rattle.std.specs.Prelude.{pos}
 use Rattle.ss_code_instructions.specs.declared.instruction.Instruction.TheVariants.{Keep as Runs}
-use Rattle.ss_base.specs.declared.value.Value.TheVariants.{Whole}
+use Rattle.ss_machine_instructions.proofs.Common.{HasChanged, noted, on_after, Whole}
 use Rattle.ss_program.specs.declared.sections.Subject.TheVariants.{OfVariable}
-use Rattle.ss_meaning.specs.Histories.{noted}
-use Rattle.ss_machine_world.specs.Seen.{HasChanged}
-use Rattle.ss_machine_instructions.specs.Ways.{on_after}
 use Rattle.ss_machine_instructions.proofs.Figuring.{keeps_in, kept_within, keeps}
 use Rattle.ss_machine_instructions.proofs.state.State.keep.Goals as goal
 

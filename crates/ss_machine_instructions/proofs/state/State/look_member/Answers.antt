@@ -1,8 +1,6 @@
 use Rattle.std.proofs.Common.{rules, ◌≡◌, ap}
 use Rattle.ss_code_instructions.specs.declared.instruction.Instruction.TheVariants.{LookMember as Runs}
-use Rattle.ss_world.specs.State.{no_value}
-use Rattle.ss_world.specs.Sets.{joiner}
-use Rattle.ss_machine_instructions.specs.Ways.{on_after}
+use Rattle.ss_machine_instructions.proofs.Common.{joiner, no_value, on_after}
 use Rattle.ss_machine_instructions.proofs.Looking.{member_in, member_set_in, looks_at_member}
 use Rattle.ss_machine_instructions.proofs.state.State.look_member.Goals as goal
 

@@ -1,8 +1,6 @@
 use Rattle.std.proofs.Common.{rules, ◌≡◌, ap}
 use Rattle.ss_code_instructions.specs.declared.instruction.Instruction.TheVariants.{LookOwner as Runs}
-use Rattle.ss_world.specs.State.{no_value}
-use Rattle.ss_world.specs.Sets.{owner}
-use Rattle.ss_machine_instructions.specs.Ways.{on_after}
+use Rattle.ss_machine_instructions.proofs.Common.{no_value, on_after, owner}
 use Rattle.ss_machine_instructions.proofs.Looking.{owner_in, owner_set_in, looks_at_owner}
 use Rattle.ss_machine_instructions.proofs.state.State.look_owner.Goals as goal
 

@@ -1,12 +1,6 @@
 use Rattle.std.proofs.Common.{refl, ap, rules, ◌≡◌, ℤ, Ok, sym, subst, to_z, of_z, w64}
-use Rattle.ss_base.specs.declared.layout.Mode.TheVariants.{Integer}
-use Rattle.ss_base.specs.declared.value.Value.TheVariants.{Whole}
+use Rattle.ss_machine_instructions.proofs.Common.{act, Integer, is_due, IsDelivering, on_after, only_number, place_at, Whole}
 use Rattle.ss_code_instructions.specs.declared.instruction.Instruction.TheVariants.{Move as Runs}
-use Rattle.ss_code_instructions.specs.Machine.{act, is_due}
-use Rattle.ss_machine_frames.specs.Rows.{place_at}
-use Rattle.ss_machine_frames.proofs.Reading.{only_number}
-use Rattle.ss_machine_instructions.specs.Ways.{on_after}
-use Rattle.ss_machine_instructions.specs.Doing.{IsDelivering}
 use Rattle.ss_machine_instructions.proofs.Placing.{calm}
 use Rattle.ss_machine_instructions.proofs.Calculating.{moves_in, moves}
 use Rattle.ss_machine_instructions.proofs.state.State.move_number.Goals as goal

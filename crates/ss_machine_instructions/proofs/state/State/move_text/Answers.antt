@@ -1,11 +1,6 @@
 use Rattle.std.proofs.Common.{refl, ap}
-use Rattle.ss_base.specs.declared.layout.Mode.TheVariants.{Alpha}
-use Rattle.ss_base.specs.declared.value.Value.TheVariants.{Text}
+use Rattle.ss_machine_instructions.proofs.Common.{Alpha, is_due, on_after, only_text, place_at, Text}
 use Rattle.ss_code_instructions.specs.declared.instruction.Instruction.TheVariants.{MoveText as Runs}
-use Rattle.ss_code_instructions.specs.Machine.{is_due}
-use Rattle.ss_machine_frames.specs.Rows.{place_at}
-use Rattle.ss_machine_frames.proofs.Reading.{only_text}
-use Rattle.ss_machine_instructions.specs.Ways.{on_after}
 use Rattle.ss_machine_instructions.proofs.Placing.{calm}
 use Rattle.ss_machine_instructions.proofs.Calculating.{moves_in, moves}
 use Rattle.ss_machine_instructions.proofs.state.State.move_text.Goals as goal

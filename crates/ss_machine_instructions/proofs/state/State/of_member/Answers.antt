@@ -1,9 +1,6 @@
 use Rattle.std.proofs.Common.{rules, ◌≡◌, ℤ, ap, sym, subst, to_z, of_z, w64}
 use Rattle.ss_code_instructions.specs.Forms.{asking_member}
-use Rattle.ss_code_instructions.specs.Machine.{act, is_due}
-use Rattle.ss_machine_world.specs.Seen.{Seen, as_value}
-use Rattle.ss_machine_instructions.specs.Ways.{on_after}
-use Rattle.ss_machine_instructions.specs.Doing.{IsDelivering}
+use Rattle.ss_machine_instructions.proofs.Common.{act, as_value, is_due, IsDelivering, on_after, Seen}
 use Rattle.ss_machine_instructions.specs.Worldly.{member_answer}
 use Rattle.ss_machine_instructions.proofs.Forms.{asked_of_member}
 use Rattle.ss_machine_instructions.proofs.Setwork.{asks_member_in, asks_member, takes}

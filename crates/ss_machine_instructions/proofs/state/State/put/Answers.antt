@@ -1,11 +1,7 @@
 use Rattle.std.proofs.Common.{rules, ◌≡◌, ℤ, subst, to_z, of_z, w64, ap, refl}
-use Rattle.ss_base.specs.declared.value.Value.TheVariants.{Whole}
-use Rattle.ss_machine_frames.specs.Rows.{place_at, with_number}
-use Rattle.ss_machine_instructions.specs.Ways.{on_after, on_at}
-use Rattle.ss_machine_instructions.specs.Doing.{IsDelivering}
+use Rattle.ss_machine_instructions.proofs.Common.{as_value, IsDelivering, on_after, on_at, place_at, Whole, with_number}
 use Rattle.ss_machine_instructions.proofs.Delivering.{put_within, put_value, put_fault}
 use Rattle.ss_machine_instructions.proofs.state.State.put.Goals as goal
-use Rattle.ss_machine_world.specs.Seen.{as_value}
 
 pub set_number-requires : goal.set_number-requires
 set_number-requires c = let z = c.requires in put_within z.0 z.1 z.2 z.3 c.args.here c.args.self.now c.args.to.now (as_value c.args.answer) z.4

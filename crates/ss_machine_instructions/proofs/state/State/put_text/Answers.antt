@@ -1,7 +1,5 @@
 use Rattle.std.proofs.Common.{subst, ap, refl}
-use Rattle.ss_base.specs.declared.value.Value.TheVariants.{Text}
-use Rattle.ss_machine_instructions.specs.Ways.{on_after, on_at}
-use Rattle.ss_machine_instructions.specs.Doing.{IsDelivering, as_text}
+use Rattle.ss_machine_instructions.proofs.Common.{as_text, IsDelivering, on_after, on_at, Text}
 use Rattle.ss_machine_instructions.proofs.Delivering.{put_within, put_value, put_fault}
 use Rattle.ss_machine_instructions.proofs.state.State.put_text.Goals as goal
 

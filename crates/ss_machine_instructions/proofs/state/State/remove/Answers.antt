@@ -1,7 +1,6 @@
 use Rattle.std.proofs.Common.{rules, ◌≡◌, ℤ, subst, to_z, of_z, w64, ap}
 use Rattle.ss_code_instructions.specs.declared.instruction.Instruction.TheVariants.{Remove as Runs}
-use Rattle.ss_machine_instructions.specs.Ways.{on_after}
-use Rattle.ss_machine_instructions.specs.Worldly.{HasRemoved}
+use Rattle.ss_machine_instructions.proofs.Common.{HasRemoved, on_after}
 use Rattle.ss_machine_instructions.proofs.Setwork.{removes_in, removes}
 use Rattle.ss_machine_instructions.proofs.state.State.remove.Goals as goal
 

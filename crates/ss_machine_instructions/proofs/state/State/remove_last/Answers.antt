@@ -1,13 +1,9 @@
 use Rattle.std.proofs.Common.{rules, ◌≡◌, ℤ, Ok, Err, ap, sym, subst, to_z, of_z, w64}
 use Rattle.ss_base.specs.declared.words.End.TheVariants.{Last}
 use Rattle.ss_code_instructions.specs.declared.instruction.Instruction.TheVariants.{RemoveLast as Runs}
-use Rattle.ss_code_instructions.specs.Machine.{act, is_due}
-use Rattle.ss_machine_instructions.specs.Ways.{on_after}
-use Rattle.ss_machine_instructions.specs.Doing.{IsDelivering}
-use Rattle.ss_machine_instructions.specs.Worldly.{HasTaken}
+use Rattle.ss_machine_instructions.proofs.Common.{act, as_value, HasTaken, is_due, IsDelivering, on_after}
 use Rattle.ss_machine_instructions.proofs.Setwork.{takes_in, takes_delivers, takes, takes_not}
 use Rattle.ss_machine_instructions.proofs.state.State.remove_last.Goals as goal
-use Rattle.ss_machine_world.specs.Seen.{as_value}
 
 pub number-owner-requires : goal.number-owner-requires
 number-owner-requires c = let z = c.requires in (takes_in z.0 z.1 c.args.here c.args.self.now (Runs c.args.set c.args.owner.now c.args.to.now c.args.noted) z.2 Last c.args.set c.args.owner.now c.args.to.now z.2.runs.carries.1).0

@@ -1,11 +1,7 @@
 use Rattle.std.proofs.Common.{rules, ◌≡◌, Ok, Err, ap, ◌∙◌, to_z, of_z, w64}
 use Rattle.std.specs.Prelude.{MatchResult}
 use Rattle.ss_code_instructions.specs.declared.instruction.Instruction.TheVariants.{SetTextAttribute as Runs}
-use Rattle.ss_base.specs.declared.layout.Mode.TheVariants.{Alpha}
-use Rattle.ss_base.specs.declared.value.Value.TheVariants.{Text}
-use Rattle.ss_world.specs.State.{assigned}
-use Rattle.ss_machine_world.specs.Seen.{Seen}
-use Rattle.ss_machine_instructions.specs.Ways.{faulted_by, on_after}
+use Rattle.ss_machine_instructions.proofs.Common.{Alpha, assigned, faulted_by, on_after, Seen, Text}
 use Rattle.ss_machine_instructions.proofs.Seeing.{mode_there, class_within}
 use Rattle.ss_machine_instructions.proofs.Assigning.{sets_in, sets_text}
 use Rattle.ss_machine_instructions.proofs.state.State.set_text_attribute.Goals as goal

@@ -1,7 +1,6 @@
 use Rattle.std.proofs.Common.{rules, ◌≡◌, ap, false, true, refl}
 use Rattle.ss_code_instructions.specs.declared.instruction.Instruction.TheVariants.{Turn as Runs}
-use Rattle.ss_code_instructions.specs.Machine.{is_due}
-use Rattle.ss_machine_instructions.specs.Ways.{on_after, on_at}
+use Rattle.ss_machine_instructions.proofs.Common.{is_due, on_after, on_at}
 use Rattle.ss_machine_instructions.proofs.Ticking.{pauses, turns}
 use Rattle.ss_machine_instructions.proofs.state.State.turn.Goals as goal
 

@@ -1,11 +1,7 @@
 use Rattle.std.proofs.Common.{rules, ◌≡◌, Some, refl}
-use Rattle.ss_base.specs.declared.layout.Mode.TheVariants.{Integer}
-use Rattle.ss_base.specs.declared.value.Value.TheVariants.{Whole}
+use Rattle.ss_machine_instructions.proofs.Common.{Integer, on_if_at, only_number, place_at, Whole}
 use Rattle.ss_code_instructions.specs.Forms.{comparing_numbers}
 use Rattle.ss_meaning.specs.Values.{related}
-use Rattle.ss_machine_frames.specs.Rows.{place_at}
-use Rattle.ss_machine_frames.proofs.Reading.{only_number}
-use Rattle.ss_machine_instructions.specs.Ways.{on_if_at}
 use Rattle.ss_machine_instructions.proofs.Comparing.{compares_in, compares}
 use Rattle.ss_machine_instructions.proofs.Forms.{compared}
 use Rattle.ss_machine_instructions.proofs.state.State.unless_numbers.Goals as goal

@@ -1,10 +1,6 @@
 use Rattle.std.proofs.Common.{refl}
-use Rattle.ss_base.specs.declared.layout.Mode.TheVariants.{Alpha}
-use Rattle.ss_base.specs.declared.value.Value.TheVariants.{Text}
+use Rattle.ss_machine_instructions.proofs.Common.{Alpha, on_if_at, only_text, place_at, Text}
 use Rattle.ss_code_instructions.specs.declared.instruction.Instruction.TheVariants.{UnlessTexts as Runs}
-use Rattle.ss_machine_frames.specs.Rows.{place_at}
-use Rattle.ss_machine_frames.proofs.Reading.{only_text}
-use Rattle.ss_machine_instructions.specs.Ways.{on_if_at}
 use Rattle.ss_machine_instructions.proofs.Comparing.{compares_in, compares}
 use Rattle.ss_machine_instructions.proofs.state.State.unless_texts.Goals as goal
 

@@ -1,11 +1,8 @@
 use Rattle.std.proofs.Common.{rules, ◌≡◌, ◌<◌, ℤ, length, Ok, Err, sym, subst, to_z, of_z, w64, refl}
 use Rattle.std.specs.Prelude.{MatchResult}
-use Rattle.ss_base.specs.declared.value.Value.TheVariants.{Whole}
+use Rattle.ss_machine_world.proofs.Common.{HasChanged, known_in, Seen, Times, Whole}
 use Rattle.ss_world.specs.PendingList.{cancelled}
-use Rattle.ss_world.specs.State.{known_in}
-use Rattle.ss_machine_time.specs.Times.{Times}
 use Rattle.ss_meaning.specs.Events.{unscheduled}
-use Rattle.ss_machine_world.specs.Seen.{Seen, HasChanged}
 use Rattle.ss_machine_world.proofs.Leaving.{there_in, cancelled_changes, not_cancelled, cancelled_statistics}
 use Rattle.ss_machine_world.proofs.Starting.{seen_of}
 use Rattle.ss_machine_world.proofs.Said.{said_still}

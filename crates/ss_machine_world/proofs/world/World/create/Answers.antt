@@ -1,12 +1,7 @@
 use Rattle.std.proofs.Common.{arith, ◌≡◌, List, length, true, false, Err, refl, ap, sym, ◌∙◌, subst}
 use Rattle.std.specs.Prelude.{slice_get}
 use Rattle.std.specs.List.{list_any}
-use Rattle.ss_base.specs.declared.layout.Owner.TheVariants.{Class}
-use Rattle.ss_machine_time.specs.Records.{is_home, columns_of}
-use Rattle.ss_meaning.specs.Entities.{is_single, made_one}
-use Rattle.ss_machine_world.specs.declared.class.ClassEntry.{ClassEntry}
-use Rattle.ss_machine_world.specs.Classes.{AreSaid}
-use Rattle.ss_machine_world.specs.Seen.{Seen, HasMade}
+use Rattle.ss_machine_world.proofs.Common.{AreSaid, Class, ClassEntry, columns_of, HasMade, is_home, is_single, made_one, Seen}
 use Rattle.ss_machine_world.proofs.Said.{none_start, said_still}
 use Rattle.ss_machine_world.proofs.Starting.{one_alone, seen_of}
 use Rattle.ss_machine_world.proofs.world.World.create.Goals as goal

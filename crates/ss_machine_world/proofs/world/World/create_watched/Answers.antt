@@ -1,12 +1,6 @@
 use Rattle.std.proofs.Common.{rules, ◌≡◌, ℤ, true, Ok, ap, sym, ◌∙◌, subst, int_eq, to_z, of_z, w64, refl}
 use Rattle.std.specs.Prelude.{pos, slice_get}
-use Rattle.ss_base.specs.declared.layout.Layout.{Layout}
-use Rattle.ss_base.specs.declared.layout.Owner.TheVariants.{Class}
-use Rattle.ss_machine_time.specs.Records.{HasRooms}
-use Rattle.ss_machine_time.specs.Times.{Times, columns}
-use Rattle.ss_meaning.specs.Entities.{is_single, made_one}
-use Rattle.ss_meaning.specs.Histories.{starting}
-use Rattle.ss_machine_world.specs.Seen.{Seen, HasMade}
+use Rattle.ss_machine_world.proofs.Common.{Class, columns, HasMade, HasRooms, is_single, Layout, made_one, Seen, starting, Times}
 use Rattle.ss_machine_world.proofs.Starting.{one_made, seen_of, seen_moved}
 use Rattle.ss_machine_world.proofs.Said.{said_still}
 use Rattle.ss_machine_world.proofs.world.World.create_watched.Goals as goal

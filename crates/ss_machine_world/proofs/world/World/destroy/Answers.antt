@@ -1,9 +1,7 @@
 use Rattle.std.proofs.Common.{rules, ◌≡◌, true, false, Err, refl, subst, to_z, of_z, w64, ℤ}
-use Rattle.ss_base.specs.declared.value.Value.TheVariants.{Whole}
+use Rattle.ss_machine_world.proofs.Common.{Fails, gone, HasChanged, Whole, with_seen}
 use Rattle.ss_world.specs.PendingList.{is_pending}
-use Rattle.ss_meaning.specs.Entities.{gone, without}
-use Rattle.ss_meaning.specs.Values.{Fails}
-use Rattle.ss_machine_world.specs.Seen.{HasChanged, with_seen}
+use Rattle.ss_meaning.specs.Entities.{without}
 use Rattle.ss_machine_world.proofs.Leaving.{gone_without}
 use Rattle.ss_machine_world.proofs.world.World.destroy.Goals as goal
 

@@ -1,8 +1,5 @@
 use Rattle.std.proofs.Common.{arith, ◌≡◌, List, length, ap, sym, ◌∙◌, subst}
-use Rattle.ss_meaning.specs.Events.{ranked_from}
-use Rattle.ss_machine_world.specs.declared.class.ClassEntry.{ClassEntry}
-use Rattle.ss_machine_world.specs.Classes.{AreSaid}
-use Rattle.ss_machine_world.specs.Seen.{Seen}
+use Rattle.ss_machine_world.proofs.Common.{AreSaid, ClassEntry, ranked_from, Seen}
 use Rattle.ss_machine_world.proofs.world.World.has_ties.Goals as goal
 
 pub has_ties-requires : goal.has_ties-requires

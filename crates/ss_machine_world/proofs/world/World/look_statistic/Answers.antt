@@ -1,8 +1,5 @@
 use Rattle.std.proofs.Common.{rules, ◌≡◌, Some, None, ap, sym, ◌∙◌, subst, to_z, of_z, w64}
-use Rattle.ss_program.specs.declared.sections.Subject.{Subject}
-use Rattle.ss_machine_time.specs.Figures.{subject_in}
-use Rattle.ss_machine_world.specs.Numbers.{looked_in}
-use Rattle.ss_machine_world.specs.Seen.{Seen}
+use Rattle.ss_machine_world.proofs.Common.{looked_in, Seen, Subject, subject_in}
 use Rattle.ss_machine_world.proofs.Figured.{one_subject}
 use Rattle.ss_machine_world.proofs.world.World.look_statistic.Goals as goal
 

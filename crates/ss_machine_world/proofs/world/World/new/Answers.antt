@@ -1,6 +1,5 @@
 use Rattle.std.proofs.Common.{List, sym, subst}
-use Rattle.ss_meaning.specs.Store.{Notices}
-use Rattle.ss_machine_world.specs.Classes.{AreSaid}
+use Rattle.ss_machine_world.proofs.Common.{AreSaid, Notices}
 use Rattle.ss_machine_world.proofs.Said.{said_still}
 use Rattle.ss_machine_world.proofs.world.World.new.Goals as goal
 

@@ -1,12 +1,6 @@
 use Rattle.std.proofs.Common.{rules, ◌≡◌, ℤ, Some, Ok, Err, sym, subst, to_z, of_z, w64, refl}
 use Rattle.std.specs.Prelude.{slice_get, Result as OkOr}
-use Rattle.ss_base.specs.declared.fault.FaultKind.{FaultKind}
-use Rattle.ss_base.specs.declared.layout.Mode.TheVariants.{Integer}
-use Rattle.ss_base.specs.declared.value.Value.TheVariants.{Whole}
-use Rattle.ss_program.specs.declared.sections.Subject.TheVariants.{OfAttribute}
-use Rattle.ss_world.specs.State.{modes_of, value_in}
-use Rattle.ss_machine_world.specs.Numbers.{attribute_noted, or_full}
-use Rattle.ss_machine_world.specs.Seen.{Seen, HasChanged}
+use Rattle.ss_machine_world.proofs.Common.{attribute_noted, FaultKind, HasChanged, Integer, modes_of, OfAttribute, or_full, Seen, value_in, Whole}
 use Rattle.ss_machine_world.proofs.Noting.{noted_changes, attribute_changes, attribute_not, noted_statistics}
 use Rattle.ss_machine_world.proofs.Starting.{seen_of}
 use Rattle.ss_machine_world.proofs.Said.{said_still}

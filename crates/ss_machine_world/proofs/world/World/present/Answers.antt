@@ -1,14 +1,7 @@
 use Rattle.std.proofs.Common.{rules, ◌≡◌, ◌<◌, ℤ, length, Some, Ok, Err, ap, sym, ◌∙◌, subst, to_z, of_z, w64, refl}
 use Rattle.std.specs.Prelude.{slice_get, MatchResult, Result as OkOr}
-use Rattle.ss_base.specs.declared.fault.FaultKind.{FaultKind}
-use Rattle.ss_base.specs.declared.layout.Mode.TheVariants.{Integer}
-use Rattle.ss_base.specs.declared.value.Value.{Value}
-use Rattle.ss_base.specs.declared.value.Value.TheVariants.{Whole}
-use Rattle.ss_program.specs.declared.sections.Subject.{Subject}
-use Rattle.ss_world.specs.State.{State, modes_of, value_in}
-use Rattle.ss_world.specs.Sets.{count_in}
-use Rattle.ss_machine_world.specs.Numbers.{IsSubject, present_in}
-use Rattle.ss_machine_world.specs.Seen.{Seen}
+use Rattle.ss_machine_world.proofs.Common.{count_in, FaultKind, Integer, modes_of, present_in, Seen, State, Subject, Value, value_in, Whole}
+use Rattle.ss_machine_world.specs.Numbers.{IsSubject}
 use Rattle.ss_machine_world.proofs.Figured.{whole_value, number_value}
 use Rattle.ss_machine_world.proofs.Said.{said_still}
 use Rattle.ss_machine_world.proofs.world.World.present.Goals as goal

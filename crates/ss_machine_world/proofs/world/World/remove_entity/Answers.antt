@@ -1,14 +1,7 @@
 use Rattle.std.proofs.Common.{arith, rules, ◌≡◌, ℤ, List, length, true, Ok, Err, ap, sym, ◌∙◌, subst, to_z, of_z, w64, refl}
 use Rattle.std.specs.Prelude.{slice_get}
-use Rattle.ss_base.specs.declared.layout.Layout.{Layout}
-use Rattle.ss_base.specs.declared.value.Value.TheVariants.{Whole}
+use Rattle.ss_machine_world.proofs.Common.{AreSaid, ClassEntry, columns, ending, gone, HasChanged, is_single, Layout, Seen, Times, Whole}
 use Rattle.ss_world.specs.State.{destroyed}
-use Rattle.ss_machine_time.specs.Times.{Times, columns}
-use Rattle.ss_meaning.specs.Entities.{is_single, gone}
-use Rattle.ss_meaning.specs.Histories.{ending}
-use Rattle.ss_machine_world.specs.declared.class.ClassEntry.{ClassEntry}
-use Rattle.ss_machine_world.specs.Classes.{AreSaid}
-use Rattle.ss_machine_world.specs.Seen.{Seen, HasChanged}
 use Rattle.ss_machine_world.proofs.Leaving.{gone_ended, gone_not}
 use Rattle.ss_machine_world.proofs.Starting.{seen_of, seen_moved}
 use Rattle.ss_machine_world.proofs.Said.{said_still}

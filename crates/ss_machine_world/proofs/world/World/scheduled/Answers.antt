@@ -1,6 +1,5 @@
 use Rattle.std.proofs.Common.{rules, ◌≡◌, ℤ, Ok, Err, ap, subst, to_z, of_z, w64}
-use Rattle.ss_world.specs.State.{State, known_in}
-use Rattle.ss_machine_world.specs.Seen.{Seen}
+use Rattle.ss_machine_world.proofs.Common.{known_in, Seen, State}
 use Rattle.ss_machine_world.proofs.Leaving.{kept_pending, there_in}
 use Rattle.ss_machine_world.proofs.world.World.scheduled.Goals as goal
 

@@ -1,12 +1,9 @@
 use Rattle.std.proofs.Common.{rules, ◌≡◌, w64, to_z, of_z, refl, sym, ap, subst, ◌∙◌, Ok}
 use Rattle.std.specs.Prelude.{pos, if◌then◌else◌, slice_index_or}
 use Rattle.std.proofs.lemmas.Int.{to_z-of_z}
-use Rattle.ss_base.specs.declared.value.Value.TheVariants.{Whole}
-use Rattle.ss_base.specs.declared.layout.Mode.TheVariants.{Integer}
+use Rattle.ss_records_entities.proofs.Common.{and_then, Integer, IsValuePut, Whole}
 use Rattle.ss_base.specs.Arithmetic.{plus_of, minus_of}
-use Rattle.ss_world.specs.State.{and_then}
 use Rattle.ss_records_entities.specs.Attributes.{changed_number}
-use Rattle.ss_records_words.specs.Reading.{IsValuePut}
 use Rattle.ss_records_entities.proofs.Attributes.{found_first, found_second, found_value, found_kept, found_length, found_assigned, found_reads}
 use Rattle.ss_records_entities.proofs.Still.{few_fields}
 use Rattle.ss_records_entities.proofs.records.Records.change_whole.Goals as goal

@@ -4,11 +4,8 @@ use Rattle.std.proofs.lemmas.Int.{ints}
 use Rattle.std.specs.Int.{cast_signed}
 use mir.Syntax.{w64}
 use Rattle.ss_records_words.specs.Laid.{IsLaid}
-use Rattle.ss_records_blocks.specs.Cells.{blanks}
-use Rattle.ss_world.specs.State.{LAST_NUMBER}
-use Rattle.ss_records_words.specs.Kept.{ArePartsKept, state_of}
-use Rattle.ss_records_entities.specs.Parts.{places}
-use Rattle.ss_records_blocks.proofs.Puts.{words_new, word_blank, length-blanks}
+use Rattle.ss_records_entities.proofs.Common.{ArePartsKept, blanks, LAST_NUMBER, length-blanks, places, state_of, words_new}
+use Rattle.ss_records_blocks.proofs.Puts.{word_blank}
 use Rattle.ss_records_entities.proofs.Creates.{room_for_one, kept_created, is_created}
 use Rattle.ss_records_entities.proofs.Issuing.{block_fits, at_rest, rests, one_left}
 use Rattle.ss_records_entities.proofs.records.Records.create.Goals as goal

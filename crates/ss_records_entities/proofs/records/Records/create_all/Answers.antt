@@ -2,10 +2,8 @@ use Rattle.std.proofs.Common.{◌*◌, Ok, Some, length, w64, to_z, of_z, refl, 
 use Rattle.std.specs.Prelude.{ℤ, nat_abs, IsOk}
 use Rattle.std.proofs.lemmas.Int.{to_z-of_z}
 use Rattle.std.proofs.lemmas.Option.{slice_get_read}
-use Rattle.ss_base.specs.declared.layout.Owner.TheVariants.{Class}
+use Rattle.ss_records_entities.proofs.Common.{Class, places, set_places, state}
 use Rattle.ss_world.specs.State.{created_all}
-use Rattle.ss_records_words.specs.Shape.{set_places}
-use Rattle.ss_records_entities.specs.Parts.{places, state}
 use Rattle.ss_records_entities.proofs.Issuing.{at_rest, none_is, made_twice, made_once}
 use Rattle.ss_records_entities.proofs.records.Records.create_all.Goals as goal
 

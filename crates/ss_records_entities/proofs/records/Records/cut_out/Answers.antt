@@ -1,8 +1,5 @@
 use Rattle.std.proofs.Common.{◌≡◌, ◌+◌, ◌++◌, refl, sym, ap, ◌∙◌}
-use Rattle.ss_records_blocks.specs.Cells.{link, number, word_at}
-use Rattle.ss_world.specs.State.{State}
-use Rattle.ss_world.specs.Sets.{with_list_of}
-use Rattle.ss_records_entities.specs.Parts.{state}
+use Rattle.ss_records_entities.proofs.Common.{link, number, State, state, with_list_of, word_at}
 use Rattle.ss_records_entities.proofs.Files.{still_around}
 use Rattle.ss_records_entities.proofs.Cuts.{parts, prev_found, next_found, around_it, list_less}
 use Rattle.ss_records_entities.proofs.Still.{kept_still, set_still, owns_still, joins_still, base_room, reads_only}

@@ -3,14 +3,8 @@ use Rattle.std.specs.Prelude.{nat_abs}
 use Rattle.std.proofs.lemmas.Int.{to_z-of_z}
 use Rattle.std.specs.Int.{cast_signed, cast_unsigned}
 use mir.Syntax.{w64}
-use Rattle.ss_base.specs.declared.layout.Owner.TheVariants.{Class}
-use Rattle.ss_records_entities.specs.declared.records.Records.{Records}
-use Rattle.ss_records_blocks.specs.Cells.{without_block, words_at}
-use Rattle.ss_records_words.specs.Places.{lying}
-use Rattle.ss_records_words.specs.Shape.{block_words, set_places}
-use Rattle.ss_records_words.specs.Kept.{ArePartsKept, state_of}
+use Rattle.ss_records_entities.proofs.Common.{ArePartsKept, block_words, Class, lying, places, Records, set_places, state, state_of, uncounted, without_block, words_at}
 use Rattle.ss_world.specs.State.{destroyed}
-use Rattle.ss_records_entities.specs.Parts.{places, state, uncounted}
 use Rattle.ss_records_entities.proofs.Destroys.{its_size, kept_destroyed, is_destroyed}
 use Rattle.ss_records_entities.proofs.Still.{kept_still, as_many, unmoved}
 use Rattle.ss_records_entities.proofs.Frees.{free_by, by_number}

@@ -1,9 +1,6 @@
 use Rattle.std.proofs.Common.{◌≡◌, [], ◌∷◌, ◌++◌, refl, sym, ap, ◌∙◌}
 use Rattle.std.proofs.lemmas.Int.{to_z-of_z}
-use Rattle.ss_records_blocks.specs.Cells.{link, number, word_at}
-use Rattle.ss_world.specs.State.{State, members_of}
-use Rattle.ss_world.specs.Sets.{with_list_of, put_in}
-use Rattle.ss_records_entities.specs.Parts.{state, uncounted}
+use Rattle.ss_records_entities.proofs.Common.{link, members_of, number, put_in, State, state, uncounted, with_list_of, word_at}
 use Rattle.ss_records_entities.proofs.Looks.{first_leads}
 use Rattle.ss_records_entities.proofs.Files.{looked, still_between}
 use Rattle.ss_records_entities.proofs.Cuts.{at_first, put_twice, put_done}

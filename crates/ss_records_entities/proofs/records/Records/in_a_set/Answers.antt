@@ -1,9 +1,5 @@
 use Rattle.std.proofs.Common.{◌≡◌, ℕ, refl, ◌<◌, ◌+◌, ◌*◌, inl, length, sym, ap, subst, ◌∙◌, arith}
-use Rattle.ss_base.specs.declared.layout.Owner.TheVariants.{Class}
-use Rattle.ss_records_entities.specs.declared.records.Records.{Records}
-use Rattle.ss_records_blocks.specs.Cells.{link, number, word_at}
-use Rattle.ss_records_blocks.specs.Links.{HasLink}
-use Rattle.ss_records_words.specs.Shape.{links_start}
+use Rattle.ss_records_entities.proofs.Common.{Class, HasLink, link, links_start, number, Records, word_at}
 use Rattle.ss_records_entities.proofs.Linked.{Here, here, at_first, room, found, after, at_last, few_touched}
 use Rattle.ss_records_entities.proofs.OwnLinks.{leads_on, filed_there, filed_nowhere}
 use Rattle.ss_records_entities.proofs.records.Records.in_a_set.Goals as goal

@@ -1,7 +1,5 @@
 use Rattle.std.proofs.Common.{sym, ap, ◌∙◌}
-use Rattle.ss_base.specs.declared.layout.ClassLayout.{ClassLayout}
-use Rattle.ss_base.specs.declared.layout.Layout.{Layout}
-use Rattle.ss_world.specs.State.{is_notice}
+use Rattle.ss_records_entities.proofs.Common.{ClassLayout, is_notice, Layout}
 use Rattle.ss_records_entities.proofs.ReadKind.{no_notice, kind_found, kind_past}
 use Rattle.ss_records_entities.proofs.records.Records.is_notice.Goals as goal
 

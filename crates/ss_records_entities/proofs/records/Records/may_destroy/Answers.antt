@@ -1,9 +1,7 @@
 use Rattle.std.proofs.Common.{◌≡◌, sym, ap}
 use Rattle.std.specs.Prelude.{Result as OkOr}
 use Rattle.std.proofs.lemmas.Int.{to_z-of_z}
-use Rattle.ss_base.specs.declared.fault.FaultKind.{FaultKind}
-use Rattle.ss_world.specs.State.{State, no_value}
-use Rattle.ss_records_entities.specs.Parts.{places, state, uncounted}
+use Rattle.ss_records_entities.proofs.Common.{FaultKind, no_value, places, State, state, uncounted}
 use Rattle.ss_records_entities.proofs.Destroys.{is_destroyed}
 use Rattle.ss_records_entities.proofs.Still.{kept_still, unmoved}
 use Rattle.ss_records_entities.proofs.Frees.{by_number}

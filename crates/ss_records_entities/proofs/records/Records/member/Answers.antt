@@ -1,10 +1,6 @@
 use Rattle.std.proofs.Common.{rules, ◌≡◌, ◌<◌, ℤ, w64, to_z, of_z, Ok, Some, pos, length, slice_get, sym, ap, subst, ◌∙◌, arith}
 use Rattle.std.proofs.lemmas.Int.{to_z-of_z}
-use Rattle.ss_base.specs.declared.layout.SetLayout.{SetLayout}
-use Rattle.ss_world.specs.State.{modes_of, value_in}
-use Rattle.ss_world.specs.Sets.{member_in, member_class}
-use Rattle.ss_records_entities.specs.declared.records.Records.{Records}
-use Rattle.ss_records_entities.specs.Parts.{state}
+use Rattle.ss_records_entities.proofs.Common.{member_class, member_in, modes_of, Records, SetLayout, state, value_in}
 use Rattle.ss_records_entities.proofs.Owning.{kind_is}
 use Rattle.ss_records_entities.proofs.Passing.{is_number, second_is_number, its_value}
 use Rattle.ss_records_entities.proofs.Skims.{joiner_at}

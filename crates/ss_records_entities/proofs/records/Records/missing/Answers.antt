@@ -1,9 +1,7 @@
 use Rattle.std.proofs.Common.{subst}
 use Rattle.std.specs.Prelude.{Result, IsErr}
 use Rattle.std.proofs.lemmas.Int.{to_z-of_z}
-use Rattle.ss_base.specs.declared.fault.FaultKind.{FaultKind}
-use Rattle.ss_world.specs.State.{Record}
-use Rattle.ss_records_blocks.proofs.Same.{false_is_not_true}
+use Rattle.ss_records_entities.proofs.Common.{false_is_not_true, FaultKind, Record}
 use Rattle.ss_records_entities.proofs.records.Records.missing.Goals as goal
 
 -- there is an entity, and there is none

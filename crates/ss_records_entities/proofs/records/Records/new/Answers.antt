@@ -1,14 +1,9 @@
 use Rattle.std.proofs.Common.{◌≡◌, ◌*◌, [], length, None, sym, ap, subst, ◌∙◌, arith}
 use Rattle.std.specs.Prelude.{replicate}
 use Rattle.std.proofs.lemmas.Result.{IfOk-at_ok, MatchResult-at_ok}
-use Rattle.ss_base.specs.declared.layout.Layout.{Layout}
-use Rattle.ss_base.specs.declared.layout.Owner.TheVariants.{System}
-use Rattle.ss_records_blocks.specs.Cells.{blanks}
+use Rattle.ss_records_entities.proofs.Common.{blanks, block_words, IsSmall, IsSystemLaid, Layout, length-blanks, set_places, System, words_new}
 use Rattle.ss_world.specs.State.{first_state}
-use Rattle.ss_records_words.specs.Shape.{block_words, set_places}
-use Rattle.ss_records_words.specs.Kept.{IsSmall}
-use Rattle.ss_records_words.specs.Laid.{IsSystemLaid}
-use Rattle.ss_records_blocks.proofs.Puts.{words_new, word_blank, length-blanks}
+use Rattle.ss_records_blocks.proofs.Puts.{word_blank}
 use Rattle.ss_records_entities.proofs.Living.{kept_first, none_made}
 use Rattle.ss_records_entities.proofs.records.Records.new.Goals as goal
 

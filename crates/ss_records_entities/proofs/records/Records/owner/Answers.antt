@@ -1,11 +1,7 @@
 use Rattle.std.proofs.Common.{sym, ap, ◌∙◌}
 use Rattle.std.proofs.lemmas.Int.{to_z-of_z}
-use Rattle.ss_base.specs.declared.layout.Owner.TheVariants.{Class}
-use Rattle.ss_base.specs.declared.layout.SetLayout.{SetLayout}
-use Rattle.ss_records_entities.specs.Parts.{state}
-use Rattle.ss_world.specs.Sets.{owner_in, owner_kind}
+use Rattle.ss_records_entities.proofs.Common.{Class, false_is_not_true, owner_in, owner_kind, SetLayout, state}
 use Rattle.ss_records_words.specs.Plans.{is_system}
-use Rattle.ss_records_blocks.proofs.Same.{false_is_not_true}
 use Rattle.ss_records_entities.proofs.Owning.{has_number, owns_found, not_owner, of_system, system_owns, kind_is}
 use Rattle.ss_records_entities.proofs.records.Records.owner.Goals as goal
 

@@ -1,9 +1,6 @@
 use Rattle.std.proofs.Common.{inl, ◌≡◌, ◌+◌, sym, ap, subst, ◌∙◌}
 use Rattle.std.specs.Prelude.{not, nat_eq}
-use Rattle.ss_records_blocks.specs.Cells.{word_at}
-use Rattle.ss_world.specs.State.{has_members, members_of}
-use Rattle.ss_records_entities.specs.Parts.{places}
-use Rattle.ss_records_blocks.proofs.Entries.{get_there}
+use Rattle.ss_records_entities.proofs.Common.{get_there, has_members, members_of, places, word_at}
 use Rattle.ss_records_words.proofs.Tied.{may_count, owns_value}
 use Rattle.ss_records_entities.proofs.records.Records.owns_in.Goals as goal
 

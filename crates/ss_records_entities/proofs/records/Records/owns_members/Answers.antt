@@ -1,14 +1,8 @@
 use Rattle.std.proofs.Common.{◌≡◌, ℕ, ◌+◌, ◌<◌, Bool, drop, slice_get, Some, length, inl, refl, sym, ap, subst, ◌∙◌, arith}
-use Rattle.ss_base.specs.declared.layout.Owner.TheVariants.{Class}
-use Rattle.ss_base.specs.declared.layout.SetLayout.{SetLayout}
-use Rattle.ss_records_entities.specs.declared.records.Records.{Records}
-use Rattle.ss_world.specs.State.{has_members, members_of}
-use Rattle.ss_records_words.specs.Places.{class_at_place}
-use Rattle.ss_records_blocks.proofs.Entries.{get_there}
+use Rattle.ss_records_entities.proofs.Common.{Class, class_at_place, get_there, has_members, members_of, owned_by, Records, SetLayout}
 use Rattle.ss_records_words.proofs.Filed.{owns_here, owns_not, owns_other, class_of_owner}
 use Rattle.ss_records_entities.proofs.Still.{kept_still, later_room, last_look, unmoved}
 use Rattle.ss_records_entities.proofs.Setless.{owns_none, as_owner, counts_one, counts_none}
-use Rattle.ss_records_words.specs.Shape.{owned_by}
 use Rattle.ss_records_entities.proofs.records.Records.owns_members.Goals as goal
 use Rattle.ss_records_entities.proofs.records.Records.owns_members.Goals.{then-is_owner+else-owns_in+else-left-eq0-2, else-is_owner}
 

@@ -1,7 +1,5 @@
 use Rattle.std.proofs.Common.{◌≡◌, ◌+◌, ◌≤◌, drop}
-use Rattle.ss_base.specs.declared.layout.Owner.TheVariants.{Class}
-use Rattle.ss_records_words.specs.Shape.{owned_by, count_sets}
-use Rattle.ss_world.specs.State.{owns_members}
+use Rattle.ss_records_entities.proofs.Common.{Class, count_sets, owned_by, owns_members}
 use Rattle.ss_records_entities.proofs.records.Records.owns_members.Given as goal
 
 abbrev pub invariant-loop-s : goal.invariant-loop-s

@@ -1,6 +1,5 @@
 use Rattle.std.proofs.Common.{sym, ◌∙◌}
-use Rattle.ss_world.specs.State.{kind_of}
-use Rattle.ss_world.specs.Sets.{member_class}
+use Rattle.ss_records_entities.proofs.Common.{kind_of, member_class}
 use Rattle.ss_records_entities.proofs.Remembered.{comes_and_goes, numbered_entry}
 use Rattle.ss_records_entities.proofs.records.Records.pass.Goals as goal
 

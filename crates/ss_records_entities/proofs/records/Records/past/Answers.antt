@@ -1,13 +1,7 @@
 use Rattle.std.proofs.Common.{rules, ◌≡◌, ℤ, w64, to_z, of_z, true, false, refl, sym, ap, subst, ◌∙◌, arith}
 use Rattle.std.proofs.lemmas.Int.{to_z-of_z}
-use Rattle.ss_base.specs.declared.value.Value.TheVariants.{Whole}
-use Rattle.ss_world.specs.State.{members_of}
-use Rattle.ss_world.specs.Sets.{member_class}
-use Rattle.ss_records_entities.specs.declared.records.Records.{Records}
-use Rattle.ss_records_blocks.specs.Cells.{word_at}
-use Rattle.ss_records_blocks.specs.Links.{HasLink}
-use Rattle.ss_records_entities.specs.Parts.{state}
-use Rattle.ss_records_entities.specs.Passing.{ranks_past, first_where}
+use Rattle.ss_records_entities.proofs.Common.{HasLink, member_class, members_of, ranks_past, Records, state, Whole, word_at}
+use Rattle.ss_records_entities.specs.Passing.{first_where}
 use Rattle.ss_records_entities.proofs.Looks.{first_leads}
 use Rattle.ss_records_entities.proofs.Cuts.{at_first}
 use Rattle.ss_records_entities.proofs.Still.{joins_still, unmoved}

@@ -1,9 +1,5 @@
 use Rattle.std.proofs.Common.{◌≡◌, ◌+◌, ◌-◌, suc, length}
-use Rattle.ss_base.specs.declared.value.Value.TheVariants.{Whole}
-use Rattle.ss_world.specs.State.{members_of}
-use Rattle.ss_world.specs.Sets.{member_class}
-use Rattle.ss_records_entities.specs.Parts.{state}
-use Rattle.ss_records_entities.specs.Passing.{ranks_past}
+use Rattle.ss_records_entities.proofs.Common.{member_class, members_of, ranks_past, state, Whole}
 use Rattle.ss_records_entities.proofs.Passing.{WalkState}
 use Rattle.ss_records_entities.proofs.records.Records.past.Given as goal
 

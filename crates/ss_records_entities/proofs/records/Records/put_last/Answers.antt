@@ -1,8 +1,5 @@
 use Rattle.std.proofs.Common.{◌≡◌, ◌+◌, true, false, [], refl, sym, ap, ◌∙◌, arith}
-use Rattle.ss_records_blocks.specs.Cells.{link, number, counter, word_at}
-use Rattle.ss_world.specs.State.{members_of, is_filed}
-use Rattle.ss_records_entities.specs.Parts.{state}
-use Rattle.ss_records_blocks.proofs.Same.{by_same, false_is_not_true}
+use Rattle.ss_records_entities.proofs.Common.{by_same, counter, false_is_not_true, is_filed, link, members_of, number, state, word_at}
 use Rattle.ss_records_entities.proofs.Looks.{next_leads, last_leads, counts, how_many, how_many_small, is_filed_value}
 use Rattle.ss_records_entities.proofs.Files.{owner_words, member_words, before_word, kept_in, state_in}
 use Rattle.ss_records_entities.proofs.Cuts.{at_last}

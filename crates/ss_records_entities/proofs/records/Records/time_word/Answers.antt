@@ -1,6 +1,5 @@
 use Rattle.std.proofs.Common.{inl, ap, subst, sym}
-use Rattle.ss_records_blocks.specs.Cells.{IsNumber}
-use Rattle.ss_records_words.specs.Reading.{plain}
+use Rattle.ss_records_entities.proofs.Common.{IsNumber, plain}
 use Rattle.ss_records_entities.proofs.Assigns.{notice_inside}
 use Rattle.ss_records_entities.proofs.records.Records.time_word.Goals as goal
 

@@ -1,8 +1,6 @@
 use Rattle.std.proofs.Common.{ap, ◌∙◌}
 use Rattle.std.proofs.lemmas.Int.{to_z-of_z}
-use Rattle.ss_world.specs.State.{and_then}
-use Rattle.ss_world.specs.Sets.{joiner, owner}
-use Rattle.ss_records_entities.specs.Parts.{state}
+use Rattle.ss_records_entities.proofs.Common.{and_then, joiner, owner, state}
 use Rattle.ss_records_entities.proofs.records.Records.triple.Goals as goal
 
 pub returns-in-Err-pair : goal.returns-in-Err-pair
