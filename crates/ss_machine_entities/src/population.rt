@@ -4,8 +4,8 @@ ghost use Rattle.std.specs.Prelude.{◌≡◌, ℕ, ◌<◌, length, pos, IfOk, 
 ghost use Rattle.ss_base.specs.Arithmetic.{plus_of, minus_of};
 ghost use Rattle.ss_meaning.specs.Fitting.{living};
 ghost use Rattle.ss_records.specs.Kept.{IsPermanent};
-ghost use Rattle.ss_records.specs.State.{first_state, is_made, records_in, known_in, value_in, time_in, assigned, timed, created, created_all, destroyed, kind_of, modes_of, no_value, RefusedFor};
-ghost use Rattle.ss_records.specs.Sets.{joiner, owner, first_in, last_in, count_in, next_in, previous_in, owner_of_member, Apart};
+ghost use Rattle.ss_records.specs.State.{first_state, is_made, records_in, known_in, value_in, time_in, assigned, timed, created, created_all, destroyed, kind_of, modes_of, no_value, IsRefusalOf};
+ghost use Rattle.ss_records.specs.Sets.{joiner, owner, first_in, last_in, count_in, next_in, previous_in, owner_of_member, AreMembersApart};
 ghost use Rattle.ss_records.specs.Attributes.{changed_number, IsAssigned, IsChanged};
 
 mod filing;
@@ -215,7 +215,7 @@ impl Population {
     pub fn create(&mut self, class: usize) -> Result<i64, Refused>
         requires class { class < length self.old.layout.classes }
         requires kind { IsPermanent (kind_of self.old.layout class) → ⊥ }
-        ensures done { MatchResult result (λ n. created self.old class ≡ Ok (n, self.new)) (λ e. (self.new ≡ self.old) × RefusedFor (created self.old class) e) }
+        ensures done { MatchResult result (λ n. created self.old class ≡ Ok (n, self.new)) (λ e. (self.new ≡ self.old) × IsRefusalOf (created self.old class) e) }
         ensures layout { self.new.layout ≡ self.old.layout }
     {
         self.heap.create(class)
@@ -234,7 +234,7 @@ impl Population {
     pub fn create_all(&mut self, class: usize, count: i64) -> Result<(), Refused>
         requires class { class < length self.old.layout.classes }
         requires kind { IsPermanent (kind_of self.old.layout class) }
-        ensures done { MatchResult result (λ _. created_all self.old class count ≡ Ok self.new) (λ e. (self.new ≡ self.old) × RefusedFor (created_all self.old class count) e) }
+        ensures done { MatchResult result (λ _. created_all self.old class count ≡ Ok self.new) (λ e. (self.new ≡ self.old) × IsRefusalOf (created_all self.old class count) e) }
         ensures layout { self.new.layout ≡ self.old.layout }
     {
         match self.heap.create_all(class, count) {
@@ -349,7 +349,7 @@ impl Population {
     /// nothing.
     #[inline(always)]
     pub fn sets_are_apart(&self)
-        ensures { Apart self.now }
+        ensures { AreMembersApart self.now }
     {
         self.heap.sets_are_apart();
     }

@@ -7,7 +7,7 @@ ghost use Rattle.ss_meaning.specs.Sets.{beside};
 ghost use Rattle.ss_records.specs.Sets.{owner_kind, filed_first, filed_last, filed_before, filed_after, removed};
 ghost use Rattle.ss_records.specs.Skimming.{IsSkimmed};
 ghost use Rattle.ss_records.specs.State.{modes_of};
-ghost use Rattle.ss_sets.specs.Disciplines.{FitsMembers, filed, first_removed, last_removed, member_test};
+ghost use Rattle.ss_sets.specs.Disciplines.{HasMemberKeys, filed, first_removed, last_removed, member_test};
 
 use crate::population::Population;
 use ss_base::{Discipline, FaultKind};
@@ -26,7 +26,7 @@ impl Population {
         x: i64,
     ) -> Result<(), FaultKind>
         requires set { set < length self.old.layout.sets }
-        requires keys { FitsMembers self.old.layout set discipline.now }
+        requires keys { HasMemberKeys self.old.layout set discipline.now }
         ensures done { MatchResult result (λ _. filed self.old discipline.now set o x ≡ Ok self.new) (λ e. (filed self.old discipline.now set o x ≡ Err e) × (self.new ≡ self.old)) }
         ensures layout { self.new.layout ≡ self.old.layout }
     {
