@@ -2,9 +2,9 @@
 ghost use Rattle.std.specs.Prelude.{◌≡◌};
 ghost use Rattle.simscript_order.specs.FailureStatuses.{failure_status};
 
+use crate::failure::ProgramFailure;
 use crate::misuse::Misuse;
 use crate::retrying::Retrying;
-use crate::failure::ProgramFailure;
 use std::io::Write;
 
 /// The standard streams of a process.

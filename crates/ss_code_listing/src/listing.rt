@@ -52,7 +52,11 @@ fn add_constant(text: &mut Vec<u8>, value: &Value) -> Result<(), AllocError> {
 }
 
 // Where a value lies.
-fn add_address(text: &mut Vec<u8>, names: AddressNames, address: Address) -> Result<(), AllocError> {
+fn add_address(
+    text: &mut Vec<u8>,
+    names: AddressNames,
+    address: Address,
+) -> Result<(), AllocError> {
     let number = address.number as usize;
     if address.mask != 0 {
         text.extend_from_slice(b"local ")?;
@@ -69,7 +73,12 @@ fn add_address(text: &mut Vec<u8>, names: AddressNames, address: Address) -> Res
 }
 
 // One of the things that an instruction works on.
-fn add_part(text: &mut Vec<u8>, names: AddressNames, place: usize, part: Part) -> Result<(), AllocError> {
+fn add_part(
+    text: &mut Vec<u8>,
+    names: AddressNames,
+    place: usize,
+    part: Part,
+) -> Result<(), AllocError> {
     match part {
         Part::Nothing => Ok(()),
         Part::From(address) => add_address(text, names, address),

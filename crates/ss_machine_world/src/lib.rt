@@ -4,6 +4,6 @@
 
 mod class;
 mod entities;
-pub mod world;
 mod sets;
 mod statistics;
+pub mod world;

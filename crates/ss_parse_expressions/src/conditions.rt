@@ -72,7 +72,11 @@ impl WordTable for TestWords {
 }
 
 /// A verb that compares, and ends with the word.
-fn compares(relation: Relation, tokens: &[Token], last: Word) -> Result<(Verb, &[Token]), ParseFailure>
+fn compares(
+    relation: Relation,
+    tokens: &[Token],
+    last: Word,
+) -> Result<(Verb, &[Token]), ParseFailure>
     ensures { HasGivenReading (λ x. (x.0, x.1.now)) result (apply (λ u. Compares relation) (expect (word last)) tokens.now) }
 {
     let rest = expect_word(tokens, last)?;

@@ -118,7 +118,11 @@ fn signed(alloc: Global, term: Term) -> Result<Expression, AllocError>
 /// An expression, where this many levels of nesting, itself among them, may be opened.
 #[cycle(expressions)]
 #[tactic(auto, unfolding(crate::specs::ReadExpressions::sum_in, crate::specs::ReadExpressions::sum_with))]
-pub fn sum(alloc: Global, tokens: &[Token], room: u8) -> Result<(Expression, &[Token]), ParseFailure>
+pub fn sum(
+    alloc: Global,
+    tokens: &[Token],
+    room: u8,
+) -> Result<(Expression, &[Token]), ParseFailure>
     ensures { HasGivenReading (λ x. (view_expression_tree x.0, x.1.now)) result (sum_in room tokens.now) }
 {
     if room == 0 {
@@ -132,7 +136,11 @@ pub fn sum(alloc: Global, tokens: &[Token], room: u8) -> Result<(Expression, &[T
 /// The first term of a sum, which may have a sign.
 #[cycle(expressions)]
 #[tactic(auto, unfolding(crate::specs::ReadExpressions::first_term_with))]
-fn first_term(alloc: Global, tokens: &[Token], room: u8) -> Result<(Expression, &[Token]), ParseFailure>
+fn first_term(
+    alloc: Global,
+    tokens: &[Token],
+    room: u8,
+) -> Result<(Expression, &[Token]), ParseFailure>
     ensures { HasGivenReading (λ x. (view_expression_tree x.0, x.1.now)) result (first_term_with (sum_in room) tokens.now) }
 {
     if begins_sign(tokens) {

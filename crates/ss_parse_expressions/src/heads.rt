@@ -40,7 +40,11 @@ fn phrase(alloc: Global, tokens: &[Token], room: u8) -> Result<(Phrase, &[Token]
 }
 
 /// Phrases, each with a comma before it or not.
-fn phrases(alloc: Global, tokens: &[Token], room: u8) -> Result<(Vec<Phrase>, &[Token]), ParseFailure>
+fn phrases(
+    alloc: Global,
+    tokens: &[Token],
+    room: u8,
+) -> Result<(Vec<Phrase>, &[Token]), ParseFailure>
     ensures { HasGivenReading (λ x. (map view_phrase_tree x.0.items, x.1.now)) result (phrases_in room tokens.now) }
 {
     let mut all = Vec::new(alloc);

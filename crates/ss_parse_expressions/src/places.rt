@@ -99,7 +99,11 @@ pub fn target(alloc: Global, tokens: &[Token], room: u8) -> Result<(Named, &[Tok
 
 /// A reference to a set, where this many levels of nesting, itself among them, may be opened.
 #[tactic(auto, unfolding(crate::specs::ReadPlaces::named_place_in))]
-pub fn reference(alloc: Global, tokens: &[Token], room: u8) -> Result<(Named, &[Token]), ParseFailure>
+pub fn reference(
+    alloc: Global,
+    tokens: &[Token],
+    room: u8,
+) -> Result<(Named, &[Token]), ParseFailure>
     ensures { HasGivenReading (λ x. (view_named x.0, x.1.now)) result (reference_in room tokens.now) }
 {
     if room == 0 {
@@ -137,7 +141,11 @@ fn begins_more_targets(tokens: &[Token]) -> bool
 }
 
 /// Targets with separators between.
-pub fn targets(alloc: Global, tokens: &[Token], room: u8) -> Result<(Vec<Named>, &[Token]), ParseFailure>
+pub fn targets(
+    alloc: Global,
+    tokens: &[Token],
+    room: u8,
+) -> Result<(Vec<Named>, &[Token]), ParseFailure>
     ensures { HasGivenReading (λ x. (map view_named x.0.items, x.1.now)) result (targets_in room tokens.now) }
 {
     let (first, mut rest) = target(alloc, tokens, room)?;

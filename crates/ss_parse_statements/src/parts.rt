@@ -178,7 +178,11 @@ pub fn called_target(
 
 /// Where a member is filed.
 #[tactic(auto, unfolding(crate::specs::ReadSimple::position_in))]
-pub fn place(alloc: Global, tokens: &[Token], room: u8) -> Result<(Position, &[Token]), ParseFailure>
+pub fn place(
+    alloc: Global,
+    tokens: &[Token],
+    room: u8,
+) -> Result<(Position, &[Token]), ParseFailure>
     ensures { HasGivenReading (λ x. (view_position_tree x.0, x.1.now)) result (position_in room tokens.now) }
 {
     if begins_word(tokens, Word::First) {

@@ -168,7 +168,11 @@ fn branches(
 /// The statements between DO and LOOP.
 #[cycle(statements)]
 #[tactic(auto, unfolding(crate::specs::ReadStatements::do_with))]
-fn do_body(alloc: Global, tokens: &[Token], room: u8) -> Result<(Vec<Statement>, &[Token]), ParseFailure>
+fn do_body(
+    alloc: Global,
+    tokens: &[Token],
+    room: u8,
+) -> Result<(Vec<Statement>, &[Token]), ParseFailure>
     ensures { HasGivenReading (λ x. (map view_statement_tree x.0.items, x.1.now)) result (do_with (statement_in room) tokens.now) }
 {
     let rest = expect_noisy(tokens, Word::Do)?;
@@ -198,7 +202,11 @@ fn governed(
 /// What a loop repeats.
 #[cycle(statements)]
 #[tactic(auto, unfolding(crate::specs::ReadStatements::body_with))]
-fn body(alloc: Global, tokens: &[Token], room: u8) -> Result<(Vec<Statement>, &[Token]), ParseFailure>
+fn body(
+    alloc: Global,
+    tokens: &[Token],
+    room: u8,
+) -> Result<(Vec<Statement>, &[Token]), ParseFailure>
     ensures { HasGivenReading (λ x. (statement_row (map view_statement_tree x.0.items), x.1.now)) result (body_with (statement_in room) tokens.now) }
 {
     if begins_noisy(tokens, Word::Do) {
@@ -372,7 +380,11 @@ fn nested_form(
 /// A statement, where this many levels of nesting, itself among them, may be opened.
 #[cycle(statements)]
 #[tactic(auto, unfolding(crate::specs::ReadStatements::statement_in))]
-fn statement(alloc: Global, tokens: &[Token], room: u8) -> Result<(Statement, &[Token]), ParseFailure>
+fn statement(
+    alloc: Global,
+    tokens: &[Token],
+    room: u8,
+) -> Result<(Statement, &[Token]), ParseFailure>
     ensures { HasGivenReading (λ x. (view_statement_tree x.0, x.1.now)) result (statement_in room tokens.now) }
 {
     if room == 0 {

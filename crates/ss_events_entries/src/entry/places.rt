@@ -11,7 +11,7 @@ ghost use Rattle.ss_events_entries.specs.Slots.{mark_of, not_plain, order_of, Is
 
 use super::counter::WorkCounter;
 use super::directory::SlotDirectory;
-use super::hints::{HINTS, SlotHint, MANY, hinted, remember};
+use super::hints::{HINTS, MANY, SlotHint, hinted, remember};
 use super::slots::{
     FOLLOWING, HeapNode, NO_SLOT, Slot, advance, alone, clear, close_up, exchange, is_last_before,
     keep, line_up, reach, release, slot_of, some_free,

@@ -113,7 +113,10 @@ fn section_kind(
 
 /// Names and their mode, after DEFINE.
 #[tactic(auto, unfolding(crate::specs::ReadPrograms::variables))]
-fn variables(alloc: Global, tokens: &[Token]) -> Result<(Vec<Name>, ModeWord, &[Token]), ParseFailure>
+fn variables(
+    alloc: Global,
+    tokens: &[Token],
+) -> Result<(Vec<Name>, ModeWord, &[Token]), ParseFailure>
     ensures { HasGivenReading (λ x. ((x.0.items, x.1), x.2.now)) result (variables tokens.now) }
 {
     let (names, rest) = names(alloc, tokens)?;
@@ -135,7 +138,10 @@ fn definition(alloc: Global, tokens: &[Token]) -> Result<(LocalDefinition, &[Tok
 }
 
 /// The DEFINEs at the head of a section's body.
-fn definitions(alloc: Global, tokens: &[Token]) -> Result<(Vec<LocalDefinition>, &[Token]), ParseFailure>
+fn definitions(
+    alloc: Global,
+    tokens: &[Token],
+) -> Result<(Vec<LocalDefinition>, &[Token]), ParseFailure>
     ensures { HasGivenReading (λ x. (map view_definition x.0.items, x.1.now)) result (definitions tokens.now) }
 {
     let mut all = Vec::new(alloc);
@@ -211,7 +217,11 @@ fn begins_section(tokens: &[Token]) -> bool
 }
 
 /// The sections of a program.
-fn sections(alloc: Global, tokens: &[Token], room: u8) -> Result<(Vec<Section>, &[Token]), ParseFailure>
+fn sections(
+    alloc: Global,
+    tokens: &[Token],
+    room: u8,
+) -> Result<(Vec<Section>, &[Token]), ParseFailure>
     ensures { HasGivenReading (λ x. (map view_section x.0.items, x.1.now)) result (rows begins_section (section_in room) tokens.now) }
 {
     let mut all = Vec::new(alloc);
