@@ -1,3 +1,4 @@
+mod Common
 mod Nested
 mod Over
 mod Seen

@@ -1,8 +1,6 @@
 -- Statements that have statements in them, by lists.
 use Rattle.std.proofs.Common.{◌≡◌, ℕ, zero, suc, ◌+◌, ◌<◌, List, [], ◌∷◌, ◌++◌, length, get_or, take, map, Option, Some, None, refl, sym, ap, subst, ◌∙◌, arith}
-use Rattle.std.proofs.lemmas.List.{take_more, map-append}
-use Rattle.std.specs.Global.{Vec}
-use Rattle.ss_base.specs.declared.line.Line.{Line}
+use Rattle.ss_check_bodies.proofs.Common.{fails_then, guard, head, item, Line, map-append, Memory, none_after, phrases_of, resolved_phrase, ResolveError, Scope, take_more, Unresolved, Vec}
 use Rattle.ss_tree.specs.declared.condition.Condition.{Condition as ConditionParsed}
 use Rattle.ss_tree.specs.declared.expression.Expression.{Expression as ExpressionParsed}
 use Rattle.ss_tree.specs.declared.head.Head.{Head as HeadParsed}
@@ -23,15 +21,9 @@ use Rattle.ss_program.specs.declared.statement.Statement.TheVariants as made
 use Rattle.ss_program.specs.Program.{Statement, Block, Done, Then}
 use Rattle.ss_program.specs.View.{block_of, view_body, view_condition as condition_seen, view_guard as guard_seen, view_head as head_seen, view_item, view_phrase as phrase_seen, view_statement as view_made}
 use Rattle.ss_program.specs.Views.{view_if_made as if_seen, view_loop_made as loop_seen, view_for_made as for_seen, view_find_made as find_seen}
-use Rattle.ss_names_meaning.specs.declared.error.ResolveError.{ResolveError}
-use Rattle.ss_names_meaning.specs.declared.error.ResolveError.TheVariants.{Memory, Unresolved}
 use Rattle.ss_names_meaning.specs.Answers.{◌>>=◌, each, HasFailed}
-use Rattle.ss_names_scopes.specs.Scopes.{Scope}
-use Rattle.ss_names_meaning.specs.Expressions.{item}
 use Rattle.ss_names_meaning.specs.Conditions.{condition}
-use Rattle.ss_names_meaning.specs.Heads.{guard, head, resolved_phrase, phrases_of}
 use Rattle.ss_names_meaning.specs.Statements.{find, find_by, for_over, if_over, resolved_loop, simple_statement, statement, statements}
-use Rattle.ss_names_meaning.proofs.Steps.{fails_then, none_after}
 
 -- ---- loops around resolved statements
 

@@ -1,18 +1,13 @@
 -- Loops around what a FOR goes over, with its phrases.
 use Rattle.std.proofs.Common.{◌≡◌, Option, Some, None, ap}
-use Rattle.std.specs.Global.{Vec}
-use Rattle.ss_base.specs.declared.line.Line.{Line}
-use Rattle.ss_tree.specs.Tree.{HeadTree}
+use Rattle.ss_check_bodies.proofs.Common.{find, for_over, head, HeadTree, Line, phrases_of, resolved_phrase, Scope, Vec}
 use Rattle.ss_program.specs.declared.head.Head.{Head as HeadMade}
 use Rattle.ss_program.specs.declared.head.Phrase.{Phrase as PhraseMade}
 use Rattle.ss_program.specs.declared.statement.Statement.{Statement as Made}
 use Rattle.ss_program.specs.declared.statement.Statement.TheVariants as made
 use Rattle.ss_program.specs.View.{view_body, view_statement as view_made}
 use Rattle.ss_names_meaning.specs.Answers.{◌>>=◌, each}
-use Rattle.ss_names_scopes.specs.Scopes.{Scope}
-use Rattle.ss_names_meaning.specs.Heads.{head, resolved_phrase, phrases_of}
 use Rattle.ss_check_bodies.specs.Results.{resolved_over, over_seen}
-use Rattle.ss_names_meaning.specs.Statements.{find, for_over}
 use Rattle.ss_check_bodies.proofs.Nested.{find_made, for_made}
 
 abbrev pair_of : {A B : Type 0} → Option A → Option B → Option (A × B)

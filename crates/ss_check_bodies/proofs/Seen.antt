@@ -1,11 +1,8 @@
 -- Answers of calls, seen through a view.
 use Rattle.std.proofs.Common.{◌≡◌, Bool, true, false, Option, Some, None, Result, Ok, Err, ap, subst, inl, inr}
-use Rattle.ss_names_meaning.specs.declared.error.ResolveError.{ResolveError}
-use Rattle.ss_names_meaning.specs.declared.error.ResolveError.TheVariants.{Memory, Unresolved}
+use Rattle.ss_check_bodies.proofs.Common.{fails_then, Memory, ResolveError, Unresolved, Vec}
 use Rattle.ss_names_meaning.specs.Answers.{◌>>=◌, HasFailed, HasGiven, where_holds}
-use Rattle.ss_names_meaning.proofs.Steps.{fails_then}
 use Rattle.ss_check_bodies.specs.Results.{IsMadeAfter, IsMadeOfBoth}
-use Rattle.std.specs.Global.{Vec}
 
 -- ---- another view
 

@@ -1,7 +1,6 @@
 -- Expressions whose parts lie in rows, by lists.
 use Rattle.std.proofs.Common.{◌≡◌, ℕ, zero, suc, ◌+◌, ◌<◌, ◌≤◌, List, [], ◌∷◌, ◌++◌, length, get_or, take, map, Option, Some, None, refl, sym, ap, subst, ◌∙◌, arith}
-use Rattle.std.specs.List.{fold}
-use Rattle.std.proofs.lemmas.List.{take_more, map-append}
+use Rattle.ss_check_bodies.proofs.Common.{fold, map-append, Memory, ResolveError, Scope, take_more, Unresolved, view_expression_tree, view_term}
 use Rattle.std.proofs.lemmas.List.Sums.{fold-append}
 use Rattle.std.specs.Global.{Vec, Box}
 use Rattle.ss_base.specs.declared.words.Sign.{Sign as SignWord}
@@ -11,7 +10,6 @@ use Rattle.ss_tree.specs.declared.expression.Expression.{Expression as Parsed}
 use Rattle.ss_tree.specs.declared.expression.Expression.TheVariants as variants
 use Rattle.ss_tree.specs.declared.expression.Term.{Term}
 use Rattle.ss_tree.specs.Tree.{ExpressionTree, named, call, expression_row, term_row}
-use Rattle.ss_tree.specs.View.{view_expression_tree, view_term}
 use Rattle.ss_tree.specs.Views.{view_named_made, view_call_made, view_product_made, view_sum_made}
 use Rattle.ss_program.specs.declared.expression.Operation.{Operation}
 use Rattle.ss_base.specs.declared.words.Operator.TheVariants.{Multiply}
@@ -20,10 +18,7 @@ use Rattle.ss_program.specs.declared.expression.Expression.TheVariants as made
 use Rattle.ss_program.specs.Program.{Expression, Calculate}
 use Rattle.ss_program.specs.View.{view_expression as view_made}
 use Rattle.ss_program.specs.Views.{with_operation, view_calculate_made}
-use Rattle.ss_names_meaning.specs.declared.error.ResolveError.{ResolveError}
-use Rattle.ss_names_meaning.specs.declared.error.ResolveError.TheVariants.{Memory, Unresolved}
 use Rattle.ss_names_meaning.specs.Answers.{◌>>=◌, HasFailed}
-use Rattle.ss_names_scopes.specs.Scopes.{Scope}
 use Rattle.ss_names_meaning.specs.Expressions.{resolved_operator, expression, subscript, one, two, factors, terms}
 use Rattle.ss_names_meaning.proofs.Steps.{none_after, some_after}
 

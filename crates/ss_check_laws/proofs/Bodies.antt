@@ -1,14 +1,11 @@
 -- Statements that break no rule resolve, with those in them, and are well typed.
 use Rattle.std.proofs.Common.{◌≡◌, List, [], ◌∷◌, ◌++◌, refl, sym, ap, subst}
-use Rattle.ss_check_laws.proofs.Common.{AreValid, Block, BodiesResolve, ConditionTree, Done, find_if_statement, for_head, guarded, HeadTree, if_statement, IsLinked, IsResolvedForHead, IsTypedBlock, IsTypedStatement, Line, loop_statement, LoopHeadTree, Scope, StatementTree}
-use Rattle.ss_tree.specs.declared.statement.FindOutcome.{FindOutcome}
+use Rattle.ss_check_laws.proofs.Common.{and_statement, AreValid, BodiesResolve, ConditionTree, find_if_statement, FindOutcome, for_head, guarded, HeadTree, if_statement, IsLinked, IsResolvedCondition, IsResolvedForHead, IsResolvedHead, Line, loop_statement, LoopHeadTree, no_statement, Scope, statement_row, StatementRow, StatementTree}
+use Rattle.ss_program.specs.Program.{Block, Done, For, Find}
+use Rattle.ss_program.specs.WellTyped.{IsTypedBlock, IsTypedStatement, TypedScope as Place}
 use Rattle.ss_tree.specs.declared.statement.FindOutcome.TheVariants as outcomes
-use Rattle.ss_tree.specs.Tree.{StatementRow, no_statement, and_statement, statement_row}
 use Rattle.ss_names_uses.specs.Uses as uses
-use Rattle.ss_program.specs.Program.{For, Find}
-use Rattle.ss_program.specs.WellTyped.{TypedScope as Place}
 use Rattle.ss_names_meaning.specs.Statements.{find_by, statement, statements}
-use Rattle.ss_check_laws.specs.BodyLaws.{IsResolvedCondition, IsResolvedHead}
 use Rattle.ss_check_laws.proofs.Steps.{GoesWell, two_parts, three_parts}
 use Rattle.ss_check_laws.proofs.Lists.{after, after_one, after_two}
 use Rattle.ss_check_laws.proofs.Parts.{conditions_resolve, heads_resolve}

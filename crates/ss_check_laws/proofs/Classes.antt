@@ -1,19 +1,14 @@
 -- Classes whose uses break no rule are there.
 use Rattle.std.proofs.Common.{◌≡◌, ℕ, Bool, true, false, not, [], length, Option, Some, None, refl, ap, subst, ◌∙◌}
 use Rattle.std.specs.Prelude.{◌||◌, get_or}
-use Rattle.std.proofs.lemmas.Bool.{not-true}
-use Rattle.ss_check_laws.proofs.Common.{CanTakeMode, ClassKind, Integer, is_kind, IsLinked, IsResolvedClass, Line, Meaning, meaning_mode, meaning_of_name, NameBytes, NamedClass, Scope, ToVariable, unless, use_breaks, value_for, variable_named, variable_of, where_holds}
+use Rattle.ss_check_laws.proofs.Common.{class_number, ClassKind, ClassNeed, Integer, is_kind, is_text, IsLinked, Line, Meaning, meaning_mode, meaning_of_name, NameBytes, NamedClass, not-true, Scope, suits_class, ToVariable, unless, use_breaks, value_for, variable_named, variable_of, where_holds}
+use Rattle.ss_check_laws.specs.BodyLaws.{IsResolvedClass, ClassesResolve}
+use Rattle.ss_program.specs.WellTyped.{CanTakeMode, TypedScope as Place}
 use Rattle.ss_base.specs.declared.layout.ClassKind.TheVariants as kinds
-use Rattle.ss_program.specs.WellTyped.{TypedScope as Place}
 use Rattle.ss_names_uses.specs.Uses.{class_used}
-use Rattle.ss_names_uses.specs.declared.used.ClassNeed.{ClassNeed}
 use Rattle.ss_names_uses.specs.declared.used.ClassNeed.TheVariants as needs
 use Rattle.ss_names.specs.declared.meaning.Meaning.TheVariants as meanings
-use Rattle.ss_check_rules.specs.Kinds.{suits_class}
-use Rattle.ss_check_rules.specs.Modes.{is_text}
 use Rattle.ss_check_rules.specs.declared.error.CheckError.TheVariants as errors
-use Rattle.ss_names_meaning.specs.Classes.{class_number}
-use Rattle.ss_check_laws.specs.BodyLaws.{ClassesResolve}
 use Rattle.ss_check_laws.proofs.Steps.{alike, first_holds, goes, holds_unless, two_steps}
 use Rattle.ss_check_laws.proofs.Linked.{IsVariable, class_variable, meant_here}
 

@@ -1,11 +1,10 @@
 -- Conditions whose uses break no rule resolve, and are well typed.
 use Rattle.std.proofs.Common.{true, false, List, Some, refl, subst}
 use Rattle.std.specs.List.{AllByRecursion as Every, flat_map}
-use Rattle.ss_check_laws.proofs.Common.{AreValid, ConditionTree, expression, HasMode, in_named, IsLinked, Line, mode_of_use, Scope, set_named}
-use Rattle.ss_tree.specs.Tree.{TestTree, compare, empty, member, data_ended}
+use Rattle.ss_check_laws.proofs.Common.{AreValid, compare, ConditionTree, data_ended, empty, expression, IsLinked, Line, member, mode_of_use, Scope, set_named, TestTree}
+use Rattle.ss_names_uses.specs.Uses.{in_named, in_condition, in_expression, in_test, expression_tree_mode}
+use Rattle.ss_program.specs.WellTyped.{HasMode, TypedScope as Place, IsTypedTest}
 use Rattle.ss_program.specs.Program.{Test, Compare, DataEnded, Empty, Member}
-use Rattle.ss_program.specs.WellTyped.{TypedScope as Place, IsTypedTest}
-use Rattle.ss_names_uses.specs.Uses.{in_condition, in_expression, in_test, expression_tree_mode}
 use Rattle.ss_names_uses.specs.declared.used.Role.TheVariants as roles
 use Rattle.ss_check_rules.specs.declared.error.CheckError.TheVariants as errors
 use Rattle.ss_names_meaning.specs.Conditions.{conjunction, one_test}

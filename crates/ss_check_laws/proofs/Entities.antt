@@ -1,21 +1,19 @@
 -- Classes by what their names mean, and CREATE, DESTROY, FILE and REMOVE.
 use Rattle.std.proofs.Common.{◌≡◌, ℕ, true, false, List, [], ◌∷◌, ◌++◌, length, get_or, map, Option, Some, None, is_some, Contains, refl, sym, ap, subst, ◌∙◌}
 use Rattle.std.specs.List.{AllByRecursion as Every}
-use Rattle.std.proofs.lemmas.Option.{same_Some}
-use Rattle.ss_check_laws.proofs.Common.{AreValid, CanTakeMode, class_named, ClassKind, CountedClass, create_every, create_statement, destroy_statement, ExpressionTree, Fetch, file_statement, got, HasMode, Integer, is_kind, IsLinked, IsResolvedClass, IsTypedStatement, Line, Meaning, NameBytes, NamedClass, NamedTree, remove_end, remove_statement, Scope, ToVariable, use_breaks, value_for, Variable, variable_named}
+use Rattle.ss_check_laws.proofs.Common.{AreValid, ClassKind, ClassNeed, CountedClass, got, Integer, is_kind, IsLinked, IsResolvedClass, Line, Meaning, NameBytes, NamedClass, same_Some, Scope, use_breaks, value_for, Variable}
+use Rattle.ss_names_meaning.specs.Classes.{class_named, variable_named, class_number, count_of, counted}
+use Rattle.ss_program.specs.Program.{Fetch, ToVariable, ByDiscipline, AsFirst, AsLast}
+use Rattle.ss_program.specs.WellTyped.{CanTakeMode, HasMode, IsTypedStatement, TypedScope as Place, IsTypedPosition, is_created_singly}
+use Rattle.ss_tree.specs.Tree.{create_every, create_statement, destroy_statement, ExpressionTree, file_statement, NamedTree, remove_end, remove_statement, PositionTree, by_discipline, at_first, at_last, before, after as after_member}
 use Rattle.ss_base.specs.declared.layout.ClassKind.TheVariants as kinds
 use Rattle.ss_base.specs.declared.words.End.{End}
-use Rattle.ss_tree.specs.Tree.{PositionTree, by_discipline, at_first, at_last, before, after as after_member}
-use Rattle.ss_names_uses.specs.declared.used.ClassNeed.{ClassNeed}
 use Rattle.ss_names_uses.specs.declared.used.ClassNeed.TheVariants as needs
 use Rattle.ss_names_uses.specs.declared.used.Role.TheVariants as roles
 use Rattle.ss_names_uses.specs.Uses as uses
 use Rattle.ss_names.specs.declared.meaning.Meaning.TheVariants as meanings
 use Rattle.ss_names.specs.Entries.{count_name}
-use Rattle.ss_program.specs.Program.{ByDiscipline, AsFirst, AsLast}
-use Rattle.ss_program.specs.WellTyped.{TypedScope as Place, IsTypedPosition, is_created_singly}
 use Rattle.ss_names_meaning.specs.Answers.{◌>>=◌, each}
-use Rattle.ss_names_meaning.specs.Classes.{class_number, count_of, counted}
 use Rattle.ss_names_meaning.specs.Statements.{entity_called, new_place, position, simple_statement}
 use Rattle.ss_names_laws.proofs.Results.{held}
 use Rattle.ss_check_laws.proofs.Steps.{GoesWell, two_parts, three_parts}

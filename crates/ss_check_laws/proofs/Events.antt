@@ -1,39 +1,26 @@
 -- The event routines of a program that breaks no rule.
 use Rattle.std.proofs.Common.{◌≡◌, ◌≢◌, ℕ, zero, suc, ◌+◌, ◌<◌, ◌≤◌, Bool, true, false, List, [], ◌∷◌, length, get_or, take, map, flat_map, slice_get, option_map, Option, Some, None, is_some, IfSome, refl, sym, ap, subst, subst₂, ◌∙◌, nat_eq, nat_le, add-zero, take-append-drop, length-take, get_or-take, arith}
-use Rattle.std.specs.Prelude.{option_and_then}
-use Rattle.std.specs.Option.{option_map_or}
+use Rattle.ss_check_laws.proofs.Common.{and_parts, at_item, at_place, attribute_mode, class_layout, ClassKind, cond_some, CountedClass, declarations, disciplines, Done, each_at, each_empty, each_made, Event, event_by, EventSection, every_first, from_places, get_or_from_slice_get, given_by, Global, got, hidden_by, in_parts, Integer, is_layout, is_main, is_sound, keys_of, known_mode, layout, leb-true, Line, local_mode, Meaning, meaning_mode, Mode, mode_of_attribute, mode_of_use, NameBytes, none-some, numbers_at, option_and_then, option_map_or, place_in, PlainClass, PlainLayout, Program, ResolvedLayout, same_Some, Scope, scope_of, set_layout, slice_get-get_or, slice_get_within, statistics, Table, table, tie_keys, Use, value_for}
 use Rattle.std.specs.List.{AllByRecursion as Every, list_any}
-use Rattle.std.specs.Map.{keys_of}
-use Rattle.std.proofs.lemmas.Bool.{and_parts, leb-true}
 use Rattle.std.proofs.lemmas.List.{length-take-le}
 use Rattle.std.proofs.lemmas.Map.Entries.{length-keys_of}
-use Rattle.std.proofs.lemmas.Option.{cond_some, get_or_from_slice_get, none-some, same_Some, slice_get-get_or, slice_get_within}
-use Rattle.ss_check_laws.proofs.Common.{at_item, at_place, ClassKind, CountedClass, declarations, Done, each, each_at, Event, event_by, event_from, every_first, firsts_once, given_by, Global, got, Integer, is_main, IsTypedBlock, Line, local_mode, local_modes, locals_of, Meaning, meaning_mode, Mode, mode_of_use, NameBytes, numbers_at, Parts, place_from, place_in, PlainClass, PlainLayout, Program, ResolvedLayout, Scope, Table, table, there, upto, Use, use_breaks, value_for}
+use Rattle.ss_check_rules.specs.Refusal.{use_breaks, eventless, eventless_of, in_preamble}
+use Rattle.ss_names_declarations.proofs.Entries.{firsts_once, place_from, there, entry_of_key, key_at, place_of_value, value_at, value_from_place}
+use Rattle.ss_names_meaning.specs.Answers.{each, upto, ◌>>=◌}
+use Rattle.ss_names_meaning.specs.Resolved.{event_from, local_modes, Parts, class_variable, event_of_class, saved}
+use Rattle.ss_names_scopes.specs.Locals.{locals_of, defined, local_used, moded_in}
+use Rattle.ss_program.specs.WellTyped.{IsTypedBlock, IsTypedEvent, AreTypedKeys, IsPlain}
 use Rattle.ss_base.specs.declared.layout.ClassKind.TheVariants as kinds
 use Rattle.ss_base.specs.declared.layout.RankKey.{RankKey}
-use Rattle.ss_base.specs.Layout.{is_layout, is_sound}
 use Rattle.ss_tree.specs.Tree as tree
-use Rattle.ss_names_declarations.proofs.Entries.{entry_of_key, key_at, place_of_value, value_at, value_from_place}
 use Rattle.ss_names_uses.specs.Uses as uses
 use Rattle.ss_names_uses.specs.declared.used.CountNeed.TheVariants as counts
 use Rattle.ss_names_uses.specs.declared.used.ModeOf.TheVariants as modes
-use Rattle.ss_names.specs.declared.entry.EventSection.{EventSection}
 use Rattle.ss_names.specs.declared.meaning.Meaning.TheVariants as m
-use Rattle.ss_names.specs.Table.{mode_of_attribute}
-use Rattle.ss_names_scopes.specs.Locals.{defined, local_used, moded_in}
-use Rattle.ss_names_scopes.specs.Scopes.{hidden_by, known_mode, scope_of}
-use Rattle.ss_program.specs.WellTyped.{IsTypedEvent, AreTypedKeys, IsPlain}
 use Rattle.ss_check_rules.specs.Counts.{suits_count}
-use Rattle.ss_check_rules.specs.Modes.{attribute_mode}
-use Rattle.ss_check_rules.specs.Refusal.{eventless, eventless_of, in_preamble}
 use Rattle.ss_check_rules.specs.declared.error.CheckError.TheVariants as errors
-use Rattle.ss_names_meaning.specs.Answers.{◌>>=◌}
-use Rattle.ss_names_meaning.specs.Layouts.{class_layout, disciplines, layout, set_layout, statistics, tie_keys}
-use Rattle.ss_names_meaning.specs.Resolved.{class_variable, event_of_class, saved}
 use Rattle.ss_names_laws.specs.ValidTables.{IsNamedClass, parameters_of}
-use Rattle.ss_names_laws.proofs.Each.{each_empty, from_places, in_parts}
 use Rattle.ss_names_laws.proofs.Parts.{class_parts, numbers_length}
-use Rattle.ss_names_laws.proofs.Results.{each_made}
 use Rattle.ss_check_laws.proofs.Steps.{agree, holds_unless}
 use Rattle.ss_check_laws.proofs.Ranks.{IsNotice, notice_is_ranked, ranks_are_notices}
 use Rattle.ss_check_laws.proofs.Routines.{IsUnbroken, IsWhole, Keeps, body_good, laid_with, none_listed, preamble_kept, program_with, section, section_modes, section_valid, uses_kept}

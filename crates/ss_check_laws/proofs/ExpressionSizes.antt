@@ -1,16 +1,11 @@
 -- Expressions, items of PRINT, targets and sets.
 use Rattle.std.proofs.Common.{ℕ, ◌+◌, ◌≤◌, Option, Some, None, option_map, arith}
-use Rattle.ss_check_laws.proofs.Common.{and_expression, and_term, Designator, entity_of, Expression, ExpressionRow, ExpressionTree, Fetch, item, Meaning, meaning_of, meaning_of_class, meaning_with_entity, named, NamedTree, no_expression, no_term, option_nodes, Owner, owner_of_meaning, parenthesised, place_named, Scope, set_named, set_owner, subscript, TermRow, Variable, variable_of}
+use Rattle.ss_check_laws.proofs.Common.{and_expression, and_term, AValue, Calculate, call, Designator, Expression, ExpressionRow, ExpressionTree, Fetch, Meaning, meaning_of, meaning_of_class, Multiply, named, NamedTree, no_expression, no_term, of_one, One, Owner, owner_of_meaning, parenthesised, product, Scope, SetOwner, signed, sum, TermRow, Two, Variable, variable_of}
+use Rattle.ss_names_meaning.specs.Expressions.{entity_of, item, meaning_with_entity, place_named, set_named, set_owner, subscript, entity_implied, expression, factors, of_owner, one, place_of, resolved_item, resolved_operator, resolved_value, set_of_name, target, terms, two, value_alone, value_of_entity}
+use Rattle.ss_program.specs.Nodes.{option_nodes, unless_plain, expression_nodes, subscript_nodes, item_nodes, set_nodes, place_nodes}
 use Rattle.ss_base.specs.declared.layout.Owner.TheVariants as owners
-use Rattle.ss_tree.specs.declared.expression.Function.TheVariants.{One, Two}
 use Rattle.ss_tree.specs.Nodes as tree
-use Rattle.ss_tree.specs.Tree.{call, product, signed, sum}
-use Rattle.ss_base.specs.declared.words.Operator.TheVariants.{Multiply}
-use Rattle.ss_program.specs.Nodes.{unless_plain, expression_nodes, subscript_nodes, item_nodes, set_nodes, place_nodes}
-use Rattle.ss_program.specs.Program.{Calculate, AValue, SetOwner}
 use Rattle.ss_names.specs.declared.meaning.Meaning.TheVariants as meanings
-use Rattle.ss_names_meaning.specs.Answers.{of_one}
-use Rattle.ss_names_meaning.specs.Expressions.{entity_implied, expression, factors, of_owner, one, place_of, resolved_item, resolved_operator, resolved_value, set_of_name, target, terms, two, value_alone, value_of_entity}
 use Rattle.ss_check_laws.proofs.Within.{Within, so, followed, looked}
 
 plain_less : (e : Expression) (n : ℕ) → unless_plain e n ≤ n

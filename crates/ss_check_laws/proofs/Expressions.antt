@@ -1,27 +1,20 @@
 -- Expressions whose uses break no rule resolve, and are well typed.
 use Rattle.std.proofs.Common.{◌≡◌, ℕ, Bool, true, false, List, Option, Some, None, refl, sym, ap, subst, ◌∙◌, arith}
 use Rattle.std.specs.Prelude.{◌==◌}
-use Rattle.std.proofs.lemmas.Bool.{eqb-true, false≢true}
-use Rattle.std.proofs.lemmas.Option.{none-some}
-use Rattle.ss_check_laws.proofs.Common.{and_expression, and_term, AreValid, Designator, Expression, ExpressionRow, ExpressionTree, Fetch, Global, has_value, HasMode, Integer, IsLinked, Line, Meaning, meaning_mode, meaning_with_entity, Mode, mode_of_meaning, mode_of_use, named, no_expression, no_term, parenthesised, row_length, Scope, subscript, TermRow, use_breaks}
-use Rattle.ss_base.specs.declared.layout.Mode.TheVariants.{Alpha}
+use Rattle.ss_check_laws.proofs.Common.{Alpha, AreValid, Designator, eqb-true, false≢true, Global, has_value, Integer, is_mean, IsLinked, Line, Meaning, meaning_mode, Mode, mode_of_meaning, mode_of_use, Multiply, none-some, One, place_use, row_length, Scope, Two, use_breaks}
+use Rattle.ss_names_meaning.specs.Expressions.{meaning_with_entity, subscript, expression, factors, one, resolved_operator, resolved_value, terms, two}
+use Rattle.ss_program.specs.Program.{Expression, Fetch, Constant, Attribute, OfSystemSet, OfSet, OfMember, Clock, TimeOf, Figure, FigureOf, Signed, Unary, Calculate}
+use Rattle.ss_program.specs.WellTyped.{HasMode, TypedScope as Place}
+use Rattle.ss_tree.specs.Tree.{and_expression, and_term, ExpressionRow, ExpressionTree, named, no_expression, no_term, parenthesised, TermRow, number, text, call, product, signed, sum}
 use Rattle.ss_base.specs.declared.value.Value.TheVariants.{Whole, Text}
-use Rattle.ss_tree.specs.Tree.{number, text, call, product, signed, sum}
 use Rattle.ss_tree.specs.declared.expression.Function.{Function}
-use Rattle.ss_tree.specs.declared.expression.Function.TheVariants.{One, Two}
-use Rattle.ss_program.specs.Program.{Constant, Attribute, OfSystemSet, OfSet, OfMember, Clock, TimeOf, Figure, FigureOf, Signed, Unary, Calculate}
-use Rattle.ss_program.specs.WellTyped.{TypedScope as Place}
 use Rattle.ss_base.specs.declared.words.Operator.{Operator}
-use Rattle.ss_base.specs.declared.words.Operator.TheVariants.{Multiply}
 use Rattle.ss_names_uses.specs.Uses as uses
-use Rattle.ss_names_uses.specs.Uses.{place_use}
 use Rattle.ss_names_uses.specs.declared.used.Role.TheVariants as roles
 use Rattle.ss_names.specs.declared.meaning.Meaning.TheVariants as meanings
 use Rattle.ss_check_rules.specs.Counts.{argument_count}
-use Rattle.ss_check_rules.specs.Kinds.{is_mean}
 use Rattle.ss_check_rules.specs.declared.error.CheckError.TheVariants as errors
 use Rattle.ss_names_meaning.specs.Answers.{◌>>=◌}
-use Rattle.ss_names_meaning.specs.Expressions.{expression, factors, one, resolved_operator, resolved_value, terms, two}
 use Rattle.ss_check_laws.specs.BodyLaws.{ExpressionsResolve, IsResolved}
 use Rattle.ss_check_laws.proofs.Steps.{goes, holds_unless, two_parts, two_steps}
 use Rattle.ss_check_laws.proofs.Linked.{IsHere}

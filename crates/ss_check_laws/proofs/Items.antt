@@ -1,21 +1,16 @@
 -- Items of PRINT whose uses break no rule resolve, each to one that its field takes.
 use Rattle.std.proofs.Common.{◌≡◌, ◌⊎◌, inl, inr, ℕ, zero, suc, ◌≤◌, Bool, true, false, Option, Some, None, refl, sym, ap, subst, ◌∙◌, arith}
 use Rattle.std.specs.Prelude.{nat_le, option_map, if◌then◌else◌}
-use Rattle.std.proofs.lemmas.Bool.{both_ways, leb-true}
-use Rattle.std.proofs.lemmas.Option.{none-some}
-use Rattle.ss_check_laws.proofs.Common.{AreValid, Designator, Expression, expression, ExpressionRow, ExpressionTree, has_value, if_means, IsLinked, item, Line, Meaning, meaning_of, named, parenthesised, place_named, row_length, Scope, use_breaks}
-use Rattle.ss_picture.specs.declared.field.Field.{Field}
-use Rattle.ss_program.specs.Program.{PrintItem, AValue, AMean, AMeanOf}
+use Rattle.ss_check_laws.proofs.Common.{AreValid, both_ways, Designator, expression, ExpressionRow, ExpressionTree, Field, has_value, if_means, is_mean, IsLinked, item, leb-true, Line, Meaning, meaning_of, named, none-some, parenthesised, place_named, resolved_item, Scope}
+use Rattle.ss_check_rules.specs.Refusal.{use_breaks, used_breaks}
+use Rattle.ss_names_uses.specs.Uses.{row_length, as_mean, in_item, place_use, with_decimals}
+use Rattle.ss_program.specs.Program.{Expression, PrintItem, AValue, AMean, AMeanOf}
 use Rattle.ss_program.specs.WellTyped.{TypedScope as Place, CanTakeItem}
-use Rattle.ss_names_uses.specs.Uses.{as_mean, in_item, place_use, with_decimals}
 use Rattle.ss_names_uses.specs.declared.used.Role.TheVariants as roles
 use Rattle.ss_names_uses.specs.declared.used.Used.{Used}
 use Rattle.ss_names_uses.specs.declared.used.Used.TheVariants.{Mean, Unfit}
 use Rattle.ss_names.specs.declared.meaning.Meaning.TheVariants as meanings
-use Rattle.ss_check_rules.specs.Kinds.{is_mean}
-use Rattle.ss_check_rules.specs.Refusal.{used_breaks}
 use Rattle.ss_check_rules.specs.declared.error.CheckError.TheVariants as errors
-use Rattle.ss_names_meaning.specs.Expressions.{resolved_item}
 use Rattle.ss_check_laws.specs.BodyLaws.{IsResolvedItem, ItemsResolve, IsResolved}
 use Rattle.ss_check_laws.proofs.Steps.{goes, holds_unless}
 use Rattle.ss_check_laws.proofs.Linked.{IsHere}

@@ -4,29 +4,21 @@ use Rattle.std.specs.Prelude.{◌&&◌, nat_le, nat_lt, option_map, slice_get, u
 use Rattle.std.specs.List.{AllByRecursion as Every, list_all}
 use Rattle.std.specs.Map.{lookup, values_of}
 use Rattle.std.specs.Option.{option_and_then}
-use Rattle.std.proofs.lemmas.Bool.{and_parts, ltb-true}
+use Rattle.ss_check_laws.proofs.Common.{and_parts, ClassKind, cond_some, CountedClass, Designator, get_or_from_slice_get, got, hidden_by, Integer, is_variable, IsLinked, known_mode, local_mode, ltb-true, Meaning, meaning_of, meaning_of_class, meaning_of_name, MemberCount, Mode, mode_of_meaning, NameBytes, numbers_at, Owner, place_in, PlainClass, PlainLayout, same_name, same_Some, Scope, SetLayout, slice_get_within, Statistic, Subject, ToVariable, value_for, Variable, variable_of}
 use Rattle.std.proofs.lemmas.List.Sums.{AllPass-from_list_all}
-use Rattle.std.proofs.lemmas.Option.{cond_some, get_or_from_slice_get, same_Some, slice_get_within}
-use Rattle.ss_check_laws.proofs.Common.{CanTakeMode, ClassKind, CountedClass, Designator, each, Global, got, Integer, IsLinked, kind_of_class, local_mode, Meaning, meaning_of, meaning_of_class, meaning_of_name, Mode, mode_of_meaning, NameBytes, numbers_at, Owner, owner_of_meaning, owner_of_subject, place_in, PlainClass, PlainLayout, resolved_layout, ResolvedLayout, Scope, Subject, Table, ToVariable, upto, value_by_place, value_for, Variable, variable_of}
+use Rattle.ss_names.specs.Table.{owner_of_meaning, owner_of_subject, Table, owner_kind_of_member, owner_kind_of_set, owner_of_statistic, subject_of}
+use Rattle.ss_names_declarations.proofs.Entries.{value_by_place, there as item_at, value_at}
+use Rattle.ss_names_meaning.specs.Answers.{each, upto, ◌>>=◌}
+use Rattle.ss_names_meaning.specs.Layouts.{resolved_layout, ResolvedLayout, class_layout, counts, disciplines, layout, set_layout, statistics}
+use Rattle.ss_program.specs.WellTyped.{CanTakeMode, kind_of_class, TypedScope as Place, field_mode}
+use Rattle.ss_program.specs.declared.expression.Variable.TheVariants.{Global, Local}
 use Rattle.ss_base.specs.declared.layout.Discipline.{Discipline}
 use Rattle.ss_base.specs.declared.layout.Owner.TheVariants as owners
-use Rattle.ss_base.specs.declared.layout.SetLayout.{SetLayout}
 use Rattle.ss_base.specs.Layout.{is_layout, is_narrow, is_sound, layout_limit, layout_of, names_classes, owns_among}
 use Rattle.ss_tree.specs.declared.expression.Designator.TheVariants as designators
-use Rattle.ss_program.specs.WellTyped.{TypedScope as Place, field_mode}
-use Rattle.ss_program.specs.declared.expression.SetQuery.TheVariants.{MemberCount}
-use Rattle.ss_program.specs.declared.expression.Variable.TheVariants.{Local}
-use Rattle.ss_program.specs.declared.sections.Statistic.{Statistic}
 use Rattle.ss_program.specs.declared.sections.Subject.TheVariants as subjects
-use Rattle.ss_names_declarations.specs.NameTable.{same_name}
-use Rattle.ss_names_declarations.proofs.Entries.{there as item_at, value_at}
 use Rattle.ss_names.specs.declared.entry.Set.{Set}
 use Rattle.ss_names.specs.declared.meaning.Meaning.TheVariants as meanings
-use Rattle.ss_names.specs.Table.{owner_kind_of_member, owner_kind_of_set, owner_of_statistic, subject_of}
-use Rattle.ss_names_scopes.specs.Scopes.{hidden_by, known_mode}
-use Rattle.ss_check_rules.specs.Kinds.{is_variable}
-use Rattle.ss_names_meaning.specs.Answers.{◌>>=◌}
-use Rattle.ss_names_meaning.specs.Layouts.{class_layout, counts, disciplines, layout, set_layout, statistics}
 use Rattle.ss_names_laws.specs.ValidTables.{IsMeant, IsPlainAt, IsSetAt, IsStatisticAt, IsWatched}
 
 -- ---- layouts

@@ -1,11 +1,8 @@
 -- Steps one after the other, and lists of which each item is such as its place wants.
 use Rattle.std.proofs.Common.{◌≡◌, ℕ, zero, suc, ◌+◌, ◌≤◌, Bool, true, false, List, [], ◌∷◌, length, take, drop, Option, Some, refl, sym, ap, subst, arith, ◌∙◌}
-use Rattle.std.specs.Prelude.{slice_get}
-use Rattle.std.specs.List.{AllZip}
-use Rattle.std.proofs.lemmas.Option.{same_Some}
-use Rattle.ss_check_laws.proofs.Common.{AreValid, got, Scope, Use, where_holds}
+use Rattle.ss_check_laws.proofs.Common.{AllZip, AreValid, got, same_Some, Scope, slice_get, Use}
+use Rattle.ss_names_meaning.specs.Answers.{where_holds, ◌>>=◌, each}
 use Rattle.ss_names_uses.specs.Uses.{in_places}
-use Rattle.ss_names_meaning.specs.Answers.{◌>>=◌, each}
 use Rattle.ss_check_laws.proofs.Steps.{GoesWell, two_parts}
 
 -- ---- steps

@@ -1,22 +1,16 @@
 -- SCHEDULE, CANCEL and RESET.
 use Rattle.std.proofs.Common.{◌≡◌, ℕ, ◌<◌, ◌≤◌, Bool, true, false, List, ◌++◌, length, get_or, take, Option, Some, None, is_some, nat_le, option_map, [], refl, sym, ap, subst, arith, ◌∙◌, le-leb, leb-true}
-use Rattle.std.specs.Prelude.{option_and_then, slice_get}
-use Rattle.std.specs.Option.{option_map_or}
-use Rattle.std.proofs.lemmas.Option.{slice_get_within}
-use Rattle.ss_check_laws.proofs.Common.{AreValid, cancel_statement, ClassKind, each, each_at, Expression, expression, ExpressionTree, HasMode, is_kind, IsLinked, IsResolvedClass, IsTypedStatement, Line, Mode, NameBytes, NamedClass, NamedTree, place_in, PlainClass, PlainLayout, reset_statement, schedule_new, schedule_statement, Scope, Statement, Table, there, unless, where_holds}
+use Rattle.ss_check_laws.proofs.Common.{AreValid, at_time, attribute_mode, cancel_statement, ClassKind, each_at, expression, ExpressionTree, in_units, is_kind, IsLinked, IsResolvedClass, Line, Mode, mode_of_attribute, NameBytes, NamedClass, NamedTree, now, option_and_then, option_map_or, place_in, PlainClass, PlainLayout, reset_statement, schedule_new, schedule_statement, Scope, slice_get, slice_get_within, Table, there, unless, WhenTree}
+use Rattle.ss_names_meaning.specs.Answers.{each, where_holds, ◌>>=◌}
+use Rattle.ss_program.specs.Program.{Expression, Statement, Now, When, Restart, ScheduleNew, Schedule}
+use Rattle.ss_program.specs.WellTyped.{HasMode, IsTypedStatement, TypedScope as Place, HaveModes, IsTypedWhen, AreTypedGiven, IsTypedRestart}
 use Rattle.ss_base.specs.declared.layout.ClassKind.TheVariants as kinds
-use Rattle.ss_tree.specs.Tree.{WhenTree, at_time, in_units, now}
 use Rattle.ss_names_uses.specs.declared.used.ClassNeed.TheVariants as needs
 use Rattle.ss_names_uses.specs.declared.used.ModeOf.TheVariants as modes
 use Rattle.ss_names_uses.specs.declared.used.Role.TheVariants as roles
 use Rattle.ss_names_uses.specs.Uses as uses
 use Rattle.ss_names.specs.declared.meaning.Meaning.TheVariants as meanings
-use Rattle.ss_names.specs.Table.{mode_of_attribute}
 use Rattle.ss_check_rules.specs.declared.error.CheckError.TheVariants as errors
-use Rattle.ss_check_rules.specs.Modes.{attribute_mode}
-use Rattle.ss_program.specs.Program.{Now, When, Restart, ScheduleNew, Schedule}
-use Rattle.ss_program.specs.WellTyped.{TypedScope as Place, HaveModes, IsTypedWhen, AreTypedGiven, IsTypedRestart}
-use Rattle.ss_names_meaning.specs.Answers.{◌>>=◌}
 use Rattle.ss_names_meaning.specs.Statements.{restart, simple_statement, when}
 use Rattle.ss_check_laws.proofs.Steps.{GoesWell, each_resolves, holds_unless, three_parts}
 use Rattle.ss_check_laws.proofs.Expressions.{number_kept}

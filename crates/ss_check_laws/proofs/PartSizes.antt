@@ -1,16 +1,13 @@
 -- Conditions, heads of loops and parts of statements.
 use Rattle.std.proofs.Common.{ℕ, ◌+◌, ◌≤◌, List, [], ◌∷◌, Option, Some, None, sum_by, arith}
-use Rattle.std.specs.Option.{option_map_or}
-use Rattle.std.proofs.lemmas.List.Sums.{sum_by-cons}
+use Rattle.ss_check_laws.proofs.Common.{class_named, history_of, mode_of_meaning, option_map_or, Scope, sum_by-cons, Variable, variable_named}
 use Rattle.ss_tree.specs.Nodes as tree
-use Rattle.ss_check_laws.proofs.Common.{class_named, ConditionTree, ExpressionTree, HeadTree, mode_of_meaning, NamedTree, phrases_of, resolved_phrase, Scope, Variable, variable_named}
-use Rattle.ss_tree.specs.Tree.{TestTree, compare, empty, member, data_ended, PhraseTree, GuardTree, StartTree, from_end, from_member, after_member, over_range, over_members, over_class, PositionTree, before, after, WhenTree, at_time, in_units, now}
+use Rattle.ss_names_meaning.specs.Heads.{phrases_of, resolved_phrase, called_variable, guard, head, resolved_start}
+use Rattle.ss_tree.specs.Tree.{ConditionTree, ExpressionTree, HeadTree, NamedTree, TestTree, compare, empty, member, data_ended, PhraseTree, GuardTree, StartTree, from_end, from_member, after_member, over_range, over_members, over_class, PositionTree, before, after, WhenTree, at_time, in_units, now}
 use Rattle.ss_program.specs.Nodes.{alternative_nodes, condition_nodes, expression_nodes, guard_nodes, head_nodes, phrase_nodes, place_nodes, position_nodes, restart_nodes, start_nodes, target_nodes, test_nodes, when_nodes}
 use Rattle.ss_names_uses.specs.declared.used.ClassNeed.TheVariants as needs
-use Rattle.ss_names_scopes.specs.Scopes.{history_of}
 use Rattle.ss_names_meaning.specs.Answers.{each}
 use Rattle.ss_names_meaning.specs.Conditions.{one_test, conjunction, condition}
-use Rattle.ss_names_meaning.specs.Heads.{called_variable, guard, head, resolved_start}
 use Rattle.ss_names_meaning.specs.Statements.{entity_called, new_place, position, reader, restart, when}
 use Rattle.ss_check_laws.proofs.Within.{Within, so, followed, looked, there_small, each_small}
 use Rattle.ss_check_laws.proofs.ExpressionSizes.{of_less, place_named_small, place_small, set_small, small, target_small}

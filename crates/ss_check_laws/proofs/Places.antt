@@ -2,24 +2,21 @@
 use Rattle.std.proofs.Common.{◌≡◌, ℕ, ◌≤◌, Bool, true, false, Option, Some, None, refl, sym, ap, subst, ◌∙◌, arith}
 use Rattle.std.specs.Prelude.{not, ◌&&◌, ◌||◌, ◌==◌, option_map, slice_get, if◌then◌else◌}
 use Rattle.std.proofs.lemmas.Bool.{eqb-true, leb-true, not-false, not-true, or_parts}
-use Rattle.ss_check_laws.proofs.Common.{and_expression, and_term, Designator, entity_of, Expression, expression, ExpressionRow, ExpressionTree, Fetch, HasMode, if_means, Integer, IsLinked, Line, Meaning, meaning_mode, meaning_of, meaning_of_class, meaning_with_entity, Mode, mode_of_meaning, mode_of_use, no_expression, no_term, Owner, owner_of_meaning, owner_of_subject, place_named, row_length, Scope, set_owner, Subject, TermRow, unless, Variable, variable_of}
+use Rattle.ss_check_laws.proofs.Common.{and_expression, and_term, Designator, Expression, ExpressionRow, ExpressionTree, Fetch, Integer, IsLinked, Line, Meaning, Mode, no_expression, no_term, Owner, owner_kind_of_set, owner_of_meaning, owner_of_statistic, owner_of_subject, SetLayout, Statistic, Subject, TermRow, unless, Variable}
+use Rattle.ss_check_rules.specs.Kinds.{if_means, is_target, may_have, meaning_in_role, suits, suits_subscripts, takes_values}
+use Rattle.ss_check_rules.specs.Modes.{meaning_mode, mode_of_use, is_mean_as_value, is_text, mixes_modes}
+use Rattle.ss_names_meaning.specs.Expressions.{entity_of, expression, meaning_with_entity, place_named, set_owner, of_owner, subscript}
+use Rattle.ss_names_scopes.specs.Scopes.{meaning_of, meaning_of_class, mode_of_meaning, Scope, variable_of, implied, meaning_of_owner as implied_of}
+use Rattle.ss_names_uses.specs.Uses.{row_length, designated}
+use Rattle.ss_program.specs.WellTyped.{HasMode, TypedScope as Place, IsTypedRestart, IsAlone, IsOfEntities, IsTypedOwner, mode_at, owner_of_set as owner_in_program}
 use Rattle.ss_base.specs.declared.layout.Owner.TheVariants as owners
-use Rattle.ss_base.specs.declared.layout.SetLayout.{SetLayout}
 use Rattle.ss_tree.specs.declared.expression.Designator.TheVariants as designators
-use Rattle.ss_program.specs.WellTyped.{TypedScope as Place, IsTypedRestart, IsAlone, IsOfEntities, IsTypedOwner, mode_at, owner_of_set as owner_in_program}
-use Rattle.ss_program.specs.declared.sections.Statistic.{Statistic}
 use Rattle.ss_program.specs.declared.sections.Subject.TheVariants as subjects
-use Rattle.ss_names_uses.specs.Uses.{designated}
 use Rattle.ss_names_uses.specs.declared.used.Role.{Role}
 use Rattle.ss_names.specs.declared.meaning.Meaning.TheVariants as meanings
-use Rattle.ss_names.specs.Table.{owner_kind_of_set, owner_of_statistic}
-use Rattle.ss_names_scopes.specs.Scopes.{implied, meaning_of_owner as implied_of}
-use Rattle.ss_check_rules.specs.Kinds.{is_target, may_have, meaning_in_role, suits, suits_subscripts, takes_values}
-use Rattle.ss_check_rules.specs.Modes.{is_mean_as_value, is_text, mixes_modes}
 use Rattle.ss_check_rules.specs.Refusal.{meaning_breaks, place_breaks}
 use Rattle.ss_check_rules.specs.declared.error.CheckError.TheVariants as errors
 use Rattle.ss_names_meaning.specs.Answers.{◌>>=◌, of_one}
-use Rattle.ss_names_meaning.specs.Expressions.{of_owner, subscript}
 use Rattle.ss_check_laws.proofs.Steps.{alike, first_fails, first_holds, goes, holds_unless, meant}
 use Rattle.ss_check_laws.proofs.Linked.{IsHere, IsOwner, IsSetHere, IsStatisticHere, IsSubjectHere, implied_here, meaning_here, owner_here}
 

@@ -1,14 +1,10 @@
 -- PRINT: each item is such as its field takes, and there are as many as fields.
 use Rattle.std.proofs.Common.{◌≡◌, ℕ, Bool, true, false, List, [], ◌∷◌, length, Option, refl, sym, subst, arith, eqb-true, take_all}
 use Rattle.std.specs.Prelude.{◌==◌}
-use Rattle.std.specs.List.{AllZip}
-use Rattle.std.proofs.lemmas.Option.{none-some}
-use Rattle.ss_check_laws.proofs.Common.{AreValid, each, ExpressionTree, IsLinked, IsTypedStatement, item, Line, print_statement, Scope}
-use Rattle.ss_picture.specs.declared.field.Field.{Field}
+use Rattle.ss_check_laws.proofs.Common.{AllZip, AreValid, each, ExpressionTree, Field, IsLinked, item, Line, none-some, print_statement, PrintItem, Scope}
+use Rattle.ss_program.specs.WellTyped.{IsTypedStatement, TypedScope as Place, CanTakeItem}
 use Rattle.ss_names_uses.specs.Uses as uses
 use Rattle.ss_check_rules.specs.declared.error.CheckError.TheVariants as errors
-use Rattle.ss_program.specs.Program.{PrintItem}
-use Rattle.ss_program.specs.WellTyped.{TypedScope as Place, CanTakeItem}
 use Rattle.ss_names_meaning.specs.Statements.{simple_statement}
 use Rattle.ss_check_laws.proofs.Steps.{GoesWell, two_parts}
 use Rattle.ss_check_laws.proofs.Lists.{after_one, in_order}

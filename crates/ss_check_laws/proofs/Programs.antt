@@ -1,24 +1,17 @@
 -- A program that breaks no rule has a resolved form, which is well typed.
 use Rattle.std.proofs.Common.{◌≡◌, ℕ, ◌<◌, ◌≤◌, Bool, true, false, cond, List, [], ◌∷◌, length, get_or, map, slice_get, option_map, Option, Some, None, Contains, ⊎_elim, refl, sym, ap, subst, ◌∙◌, nat_eq, arith}
 use Rattle.std.specs.List.{AllByRecursion as Every, list_all, list_any, position, position_or_len}
-use Rattle.std.specs.Map.{values_of}
+use Rattle.ss_check_laws.proofs.Common.{at_item, BodiesResolve, breaches, CheckError, each, each_at, each_item, Event, get_or_from_slice_get, is_main, is_main_section, is_notice_class, locals_of, Meaning, Moded, PlainClass, PlainLayout, Program, resolved_layout, ResolvedLayout, Routine, same_Some, slice_get-get_or, slice_get-map, slice_get_within, suits_class, Table, table, value_by_place, value_for, values_of}
 use Rattle.std.proofs.lemmas.Bool.{both_ways, cases_lt, eqb-true, lt-ltb}
 use Rattle.std.proofs.lemmas.List.Folds.{Any-from_list_any}
 use Rattle.std.proofs.lemmas.List.Sums.{fails_before_first, list_all-from_AllPass, passes_at_first}
-use Rattle.std.proofs.lemmas.Option.{get_or_from_slice_get, same_Some, slice_get-get_or, slice_get-map, slice_get_within}
 use Rattle.ss_base.specs.declared.layout.ClassKind.TheVariants as kinds
-use Rattle.ss_check_laws.proofs.Common.{at_item, BodiesResolve, CheckError, each, each_at, each_item, Event, event_from, is_main, IsTypedBlock, kind_of_class, locals_of, Meaning, Moded, Parts, parts_with_locals, PlainClass, PlainLayout, Program, resolved_layout, ResolvedLayout, routine_from, Table, table, value_by_place, value_for}
+use Rattle.ss_names_meaning.specs.Resolved.{event_from, Parts, parts_with_locals, routine_from, is_known, is_known_kind, resolved, resolved_with_locals}
+use Rattle.ss_program.specs.WellTyped.{IsTypedBlock, kind_of_class, IsTypedEvent, IsTypedRoutine, IsWellTyped}
 use Rattle.ss_tree.specs.Tree as tree
 use Rattle.ss_names_uses.specs.declared.used.ClassNeed.TheVariants as needs
 use Rattle.ss_names.specs.declared.meaning.Meaning.TheVariants as m
-use Rattle.ss_names.specs.Entries.{is_notice_class}
-use Rattle.ss_names_scopes.specs.Scopes.{is_main_section}
-use Rattle.ss_program.specs.Program.{Routine}
-use Rattle.ss_program.specs.WellTyped.{IsTypedEvent, IsTypedRoutine, IsWellTyped}
-use Rattle.ss_check_rules.specs.Kinds.{suits_class}
 use Rattle.ss_check_rules.specs.Order.{check_error_order}
-use Rattle.ss_check_rules.specs.Refusal.{breaches}
-use Rattle.ss_names_meaning.specs.Resolved.{is_known, is_known_kind, resolved, resolved_with_locals}
 use Rattle.ss_names_laws.specs.Laws.{LayoutsAreWellTyped, RoutinesAreThere, SectionsAreValid, TablesAreThere, TablesAreValid}
 use Rattle.ss_check_laws.specs.ProgramLaws.{ProgramsResolve}
 use Rattle.ss_names_laws.proofs.Kept.{nothing_found}

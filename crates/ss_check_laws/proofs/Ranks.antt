@@ -3,14 +3,9 @@ use Rattle.std.proofs.Common.{◌≡◌, ℕ, Bool, true, false, cond, ◌||◌,
 use Rattle.std.specs.List.{AllByRecursion as Every, fold, list_any}
 use Rattle.std.proofs.lemmas.Bool.{eq-eqb, eqb-true, false≢true, or_cases, or_left, or_right}
 use Rattle.std.proofs.lemmas.List.Folds.{list_any-append}
-use Rattle.ss_check_laws.proofs.Common.{at_item, at_place, class_by, ClassKind, Declared, each_item, every_first, firsts_once, given_by, NameBytes, place_from, place_in, value_by_place, value_for}
-use Rattle.ss_base.specs.declared.layout.ClassKind.TheVariants.{Notice}
+use Rattle.ss_check_laws.proofs.Common.{at_item, at_place, ClassKind, Declaration, Declared, each_item, every_first, every_piece, firsts_once, joined, NameBytes, Notice, option_to_list, place_from, place_in, value_by_place, value_for, value_from_place}
+use Rattle.ss_names.specs.Entries.{class_by, given_by, classes, is_notice_class, notice_by, notice_number, priority_by, ranks, number_added}
 use Rattle.ss_names_declarations.specs.declared.declaration.Declared.TheVariants as d
-use Rattle.ss_names_declarations.specs.declared.declaration.Declaration.{Declaration}
-use Rattle.ss_names_declarations.proofs.Entries.{value_from_place}
-use Rattle.std.specs.Prelude.{option_to_list}
-use Rattle.ss_names.specs.Entries.{classes, is_notice_class, notice_by, notice_number, priority_by, ranks, number_added}
-use Rattle.ss_names_laws.proofs.Each.{every_piece, joined}
 
 -- ---- numbers, each once
 

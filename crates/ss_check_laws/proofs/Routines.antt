@@ -1,25 +1,17 @@
 -- What the sections of a program that breaks no rule resolve to, and its routines.
 use Rattle.std.proofs.Common.{◌≡◌, ℕ, ◌+◌, ◌≤◌, Bool, false, List, [], ◌++◌, length, map, take, drop, slice_get, option_map, flat_map, Option, Some, None, refl, sym, ap, subst, subst₂, ◌∙◌, take-append-drop, arith}
 use Rattle.std.specs.List.{AllByRecursion as Every}
-use Rattle.std.specs.Map.{values_of}
-use Rattle.std.proofs.lemmas.Option.{none-some, same_Some, slice_get-map}
-use Rattle.ss_check_laws.proofs.Common.{AreValid, at_item, at_place, Block, BodiesResolve, declarations, Done, each, each_at, each_item, Event, every_first, given_by, is_main, IsLinked, IsTypedBlock, local_mode, local_modes, locals_of, Mode, Moded, NameBytes, Parts, parts_with_locals, Program, ResolvedLayout, routine_by, routine_from, RoutineSection, Table, table, Use, use_breaks}
+use Rattle.ss_check_laws.proofs.Common.{AreValid, at_item, at_place, Block, BodiesResolve, declarations, Done, each_at, each_empty, each_item, each_made, Event, every_first, from_places, given_by, in_parts, is_main, IsLinked, local_mode, locals_of, Mode, Moded, NameBytes, none-some, numbers_length, option_to_list, Program, ResolvedLayout, Routine, routine_by, RoutineSection, same_Some, scope_of, slice_get-map, Table, table, Use, values_of}
+use Rattle.ss_check_rules.specs.Refusal.{use_breaks, breaches, breaks, in_preamble, in_program, breaches_in_section}
+use Rattle.ss_names_meaning.specs.Answers.{each, ◌>>=◌}
+use Rattle.ss_names_meaning.specs.Resolved.{local_modes, Parts, parts_with_locals, routine_from, resolved_body, routine_of}
+use Rattle.ss_program.specs.WellTyped.{IsTypedBlock, TypedScope as Place, IsTypedRoutine}
 use Rattle.ss_tree.specs.Tree as tree
 use Rattle.ss_names_declarations.proofs.Entries.{entry_of_value}
 use Rattle.ss_names_uses.specs.Uses as uses
-use Rattle.std.specs.Prelude.{option_to_list}
-use Rattle.ss_names_scopes.specs.Scopes.{scope_of}
-use Rattle.ss_program.specs.Program.{Routine}
-use Rattle.ss_program.specs.WellTyped.{TypedScope as Place, IsTypedRoutine}
-use Rattle.ss_check_rules.specs.Refusal.{breaches, breaks, in_preamble, in_program, breaches_in_section}
-use Rattle.ss_names_meaning.specs.Answers.{◌>>=◌}
-use Rattle.ss_names_meaning.specs.Resolved.{resolved_body, routine_of}
 use Rattle.ss_names_laws.specs.Laws.{HasLayout, IsWellLaid}
 use Rattle.ss_names_laws.specs.ValidTables.{HasRoutines, IsValidSection, IsValidTable}
-use Rattle.ss_names_laws.proofs.Each.{each_empty, from_places, in_parts}
 use Rattle.ss_names_laws.proofs.Kept.{both_empty}
-use Rattle.ss_names_laws.proofs.Parts.{numbers_length}
-use Rattle.ss_names_laws.proofs.Results.{each_made}
 use Rattle.ss_check_laws.proofs.TableSections.{every_declared, head_of, routines_quiet}
 
 -- what is known of a program that breaks no rule

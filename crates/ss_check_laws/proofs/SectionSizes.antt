@@ -9,19 +9,12 @@ use Rattle.std.proofs.lemmas.List.Folds.{fold-map}
 use Rattle.std.proofs.lemmas.List.Sums.{get_or-le-sum_by, passes_at_first, sum_by-append, sum_by-cons, sum_by_push}
 use Rattle.std.proofs.lemmas.Map.Entries.{sum_by-remove_entry}
 use Rattle.std.proofs.lemmas.Map.Keys.{IsDistinct-head, IsDistinct-push, IsDistinct-tail}
-use Rattle.std.proofs.lemmas.Option.{same_Some, slice_get-get_or}
-use Rattle.ss_check_laws.proofs.Common.{at_item, class_by, ClassKind, declarations, Declared, each_item, event_by, event_from, firsts_once, given_by, is_main, local_modes, locals_of, Moded, NameBytes, option_nodes, Parts, parts_with_locals, place_from, resolved_layout, routine_by, routine_from, RoutineSection, StatementTree, table, there, value_for, where_holds}
+use Rattle.ss_check_laws.proofs.Common.{at_item, class_by, ClassKind, declarations, Declared, each_item, entry_of_key, event_by, EventSection, firsts_once, flat_map_from, given_by, is_main, is_main_section, locals_of, Moded, NameBytes, notice_by, number_added, place_from, priority_by, resolved_layout, routine_by, RoutineSection, same_Some, slice_get-get_or, table, there, tie_keys, where_holds}
+use Rattle.ss_names_declarations.specs.NameTable.{value_for, entry_beside, first_entries, same_name, with_first}
+use Rattle.ss_names_meaning.specs.Resolved.{event_from, local_modes, Parts, parts_with_locals, routine_from, is_known, resolved_with_locals, saved}
+use Rattle.ss_program.specs.Nodes.{option_nodes, block_nodes, routine_nodes, event_nodes, nodes}
+use Rattle.ss_tree.specs.Tree.{StatementTree, SectionKindTree, main, routine, event, SectionTree, statement_row, ProgramTree}
 use Rattle.ss_tree.specs.Nodes as tree
-use Rattle.ss_tree.specs.Tree.{SectionKindTree, main, routine, event, SectionTree, statement_row, ProgramTree}
-use Rattle.ss_names_declarations.specs.Declarations.{flat_map_from}
-use Rattle.ss_names_declarations.specs.NameTable.{entry_beside, first_entries, same_name, with_first}
-use Rattle.ss_names_declarations.proofs.Entries.{entry_of_key}
-use Rattle.ss_names.specs.declared.entry.EventSection.{EventSection}
-use Rattle.ss_names.specs.Entries.{notice_by, priority_by, number_added}
-use Rattle.ss_names_scopes.specs.Scopes.{is_main_section}
-use Rattle.ss_program.specs.Nodes.{block_nodes, routine_nodes, event_nodes, nodes}
-use Rattle.ss_names_meaning.specs.Layouts.{tie_keys}
-use Rattle.ss_names_meaning.specs.Resolved.{is_known, resolved_with_locals, saved}
 use Rattle.ss_check_laws.specs.SizeLaws.{ProgramsStaySmall}
 use Rattle.ss_check_laws.proofs.Within.{Within, at_most, followed, held, looked, there_within, each_small}
 use Rattle.ss_check_laws.proofs.StatementSizes.{row_small}

@@ -1,13 +1,10 @@
 -- Statements, and bodies of sections.
 use Rattle.std.proofs.Common.{◌+◌, arith}
-use Rattle.ss_check_laws.proofs.Common.{Block, call_statement, cancel_statement, class_named, create_every, create_statement, destroy_statement, Done, file_statement, find_if_statement, for_head, guarded, HeadTree, if_statement, let_statement, Line, loop_statement, LoopHeadTree, phrases_of, print_statement, read_statement, remove_end, remove_statement, reset_statement, schedule_new, schedule_statement, Scope, StatementTree}
-use Rattle.ss_tree.specs.declared.statement.FindOutcome.{FindOutcome}
+use Rattle.ss_check_laws.proofs.Common.{add_statement, and_statement, Block, call_statement, cancel_statement, class_named, counted, create_every, create_statement, destroy_statement, Done, file_statement, find_if_statement, find_statement, FindOutcome, for_head, guarded, HeadTree, if_statement, let_statement, Line, loop_statement, LoopHeadTree, no_statement, phrases_of, print_statement, read_statement, remove_end, remove_statement, reset_statement, schedule_new, schedule_statement, Scope, skip_statement, StatementRow, StatementTree, subtract_statement}
 use Rattle.ss_tree.specs.declared.statement.FindOutcome.TheVariants as outcomes
 use Rattle.ss_tree.specs.Nodes as tree
-use Rattle.ss_tree.specs.Tree.{add_statement, subtract_statement, find_statement, skip_statement, StatementRow, no_statement, and_statement}
 use Rattle.ss_program.specs.Nodes.{statement_nodes, block_nodes}
 use Rattle.ss_names_uses.specs.declared.used.ClassNeed.TheVariants as needs
-use Rattle.ss_names_meaning.specs.Classes.{counted}
 use Rattle.ss_names_meaning.specs.Statements.{find, find_by, resolved_loop, routine_named, simple_statement, statement, statements}
 use Rattle.ss_check_laws.specs.SizeLaws.{BodiesStaySmall}
 use Rattle.ss_check_laws.proofs.Within.{Within, at_most, so, followed, looked, where_small, each_small, each_as_many}

@@ -2,14 +2,14 @@
 use Rattle.std.proofs.Common.{List, Some, refl}
 use Rattle.std.specs.List.{AllByRecursion as Every}
 use Rattle.ss_base.specs.declared.words.Sign.TheVariants.{Plus, Minus}
-use Rattle.ss_check_laws.proofs.Common.{AreValid, call_statement, cancel_statement, create_every, create_statement, destroy_statement, Done, each, file_statement, find_if_statement, for_head, HeadTree, if_statement, IsLinked, IsResolvedForHead, IsTypedStatement, let_statement, loop_statement, phrases_of, print_statement, read_statement, remove_end, remove_statement, reset_statement, resolved_phrase, schedule_new, schedule_statement, Scope, Statement, StatementTree}
-use Rattle.ss_tree.specs.Tree.{add_statement, subtract_statement, return_statement, stop_statement, start_simulation, find_statement, skip_statement}
+use Rattle.ss_check_laws.proofs.Common.{AreValid, IsLinked, IsResolvedForHead, Scope}
+use Rattle.ss_names_meaning.specs.Answers.{each, ◌>>=◌}
+use Rattle.ss_names_meaning.specs.Heads.{phrases_of, resolved_phrase, head}
+use Rattle.ss_program.specs.Program.{Done, Statement, Head, Phrase, Find, Return, Simulate, Stop}
+use Rattle.ss_program.specs.WellTyped.{IsTypedStatement, TypedScope as Place, IsTypedHead, IsTypedPhrase}
+use Rattle.ss_tree.specs.Tree.{call_statement, cancel_statement, create_every, create_statement, destroy_statement, file_statement, find_if_statement, for_head, HeadTree, if_statement, let_statement, loop_statement, print_statement, read_statement, remove_end, remove_statement, reset_statement, schedule_new, schedule_statement, StatementTree, add_statement, subtract_statement, return_statement, stop_statement, start_simulation, find_statement, skip_statement}
 use Rattle.ss_names_uses.specs.Uses as uses
 use Rattle.ss_check_rules.specs.declared.error.CheckError.TheVariants as errors
-use Rattle.ss_program.specs.Program.{Head, Phrase, Find, Return, Simulate, Stop}
-use Rattle.ss_program.specs.WellTyped.{TypedScope as Place, IsTypedHead, IsTypedPhrase}
-use Rattle.ss_names_meaning.specs.Answers.{◌>>=◌}
-use Rattle.ss_names_meaning.specs.Heads.{head}
 use Rattle.ss_names_meaning.specs.Statements.{simple_statement, statement}
 use Rattle.ss_check_laws.proofs.Steps.{GoesWell, holds_unless}
 use Rattle.ss_check_laws.proofs.Expressions.{number_kept}

@@ -2,9 +2,7 @@
 use Rattle.std.proofs.Common.{◌≡◌, Bool, true, false, not, List, [], ◌∷◌, ◌++◌, Option, Some, None, refl, subst}
 use Rattle.std.specs.Prelude.{if◌then◌else◌}
 use Rattle.std.specs.List.{AllByRecursion as Every, flat_map}
-use Rattle.std.proofs.lemmas.Bool.{not-true}
-use Rattle.ss_check_laws.proofs.Common.{AreValid, CheckError, if_means, Integer, Meaning, Mode, Scope, unless, Use}
-use Rattle.ss_base.specs.declared.layout.Mode.TheVariants.{Alpha}
+use Rattle.ss_check_laws.proofs.Common.{Alpha, AreValid, CheckError, if_means, Integer, Meaning, Mode, not-true, Scope, unless, Use}
 use Rattle.ss_check_rules.specs.Modes.{differ}
 use Rattle.ss_names_meaning.specs.Answers.{◌>>=◌, each}
 

@@ -2,18 +2,14 @@
 use Rattle.std.proofs.Common.{◌≡◌, ℕ, ◌+◌, List, [], ◌∷◌, ◌++◌, length, map, refl, ap, ◌∙◌, append-nil, slice_get, flat_map, Some, None, sym, subst}
 use Rattle.std.specs.List.{AllByRecursion as Every}
 use Rattle.std.proofs.lemmas.List.Concat.{flat_map-append}
-use Rattle.ss_check_laws.proofs.Common.{class_by, ClassKind, declarations, Declared, event_by, every_first, given_by, Line, NameBytes, routine_by}
-use Rattle.ss_base.specs.declared.layout.ClassKind.TheVariants.{Notice}
+use Rattle.ss_check_laws.proofs.Common.{class_by, classes, ClassKind, Declaration, declarations, Declared, event_by, flat_map_from, given_by, Line, NameBytes, Notice, routine_by}
+use Rattle.ss_names_laws.proofs.Each.{every_first, every_image, every_numbered, every_piece, joined}
 use Rattle.ss_tree.specs.Tree as tree
 use Rattle.ss_tree.specs.declared.preamble.NamedKey.{NamedKey}
 use Rattle.ss_tree.specs.declared.preamble.ModeWord.{ModeWord}
 use Rattle.ss_tree.specs.declared.preamble.NamedStatistic.{NamedStatistic}
 use Rattle.ss_names_declarations.specs.Declarations as said
-use Rattle.ss_names_declarations.specs.Declarations.{flat_map_from}
 use Rattle.ss_names_declarations.specs.declared.declaration.Declared.TheVariants as d
-use Rattle.ss_names_declarations.specs.declared.declaration.Declaration.{Declaration}
-use Rattle.ss_names.specs.Entries.{classes}
-use Rattle.ss_names_laws.proofs.Each.{every_image, every_numbered, every_piece, joined}
 use Rattle.ss_names_laws.proofs.Items.{Among}
 
 -- ---- the preamble

@@ -1,22 +1,16 @@
 -- Targets, sets and subjects of a RESET whose uses break no rule resolve, and are well typed.
 use Rattle.std.proofs.Common.{◌≡◌, ℕ, Bool, true, false, Option, Some, None, refl, sym, ap, subst, ◌∙◌}
-use Rattle.std.specs.Prelude.{is_some}
-use Rattle.std.proofs.lemmas.Bool.{not-false}
-use Rattle.std.proofs.lemmas.Option.{none-some}
-use Rattle.ss_check_laws.proofs.Common.{AreValid, CanTakeMode, Designator, entity_of, Expression, ExpressionRow, Global, has_value, in_named, Integer, IsLinked, Line, Meaning, meaning_mode, meaning_of_name, Mode, mode_of_meaning, NamedTree, owner_of_subject, place_in, place_named, row_length, Scope, set_owner, Subject, subscript, ToVariable, value_for}
+use Rattle.ss_check_laws.proofs.Common.{AreValid, Designator, ExpressionRow, Global, in_named, Integer, is_some, IsLinked, Line, Meaning, meaning_mode, MemberCount, Mode, NamedTree, none-some, not-false, owner_of_subject, place_breaks, place_in, row_length, Subject, subject_of, value_for}
+use Rattle.ss_check_rules.specs.Kinds.{has_value, is_set, takes_values}
+use Rattle.ss_names_meaning.specs.Expressions.{entity_of, place_named, set_owner, subscript, place_of, set_number, set_of_name}
+use Rattle.ss_names_scopes.specs.Scopes.{meaning_of_name, mode_of_meaning, Scope, history_of, unless_hidden}
+use Rattle.ss_program.specs.Program.{Expression, ToVariable, Place as Target, ToAttribute, ToCount, InputTarget as ReadTarget, SetOwner, Restart}
+use Rattle.ss_program.specs.WellTyped.{CanTakeMode, TypedScope as Place}
 use Rattle.ss_tree.specs.declared.expression.Designator.TheVariants.{Name, TimeV, TimeA}
-use Rattle.ss_program.specs.Program.{Place as Target, ToAttribute, ToCount, InputTarget as ReadTarget, SetOwner, Restart}
-use Rattle.ss_program.specs.WellTyped.{TypedScope as Place}
-use Rattle.ss_program.specs.declared.expression.SetQuery.TheVariants.{MemberCount}
 use Rattle.ss_names_uses.specs.declared.used.Role.TheVariants as roles
 use Rattle.ss_names.specs.declared.meaning.Meaning.TheVariants as meanings
-use Rattle.ss_names.specs.Table.{subject_of}
-use Rattle.ss_names_scopes.specs.Scopes.{history_of, unless_hidden}
-use Rattle.ss_check_rules.specs.Kinds.{is_set, takes_values}
-use Rattle.ss_check_rules.specs.Refusal.{place_breaks}
 use Rattle.ss_check_rules.specs.declared.error.CheckError.TheVariants as errors
 use Rattle.ss_names_meaning.specs.Answers.{◌>>=◌}
-use Rattle.ss_names_meaning.specs.Expressions.{place_of, set_number, set_of_name}
 use Rattle.ss_check_laws.specs.BodyLaws.{IsResolvedRestart, RestartsResolve, IsResolvedSet, SetsResolve, IsResolvedTarget, TargetsResolve}
 use Rattle.ss_check_laws.proofs.Steps.{goes, meant, two_steps}
 use Rattle.ss_check_laws.proofs.Linked.{IsHere, meant_here, named_here, seen, watched_here}

@@ -1,27 +1,22 @@
 -- Values and targets of the modes that their places want: LET, ADD, SUBTRACT, READ and CALL.
 use Rattle.std.proofs.Common.{◌≡◌, ℕ, ◌+◌, ◌<◌, true, false, List, ◌++◌, length, take, drop, Option, Some, None, refl, sym, ap, subst, arith, ◌∙◌, length-drop, eq-eqb, eqb-true}
 use Rattle.std.specs.Prelude.{◌&&◌, ◌==◌, option_and_then, slice_get}
-use Rattle.std.specs.Option.{option_map_or}
-use Rattle.std.specs.List.{AllZip}
-use Rattle.std.specs.Map.{values_of}
-use Rattle.std.proofs.lemmas.Option.{slice_get_within}
-use Rattle.ss_check_laws.proofs.Common.{AreValid, call_statement, CanTakeMode, CheckError, expression, ExpressionTree, HasMode, if_means, Integer, IsLinked, IsTypedStatement, let_statement, Line, local_mode, local_modes, Meaning, Mode, mode_of_use, Moded, NameBytes, NamedTree, numbers_at, read_statement, RoutineSection, Scope, Statement, unless, upto, value_for}
+use Rattle.ss_check_laws.proofs.Common.{AllZip, call_statement, CheckError, expression, ExpressionTree, Integer, let_statement, Line, local_modes, Meaning, Mode, mode_of_use, Moded, NameBytes, NamedTree, option_map_or, read_statement, RoutineSection, slice_get_within, target, unless, value_for, values_of}
+use Rattle.ss_check_laws.specs.Links.{AreValid, IsLinked, IsRoutineAt}
+use Rattle.ss_check_rules.specs.Kinds.{if_means, is_routine}
+use Rattle.ss_names_laws.proofs.Steps.{numbers_at, upto_length}
+use Rattle.ss_names_meaning.specs.Answers.{upto, ◌>>=◌}
+use Rattle.ss_names_scopes.specs.Scopes.{local_mode, Scope, local_mode_at, mode_given, parameter_mode}
+use Rattle.ss_program.specs.Program.{Statement, Change, Call, InputTarget}
+use Rattle.ss_program.specs.WellTyped.{CanTakeMode, HasMode, IsTypedStatement, TypedScope as Place}
 use Rattle.ss_base.specs.declared.words.Sign.{Sign}
 use Rattle.ss_names_uses.specs.declared.used.ModeOf.{ModeOf}
 use Rattle.ss_names_uses.specs.declared.used.ModeOf.TheVariants as modes
 use Rattle.ss_names_uses.specs.declared.used.Role.TheVariants as roles
 use Rattle.ss_names_uses.specs.Uses as uses
 use Rattle.ss_names.specs.declared.meaning.Meaning.TheVariants as meanings
-use Rattle.ss_names_scopes.specs.Scopes.{local_mode_at, mode_given, parameter_mode}
 use Rattle.ss_check_rules.specs.declared.error.CheckError.TheVariants as errors
-use Rattle.ss_check_rules.specs.Kinds.{is_routine}
-use Rattle.ss_program.specs.Program.{Change, Call, InputTarget}
-use Rattle.ss_program.specs.WellTyped.{TypedScope as Place}
-use Rattle.ss_names_meaning.specs.Answers.{◌>>=◌}
-use Rattle.ss_names_meaning.specs.Expressions.{target}
 use Rattle.ss_names_meaning.specs.Statements.{reader, routine_number, simple_statement}
-use Rattle.ss_names_laws.proofs.Steps.{upto_length}
-use Rattle.ss_check_laws.specs.Links.{IsRoutineAt}
 use Rattle.ss_check_laws.proofs.Steps.{GoesWell, agree, each_resolves, holds_unless, two_parts}
 use Rattle.ss_check_laws.proofs.Expressions.{number_kept}
 use Rattle.ss_check_laws.proofs.Lists.{after, after_first, after_one, after_two, each_length, holds, in_order}

@@ -1,7 +1,6 @@
 -- Steps that may have no result, and results of at most so many nodes.
 use Rattle.std.proofs.Common.{◌≡◌, ℕ, ◌≤◌, Bool, true, false, List, [], ◌∷◌, length, Option, Some, None, sum_by, subst, arith}
-use Rattle.std.proofs.lemmas.List.Sums.{sum_by-cons}
-use Rattle.std.specs.Option.{option_map_or}
+use Rattle.ss_check_laws.proofs.Common.{option_map_or, sum_by-cons}
 use Rattle.ss_program.specs.Nodes.{total, option_nodes}
 use Rattle.ss_names_meaning.specs.Answers.{◌>>=◌, each, if_there, where_holds}
 

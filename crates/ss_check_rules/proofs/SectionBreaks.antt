@@ -1,18 +1,9 @@
 -- The uses and the local variables of each section, side by side with the sections.
 use mathlib.Core.List.{map-map}
 use Rattle.std.proofs.Common.{◌≡◌, ℕ, ◌<◌, ◌||◌, Bool, List, [], ◌∷◌, length, get_or, map, refl, sym, ap, subst, ◌∙◌}
-use Rattle.std.specs.Global.{Vec}
-use Rattle.std.specs.List.{flat_map, list_any}
+use Rattle.ss_check_rules.proofs.Common.{breaches_in_section, breaks, flat_map, is_main_section, list_any, locals, locals_of, Moded, Scope, Section, Table, Use, uses, uses_seen, Vec, view_section}
 use Rattle.std.proofs.lemmas.List.{get_or-map, length-map}
 use Rattle.ss_tree.specs.Tree.{SectionTree}
-use Rattle.ss_tree.specs.View.{view_section}
-use Rattle.ss_tree.specs.declared.program.Section.{Section}
-use Rattle.ss_names_uses.specs.Uses.{uses}
-use Rattle.ss_names_uses.specs.declared.used.Use.{Use}
-use Rattle.ss_names.specs.Table.{Table}
-use Rattle.ss_names_scopes.specs.Locals.{Moded, locals, locals_of, uses_seen}
-use Rattle.ss_names_scopes.specs.Scopes.{Scope, is_main_section}
-use Rattle.ss_check_rules.specs.Refusal.{breaks, breaches_in_section}
 
 -- ---- items in the same place
 

@@ -1,10 +1,8 @@
 -- What the generator emits where something is assigned.
 use Rattle.std.proofs.Common.{◌≡◌, ℕ, ◌≤◌, Bool, true, false, List, [], ◌∷◌, ◌++◌, Some, None, refl, sym, ap, ◌∙◌, subst, append-nil, if◌then◌else◌}
-use Rattle.ss_code_generator.proofs.Common.{above, Address, after_place, Alpha, AttributeSpot, code_of, Expression, field_mode, Final, Global, HasPrintModes, height, Integer, is_kept, IsRunBy, IsSiteOperand, IsVariable, IsWatchedAs, landed_code, landing, Mode, mode_here, moving, next, OfAttribute, Operand, Place, place, place_code, Placed, Program, Site, storing, Taken, Target, to_place_code, ToAttribute, ToCount, ToVariable, TypedScope, Variable, VariableSpot, watch}
-use Rattle.ss_code_instructions.specs.Instructions.{Into}
+use Rattle.ss_code_generator.proofs.Common.{above, Address, after_place, Alpha, assignment, AttributeSpot, code_of, Expression, field_mode, Final, Global, HasPrintModes, height, Integer, is_kept, IsAttribute, IsRunBy, IsSiteOperand, IsVariable, IsWatchedAs, landed_code, landing, Mode, mode_here, moving, next, OfAttribute, Place, place, place_code, Program, Site, storing, to_place_code, ToAttribute, ToCount, ToVariable, TypedScope, Variable, VariableSpot, watch}
+use Rattle.ss_code_instructions.specs.Instructions.{Operand, Placed, Taken, Target, Into}
 use Rattle.ss_code_instructions.specs.Instructions as i
-use Rattle.ss_code_instructions.specs.Translation.{assignment}
-use Rattle.ss_code_generator.specs.Spots.{IsAttribute}
 use Rattle.ss_code_generator.proofs.Forms as forms
 use Rattle.ss_code_generator.proofs.Modes.{has_field}
 

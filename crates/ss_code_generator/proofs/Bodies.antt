@@ -1,24 +1,21 @@
 -- Statements and bodies, from what was emitted for their parts.
 use Rattle.std.proofs.Common.{◌≡◌, ℕ, zero, suc, ◌+◌, ◌<◌, ◌≤◌, ◌^◌, List, [], ◌∷◌, ◌++◌, length, map, refl, sym, ap, ◌∙◌, subst, arith, append_assoc, append-nil, length-append}
 use Rattle.std.specs.List.{AllZip, AllByRecursion as Every}
-use Rattle.ss_code_generator.proofs.Common.{code_of, condition_code, Each, Entity, Final, for_code, Generator, Guard, HasAdded, HasEmitted, HasEmittedAround, HasEmittedBlock, HasGrown, HasPrintModes, height, IsAround, IsCarriedOut, IsLocated, IsTypedCondition, IsTypedHead, IsTypedPhrase, IsTypedStatement, Line, Lined, Mode, no_code, on_line, Phrase, phrases_code, place, Placed, RunningLines, Site, TheSystem, TypedScope, view_expression, view_item, view_owner, view_place, view_restart, view_target, view_when}
+use Rattle.ss_code_generator.proofs.Common.{Generator, IsCarriedOut, IsTypedItem, Line, Lined, Lines, loop_width, Mode, no_code, on_line, Placed, RunningLines}
+use Rattle.ss_code_generator.specs.Emitted.{Final, HasAdded, HasEmitted, HasEmittedAround, HasGrown, HasPrintModes, IsAround, IsLocated, HasEmittedAroundBoth, HasPrints}
+use Rattle.ss_code_generator.specs.Printed.{HasEmittedBlock, HasPrinted, line_or_none, statement_site, HasPrintedBy, HasPrintedLines, HasEmittedStatement}
+use Rattle.ss_code_instructions.specs.Translation.{code_of, condition_code, for_code, height, phrases_code, place, Site, site_at_line, no_line, if_code, loop_code, in_loop, loop_cells, find_code, items_code, after_items, statement_code, statement_prints, block_code, block_prints}
+use Rattle.ss_program.specs.Program.{Each, Entity, Guard, Phrase, TheSystem, Condition, Head, Numbers, Members, PrintItem, AValue, AMean, AMeanOf, Statement, Block, Done}
+use Rattle.ss_program.specs.View.{view_expression, view_item, view_owner, view_place, view_restart, view_target, view_when, view_position, view_statement, block_of}
+use Rattle.ss_program.specs.WellTyped.{IsTypedCondition, IsTypedHead, IsTypedPhrase, IsTypedStatement, TypedScope, IsTypedBlock, CanTakeItem}
 use Rattle.ss_picture.specs.declared.field.Field.{Field}
 use Rattle.ss_program.specs.declared.statement.Statement as statements
 use Rattle.ss_program.specs.declared.statement.Statement.TheVariants as forms
 use Rattle.ss_program.specs.Program as p
-use Rattle.ss_program.specs.Program.{Condition, Head, Numbers, Members, PrintItem, AValue, AMean, AMeanOf, Statement, Block, Done}
-use Rattle.ss_program.specs.View.{view_position, view_statement, block_of}
-use Rattle.ss_program.specs.WellTyped.{IsTypedBlock, CanTakeItem}
 use Rattle.ss_code_instructions.specs.declared.instruction.Instruction.{Instruction as Running}
 use Rattle.ss_code_instructions.specs.declared.instruction.Instruction.TheVariants as r
-use Rattle.ss_code_instructions.specs.Instructions.{Lines}
 use Rattle.ss_code_instructions.specs.Instructions as i
-use Rattle.ss_code_instructions.specs.Translation.{site_at_line, no_line, if_code, loop_code, in_loop, loop_cells, find_code, items_code, after_items, statement_code, statement_prints, block_code, block_prints}
 use Rattle.ss_code_generator.specs.declared.generator.Site.{Site as Here}
-use Rattle.ss_code_generator.specs.Emitted.{HasEmittedAroundBoth, HasPrints}
-use Rattle.ss_code_generator.specs.Items.{IsTypedItem}
-use Rattle.ss_code_generator.specs.Looped.{loop_width}
-use Rattle.ss_code_generator.specs.Printed.{HasPrinted, line_or_none, statement_site, HasPrintedBy, HasPrintedLines, HasEmittedStatement}
 use Rattle.ss_code_generator.proofs.Emitting.{around_old, grows_same, grows_then, stands_old, adds_none, adds_then, adds_one, adds_piece, adds_apart, adds_same, piece_long, none_there}
 use Rattle.ss_code_generator.proofs.PrintLines.{prints_then, prints_long}
 use Rattle.ss_code_generator.proofs.Rounds.{for_looped}

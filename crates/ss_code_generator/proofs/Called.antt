@@ -1,15 +1,14 @@
 -- CALL, and statements of one operand.
 use Rattle.std.proofs.Common.{◌≡◌, ℕ, zero, suc, ◌+◌, ◌-◌, ◌<◌, ◌≤◌, ◌^◌, List, [], ◌∷◌, ◌++◌, length, drop, Some, refl, sym, ap, ◌∙◌, subst, arith, append_assoc, append-nil, length-drop}
-use Rattle.std.specs.Prelude.{slice_get}
+use Rattle.ss_code_generator.proofs.Common.{Expression, Final, Generator, HasEmitted, HasPrintModes, HasReadOperand, Integer, IsAround, IsTyped, IsTypedPlace, Line, Lined, Mode, on_line, Operand, Place, Placed, slice_get, values_high}
 use Rattle.std.specs.List.{AllZip, AllByRecursion as Every}
-use Rattle.ss_code_generator.proofs.Common.{after, after_values, CanTakeMode, code_of, Expression, Final, Generator, HasEmitted, HasMode, HasPrintModes, HasReadOperand, height, Integer, IsAround, IsCarriedOut, IsTyped, IsTypedPlace, IsTypedStatement, Line, Lined, Mode, on_line, Operand, operand, operand_code, Place, place, Placed, Site, TypedScope, values_code, values_high, with_operand}
+use Rattle.ss_code_instructions.specs.Carried.{IsCarriedOut, IsOperandAt}
+use Rattle.ss_code_instructions.specs.Translation.{after, after_values, code_of, height, operand, operand_code, place, Site, values_code, with_operand, with_results, give_code, gives_code}
+use Rattle.ss_program.specs.WellTyped.{CanTakeMode, HasMode, IsTypedStatement, TypedScope, HaveModes}
 use Rattle.ss_program.specs.Program as p
-use Rattle.ss_program.specs.WellTyped.{HaveModes}
 use Rattle.ss_code_instructions.specs.declared.instruction.Instruction.{Instruction as Running}
 use Rattle.ss_code_instructions.specs.declared.instruction.Instruction.TheVariants as r
 use Rattle.ss_code_instructions.specs.Instructions as i
-use Rattle.ss_code_instructions.specs.Translation.{with_results, give_code, gives_code}
-use Rattle.ss_code_instructions.specs.Carried.{IsOperandAt}
 use Rattle.ss_code_generator.specs.declared.expressions.Operand.{Operand as Read}
 use Rattle.ss_code_generator.specs.declared.generator.Site.{Site as Here}
 use Rattle.ss_code_generator.proofs.Emitting.{around_old, grows_then, stands_old, stands_above, adds_then, adds_one, adds_same}

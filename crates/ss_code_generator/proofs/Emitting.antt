@@ -1,10 +1,10 @@
 -- Pieces put together, and what is around them.
 use Rattle.std.proofs.Common.{◌≡◌, ℕ, suc, ◌+◌, ◌<◌, ◌≤◌, ◌^◌, List, [], ◌∷◌, ◌++◌, length, Result, Ok, Err, refl, sym, ap, ◌∙◌, subst, arith, append_assoc, append-nil}
 use Rattle.std.specs.Prelude.{OnOk}
-use Rattle.ss_code_generator.proofs.Common.{Final, Generator, HasAdded, HasGenerated, HasGrown, height, IsAround, IsLocated, IsRunBy, Line, Lined, no_code, on_line, Placed, Site, Value, view_program}
+use Rattle.ss_code_generator.proofs.Common.{Generator, height, Line, Lined, no_code, on_line, Placed, Site, Value, view_program}
+use Rattle.ss_code_generator.specs.Emitted.{Final, HasAdded, HasGenerated, HasGrown, IsAround, IsLocated, IsRunBy, AreAllRun}
 use Rattle.ss_code_instructions.specs.declared.instruction.Instruction.{Instruction as Running}
 use Rattle.ss_code_generator.specs.declared.generator.Site.{Site as Here}
-use Rattle.ss_code_generator.specs.Emitted.{AreAllRun}
 
 -- ## What is around more is around less
 

@@ -1,22 +1,16 @@
 -- What the generator emits for members of sets.
 use Rattle.std.proofs.Common.{◌≡◌, ℕ, ◌+◌, ◌<◌, ◌^◌, Bool, true, false, [], ◌∷◌, ◌++◌, refl, sym, ap, ◌∙◌, if◌then◌else◌}
-use Rattle.std.specs.Prelude.{slice_get}
-use Rattle.ss_code_generator.proofs.Common.{after, after_bearer, bearer, bearer_code, code_of, Expression, expression_of, Final, Generator, HasBorne, HasEmitted, HasPrintModes, HasReadOperand, Instruction, Integer, IsAround, IsCarriedOut, IsInteger, IsSiteOperand, IsTypedStatement, IsTypedTest, Lined, OfCount, on_line, Operand, operand, place, Program, SetOwner, Site, stay, view_program, watch}
-use Rattle.ss_program.specs.Program.{ByDiscipline, AsFirst, AsLast, BeforeMember, AfterMember, File, Member}
-use Rattle.ss_program.specs.WellTyped.{IsTypedOwner}
+use Rattle.ss_code_generator.proofs.Common.{filing_instruction, filing_of, Final, Generator, HasBorne, HasEmitted, HasPrintModes, HasReadBy, HasReadOperand, Integer, IsAround, IsCarriedOut, IsInteger, IsSiteBearer, IsSiteOperand, IsTypedOwner, IsTypedStatement, IsTypedTest, Lined, OfCount, on_line, Ordering, slice_get, view_program}
+use Rattle.ss_code_instructions.specs.Facts.{expression_of, watch, may_fault}
+use Rattle.ss_code_instructions.specs.Instructions.{Instruction, Operand, Bearer, FilingPlace}
+use Rattle.ss_code_instructions.specs.Translation.{after, after_bearer, bearer, bearer_code, code_of, operand, place, Site, stay, with_owner, member_code, file_code, remove_code, test_code, filing_by}
+use Rattle.ss_program.specs.Program.{Expression, Program, SetOwner, ByDiscipline, AsFirst, AsLast, BeforeMember, AfterMember, File, Member}
 use Rattle.ss_code_instructions.specs.declared.instruction.Instruction.{Instruction as Running}
 use Rattle.ss_code_instructions.specs.declared.instruction.Instruction.TheVariants as r
-use Rattle.ss_code_instructions.specs.Facts.{may_fault}
-use Rattle.ss_code_instructions.specs.Instructions.{Bearer, FilingPlace}
 use Rattle.ss_code_instructions.specs.Instructions as i
-use Rattle.ss_code_instructions.specs.Translation.{with_owner, member_code, file_code, remove_code, test_code, filing_by}
-use Rattle.ss_code_pieces.specs.declared.facts.Ordering.{Ordering}
 use Rattle.ss_code_pieces.specs.declared.facts.Ordering.TheVariants as orderings
 use Rattle.ss_code_generator.specs.declared.expressions.Operand.{Operand as Read}
 use Rattle.ss_code_generator.specs.declared.generator.Site.{Site as Here}
-use Rattle.ss_code_pieces.specs.Preamble.{filing_of}
-use Rattle.ss_code_generator.specs.Filings.{filing_instruction}
-use Rattle.ss_code_generator.specs.Emitted.{IsSiteBearer, HasReadBy}
 use Rattle.ss_code_generator.proofs.Emitting.{around_old, grows_then, stands_old, adds_then, adds_one, adds_same}
 use Rattle.ss_code_generator.proofs.Forms as forms
 use Rattle.ss_code_generator.proofs.Operands.{read_stands, stays_at, looked_reads}

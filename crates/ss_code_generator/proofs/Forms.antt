@@ -1,25 +1,17 @@
 -- What an instruction carries out that is chosen by operator, mode, relation, ordering or end.
 use Rattle.std.proofs.Common.{◌≡◌, ℕ, Bool, List, refl}
-use Rattle.ss_code_generator.proofs.Common.{Address, calculating, IsCarriedOut, Mode, moving, OfAttribute, OfCount, Placed, storing, Value}
+use Rattle.ss_code_generator.proofs.Common.{Address, asking_member, asking_set, calculating, comparing, End, fetching, filing_instruction, filing_of, MemberQuery, Mode, moving, OfAttribute, OfCount, Ordering, Placed, reading, Relation, removing, SetQuery, storing, Value}
+use Rattle.ss_code_instructions.specs.Carried.{IsCarriedOut, HasOperand, HasBearer, HasTarget, Is, IsCalculating, IsMovingValue, IsComparing, IsReadingAttribute, IsSettingAttribute, IsNotedIfWatched, IsUnwatched, IsFilingMember}
 use Rattle.ss_base.specs.declared.layout.Mode.TheVariants as modes
 use Rattle.ss_base.specs.declared.words.Operator.{Operator}
 use Rattle.ss_base.specs.declared.words.Operator.TheVariants as operators
-use Rattle.ss_program.specs.declared.expression.SetQuery.{SetQuery}
 use Rattle.ss_program.specs.declared.expression.SetQuery.TheVariants as set_queries
-use Rattle.ss_program.specs.declared.expression.MemberQuery.{MemberQuery}
 use Rattle.ss_program.specs.declared.expression.MemberQuery.TheVariants as member_queries
-use Rattle.ss_base.specs.declared.words.Relation.{Relation}
 use Rattle.ss_base.specs.declared.words.Relation.TheVariants as relations
-use Rattle.ss_base.specs.declared.words.End.{End}
 use Rattle.ss_base.specs.declared.words.End.TheVariants as ends
 use Rattle.ss_code_instructions.specs.Instructions as i
 use Rattle.ss_code_instructions.specs.Machine.{Code}
-use Rattle.ss_code_instructions.specs.Carried.{HasOperand, HasBearer, HasTarget, Is, IsCalculating, IsMovingValue, IsComparing, IsReadingAttribute, IsSettingAttribute, IsNotedIfWatched, IsUnwatched, IsFilingMember}
-use Rattle.ss_code_pieces.specs.declared.facts.Ordering.{Ordering}
 use Rattle.ss_code_pieces.specs.declared.facts.Ordering.TheVariants as orderings
-use Rattle.ss_code_pieces.specs.Preamble.{filing_of}
-use Rattle.ss_code_instructions.specs.Forms.{asking_set, asking_member, fetching, reading, comparing, removing}
-use Rattle.ss_code_generator.specs.Filings.{filing_instruction}
 
 module _ (code : Code) (constants : List Value) (x : Placed) where
   pub calculates : (op : Operator) (left right to : Address) → IsCalculating code constants x op left right to → IsCarriedOut code constants x (calculating op left right to)

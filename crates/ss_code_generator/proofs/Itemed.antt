@@ -1,18 +1,14 @@
 -- What the generator emits for a PRINT.
 use Rattle.std.proofs.Common.{◌≡◌, ℕ, suc, false, ◌+◌, ◌<◌, ◌≤◌, ◌^◌, List, [], ◌∷◌, ◌++◌, length, map, Some, refl, sym, ap, ◌∙◌, arith, append_assoc, append-nil}
-use Rattle.std.specs.Prelude.{slice_get}
+use Rattle.ss_code_generator.proofs.Common.{Address, AMean, AMeanOf, AValue, Expression, Final, Generator, HasEmitted, HasGenerated, HasGrown, HasPrintedLines, Instruction, IsLocated, IsTyped, ItemKind, Lined, Mode, on_line, Placed, PrintItem, Program, scope_for_modes, slice_get, Stays, TypedScope}
 use Rattle.std.specs.List.{AllByRecursion as Every}
-use Rattle.ss_code_generator.proofs.Common.{above, Address, Expression, expression_code, expression_mode, Final, Generator, HasEmitted, HasGenerated, HasGrown, height, Instruction, IsInFrame, IsLocated, IsTyped, Lined, Mode, next, on_line, place, Placed, Program, RunningLines, scope_for_modes, Site, Stays, TypedScope}
+use Rattle.ss_code_instructions.specs.Carried.{IsInFrame, RunningLines, lines_of_running, kind_of_item, item_modes, onto}
+use Rattle.ss_code_instructions.specs.Translation.{above, expression_code, expression_mode, height, next, place, Site, item_code, item_cells, items_code, items_cells, after_items, item_kind, lines_of_items as lines_said, with_cells}
 use Rattle.ss_base.specs.declared.layout.Mode.TheVariants as modes
-use Rattle.ss_program.specs.Program.{PrintItem, AValue, AMean, AMeanOf}
 use Rattle.ss_code_instructions.specs.declared.instruction.Instruction.TheVariants as r
-use Rattle.ss_code_instructions.specs.declared.item.ItemKind.{ItemKind}
 use Rattle.ss_code_instructions.specs.Instructions as i
-use Rattle.ss_code_instructions.specs.Translation.{item_code, item_cells, items_code, items_cells, after_items, item_kind, lines_of_items as lines_said, with_cells}
-use Rattle.ss_code_instructions.specs.Carried.{lines_of_running, kind_of_item, item_modes, onto}
 use Rattle.ss_code_generator.specs.declared.generator.Site.{Site as Here}
 use Rattle.ss_code_generator.specs.Items.{value_kind, running_kind, item_width, IsTypedItem}
-use Rattle.ss_code_generator.specs.Printed.{HasPrintedLines}
 use Rattle.ss_code_generator.proofs.Emitting.{around_old, grows_same, grows_then, stands_old, stands_above, adds_none, adds_then, adds_one, adds_same}
 use Rattle.ss_code_generator.proofs.Modes.{mode_by}
 use Rattle.ss_code_generator.proofs.Operands.{cell_at_site}

@@ -1,20 +1,16 @@
 -- LET, ADD and SUBTRACT, and what takes a value that an instruction leaves.
 use Rattle.std.proofs.Common.{◌≡◌, ℕ, ◌+◌, ◌<◌, ◌≤◌, ◌^◌, Bool, true, false, List, [], ◌∷◌, ◌++◌, length, Some, refl, sym, ap, ◌∙◌, subst, arith, if◌then◌else◌}
-use Rattle.ss_code_generator.proofs.Common.{above, Address, after, after_place, Assignment, AttributeSpot, calculating, CanTakeMode, code_of, CountedClass, entity_code, Expression, expression_code, Final, Generator, Global, HasAssigned, HasAssignedLanded, HasEmitted, HasGenerated, HasGrown, HasHeldMode, HasMode, HasPrintModes, HasReadOperand, HasTargetRoom, height, Held, Instruction, Integer, is_kept, IsAround, IsCarriedOut, IsInFrame, IsInteger, IsLocated, IsSiteOperand, IsSiteTarget, IsSpot, IsTyped, IsTypedPlace, IsTypedStatement, IsVariable, IsWatchedAs, landed_code, landing, Lined, Mode, mode_at, mode_here, next, OfAttribute, on_line, operand, operand_code, or_integer, Place, place, place_code, Placed, Program, RunningLines, Site, Spot, spot_cells, storing, Taken, Taking, Target, to_place_code, ToAttribute, ToCount, ToVariable, Variable, VariableSpot, watch, with_operand}
-use Rattle.ss_base.specs.declared.words.Sign.{Sign}
-use Rattle.ss_program.specs.Program.{Let, Change}
-use Rattle.ss_meaning.specs.Values.{operator_of}
+use Rattle.ss_code_generator.proofs.Common.{Address, AttributeSpot, calculating, CanTakeMode, CountedClass, Generator, Global, HasMode, Held, Instruction, Integer, IsCarriedOut, IsInFrame, IsTypedStatement, Leave, Lined, Mode, mode_at, mode_here, must_look, OfAttribute, on_line, operator_of, Placed, RunningLines, Sign, Spot, storing, Taken, Target, Variable, VariableSpot, watch}
+use Rattle.ss_code_generator.specs.Emitted.{Final, HasEmitted, HasGenerated, HasGrown, HasPrintModes, HasReadOperand, IsAround, IsInteger, IsLocated, IsSiteOperand, IsSiteTarget, IsTyped, HasNoMore}
+use Rattle.ss_code_generator.specs.Spots.{Assignment, HasAssigned, HasAssignedLanded, HasHeldMode, HasTargetRoom, IsSpot, IsTypedPlace, IsVariable, IsWatchedAs, landed_code, landing, spot_cells, Taking, Changed, place_variable, IsHeldBy, spot_code, assigned_code}
+use Rattle.ss_code_instructions.specs.Translation.{above, after, after_place, code_of, entity_code, expression_code, height, is_kept, next, operand, operand_code, or_integer, place, place_code, Site, to_place_code, with_operand, place_mode, count_code, let_code, change_code, give_code}
+use Rattle.ss_program.specs.Program.{Expression, Place, Program, ToAttribute, ToCount, ToVariable, Let, Change}
 use Rattle.ss_code_instructions.specs.declared.instruction.Instruction.{Instruction as Running}
 use Rattle.ss_code_instructions.specs.declared.instruction.Instruction.TheVariants as r
-use Rattle.ss_code_instructions.specs.Facts.{must_look}
-use Rattle.ss_code_instructions.specs.Instructions.{Leave}
 use Rattle.ss_code_instructions.specs.Instructions as i
-use Rattle.ss_code_instructions.specs.Translation.{place_mode, count_code, let_code, change_code, give_code}
 use Rattle.ss_code_generator.specs.declared.expressions.Operand.{Operand as Read}
 use Rattle.ss_code_generator.specs.declared.generator.Site.{Site as Here}
 use Rattle.ss_code_generator.specs.declared.targets.Spot.TheVariants as spots
-use Rattle.ss_code_generator.specs.Emitted.{HasNoMore}
-use Rattle.ss_code_generator.specs.Spots.{Changed, place_variable, IsHeldBy, spot_code, assigned_code}
 use Rattle.ss_code_generator.proofs.Emitting.{around_old, grows_then, stands_old, stands_above, adds_then, adds_one, adds_same}
 use Rattle.ss_code_generator.proofs.Forms as forms
 use Rattle.ss_code_generator.proofs.Modes.{same_some, on_top, operand_mode, mode_after}

@@ -1,11 +1,9 @@
 -- Code of a list of things, with one of them more.
 use Rattle.std.proofs.Common.{◌≡◌, ℕ, ◌+◌, ◌<◌, List, [], ◌∷◌, ◌++◌, length, map, take, drop, get_or, refl, ap, sym, ◌∙◌, arith, append_assoc, append-nil}
-use Rattle.std.proofs.lemmas.List.{take_more, drop_more, map-append}
+use Rattle.ss_code_generator.proofs.Common.{after_bearer, bearer, bearer_code, CountedClass, creates_code, drop_more, Generator, HasEmitted, InputTarget, Lined, map-append, on_line, place, reads_code, Restart, restarts_code, Site, take_more, to_place_code, TypedScope}
 use Rattle.std.specs.List.{AllByRecursion as Every}
-use Rattle.ss_code_generator.proofs.Common.{after_bearer, bearer, bearer_code, CountedClass, creates_code, Generator, HasEmitted, Lined, on_line, place, Placed, reads_code, Restart, restarts_code, Site, to_place_code, TypedScope}
-use Rattle.ss_program.specs.Program.{InputTarget}
+use Rattle.ss_code_instructions.specs.Instructions.{Placed, Read, CreateAll, Reset}
 use Rattle.ss_code_instructions.specs.declared.instruction.Instruction.TheVariants.{CreateAll as CreatesAll}
-use Rattle.ss_code_instructions.specs.Instructions.{Read, CreateAll, Reset}
 use Rattle.ss_code_generator.specs.declared.generator.Site.{Site as Here}
 use Rattle.ss_code_generator.proofs.Emitting.{around_old, grows_then, stands_old, adds_then, adds_one, adds_same}
 

@@ -4,13 +4,13 @@ use Rattle.std.proofs.lemmas.Bool.{eqb-true, eq-eqb, ne_eqb}
 use Rattle.std.specs.Prelude.{slice_get, ◌==◌}
 use Rattle.std.specs.List.{fold}
 use Rattle.std.specs.Option.{option_map, option_and_then}
-use Rattle.ss_code_generator.proofs.Common.{above, after, code_of, Expression, expression_mode, field_mode, Final, Generator, Global, HasGrown, HasMode, height, Held, Instruction, IsAround, IsLocated, Local, Mode, mode_at, mode_here, Operand, operand, or_integer, place, Placed, Program, scope_for_modes, Site, Stays, Taken, TypedScope, Value, Variable, view_program}
+use Rattle.ss_code_generator.proofs.Common.{above, after, code_of, expression_mode, field_mode, Final, Generator, Global, HasGrown, HasMode, height, Held, Instruction, IsAround, IsLocated, Local, Mode, mode_at, Operand, operand, or_integer, place, Placed, scope_for_modes, Site, Stays, Taken, TypedScope, Value, Variable, view_program}
+use Rattle.ss_code_instructions.specs.Carried.{mode_here, HasFieldMode}
+use Rattle.ss_program.specs.Program.{Expression, Program, Constant, Fetch, Attribute, OfSystemSet, OfSet, OfMember, Clock, TimeOf, Figure, FigureOf, Signed, Unary, Calculate}
 use Rattle.ss_base.specs.declared.layout.ClassLayout.{ClassLayout}
 use Rattle.ss_world.specs.State.{modes_in}
-use Rattle.ss_program.specs.Program.{Constant, Fetch, Attribute, OfSystemSet, OfSet, OfMember, Clock, TimeOf, Figure, FigureOf, Signed, Unary, Calculate}
 use Rattle.ss_code_instructions.specs.Instructions as i
 use Rattle.ss_code_instructions.specs.States.{cell_at}
-use Rattle.ss_code_instructions.specs.Carried.{HasFieldMode}
 use Rattle.ss_code_instructions.proofs.Shaping.{mode_so}
 use Rattle.ss_code_generator.specs.declared.generator.Site.{Site as Here}
 

@@ -1,20 +1,17 @@
 -- What the generator emits for notices and statistics.
 use Rattle.std.proofs.Common.{◌≡◌, ◌≢◌, ℕ, zero, suc, ◌+◌, ◌-◌, ◌<◌, ◌≤◌, ◌^◌, Bool, true, false, List, [], ◌∷◌, ◌++◌, length, take, Option, Some, None, refl, sym, ap, ◌∙◌, subst, arith, append_assoc, append-nil, if◌then◌else◌}
-use Rattle.std.proofs.lemmas.Bool.{true≢false, eqb-true, eq-eqb}
+use Rattle.ss_code_generator.proofs.Common.{Address, AreNumbers, Assignment, AttributeSpot, eq-eqb, eqb-true, Final, Generator, HasAdded, HasAssigned, HasAssignedLanded, HasBorne, HasEmitted, HasGrown, HasHeldMode, HasReadOperand, HasTargetRoom, Held, Instruction, Integer, IsAround, IsInFrame, IsLocated, IsRead, IsRunBy, IsSiteOperand, IsSiteTarget, IsSpot, IsTyped, landing, Lined, Mode, OfAttribute, on_line, Operand, Placed, Spot, spot_cells, Statistic, Stays, storing, Taken, Taking, Target, true≢false, values_high, VariableSpot, watch}
 use Rattle.std.specs.Prelude.{◌==◌}
 use Rattle.std.specs.List.{AllZip, AllByRecursion as Every}
-use Rattle.ss_code_generator.proofs.Common.{above, Address, after, after_bearer, after_place, after_values, AreNumbers, Assignment, AttributeSpot, bearer, bearer_code, CanTakeMode, entity_code, Expression, Final, Generator, HasAdded, HasAssigned, HasAssignedLanded, HasBorne, HasEmitted, HasGrown, HasHeldMode, HasMode, HasReadOperand, HasTargetRoom, height, Held, Instruction, Integer, is_kept, IsAround, IsInFrame, IsLocated, IsRunBy, IsSiteOperand, IsSiteTarget, IsSpot, IsTyped, IsTypedRestart, IsTypedStatement, landing, Lined, Mode, next, OfAttribute, on_line, Operand, operand, operand_code, Place, place, place_code, Placed, Program, Restart, restarts_code, Site, Spot, spot_cells, stay, Stays, storing, Taken, Taking, Target, ToAttribute, ToCount, ToVariable, TypedScope, values_code, values_high, VariableSpot, watch, with_operand}
-use Rattle.ss_program.specs.declared.sections.Statistic.{Statistic}
-use Rattle.ss_program.specs.Program.{When, At, In, ScheduleNew, Schedule}
-use Rattle.ss_program.specs.WellTyped.{IsTypedWhen, AreTypedGiven}
+use Rattle.ss_code_instructions.specs.Translation.{above, after, after_bearer, after_place, after_values, bearer, bearer_code, entity_code, height, is_kept, next, operand, operand_code, place, place_code, restarts_code, Site, stay, values_code, with_operand, forget, when_code, count_code, notice_code, schedule_new_code, schedule_code}
+use Rattle.ss_program.specs.Program.{Expression, Place, Program, Restart, ToAttribute, ToCount, ToVariable, When, At, In, ScheduleNew, Schedule}
+use Rattle.ss_program.specs.WellTyped.{CanTakeMode, HasMode, IsTypedRestart, IsTypedStatement, TypedScope, IsTypedWhen, AreTypedGiven}
 use Rattle.ss_code_instructions.specs.declared.instruction.Instruction.{Instruction as Running}
 use Rattle.ss_code_instructions.specs.declared.instruction.Instruction.TheVariants as r
 use Rattle.ss_code_instructions.specs.Instructions as i
-use Rattle.ss_code_instructions.specs.Translation.{forget, when_code, count_code, notice_code, schedule_new_code, schedule_code}
 use Rattle.ss_code_generator.specs.declared.expressions.Operand.{Operand as Read}
 use Rattle.ss_code_generator.specs.declared.generator.Site.{Site as Here}
 use Rattle.ss_code_generator.specs.declared.targets.Spot.TheVariants as spots
-use Rattle.ss_code_generator.specs.Emitted.{IsRead}
 use Rattle.ss_code_generator.specs.Notices.{any_watched, named_at, named_code, HasNamed}
 use Rattle.ss_code_generator.proofs.Emitting.{around_old, grows_same, grows_then, stands_old, stands_above, adds_then, adds_one, adds_same}
 use Rattle.ss_code_generator.proofs.Modes.{on_top}

@@ -1,12 +1,11 @@
 -- Operands, and instructions that read them.
 use Rattle.std.proofs.Common.{◌≡◌, suc, ◌+◌, ◌<◌, ◌^◌, List, [], ◌∷◌, ◌++◌, length, Option, Some, None, Result, Ok, Err, refl, sym, ap, ◌∙◌, subst, arith}
 use Rattle.std.specs.Prelude.{IfOk}
-use Rattle.ss_code_generator.proofs.Common.{Address, after, Constant, Expression, expression_code, expression_mode, Final, Generator, HasBorne, HasGrown, HasReadOperand, height, Held, Instruction, IsAround, IsInFrame, IsLocated, IsRunBy, IsSiteOperand, IsSiteTarget, IsTyped, Lined, Mode, next, on_line, Operand, operand, operand_code, place, Site, stay, Stays, Taken, TypedScope, with_operand}
+use Rattle.ss_code_generator.proofs.Common.{Address, Constant, Expression, Final, Generator, HasBorne, HasEmittedTo, HasGrown, HasReadBy, HasReadOperand, Held, Instruction, IsAround, IsInFrame, IsLocated, IsRead, IsRunBy, IsSiteOperand, IsSiteTarget, IsTyped, Lined, Mode, on_line, Operand, Stays, Taken, TypedScope}
+use Rattle.ss_code_instructions.specs.Translation.{after, expression_code, expression_mode, height, next, operand, operand_code, place, Site, stay, with_operand, leaf, or_cell, or_in_cell, unless_leaf}
 use Rattle.ss_code_instructions.specs.declared.instruction.Instruction.{Instruction as Running}
-use Rattle.ss_code_instructions.specs.Translation.{leaf, or_cell, or_in_cell, unless_leaf}
 use Rattle.ss_code_generator.specs.declared.expressions.Operand.{Operand as Read}
 use Rattle.ss_code_generator.specs.declared.generator.Site.{Site as Here}
-use Rattle.ss_code_generator.specs.Emitted.{HasEmittedTo, IsRead, HasReadBy}
 use Rattle.ss_code_generator.proofs.Emitting.{around_old, stands_old, stands_above, adds_then, adds_one, adds_same}
 
 -- ## Addresses

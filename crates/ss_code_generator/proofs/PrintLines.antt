@@ -1,9 +1,6 @@
 -- The lines of PRINTs, one after another.
 use Rattle.std.proofs.Common.{◌≡◌, ◌+◌, List, ◌++◌, length, map, sym, ap, ◌∙◌, append_assoc, length-append}
-use Rattle.std.proofs.lemmas.List.{map-append, length-map}
-use Rattle.ss_code_instructions.specs.Instructions.{Lines}
-use Rattle.ss_code_instructions.specs.Carried.{RunningLines, lines_of_running}
-use Rattle.ss_code_generator.specs.Printed.{HasPrinted}
+use Rattle.ss_code_generator.proofs.Common.{HasPrinted, length-map, Lines, lines_of_running, map-append, RunningLines}
 
 -- the lines of all PRINTs
 pub prints_then : (a b c : List RunningLines) (ls ms : List Lines) → HasPrinted a b ls → HasPrinted b c ms → HasPrinted a c (ls ++ ms)

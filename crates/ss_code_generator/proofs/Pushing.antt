@@ -1,20 +1,15 @@
 -- Values that go into cells, and what loops keep there.
 use Rattle.std.proofs.Common.{◌≡◌, ℕ, ◌+◌, ◌<◌, ◌≤◌, ◌^◌, List, [], ◌∷◌, ◌++◌, length, get_or, map, take, refl, sym, ap, ◌∙◌, subst, arith, append_assoc, append-nil, length-append}
-use Rattle.std.specs.Prelude.{pos}
+use Rattle.ss_code_generator.proofs.Common.{above, Address, after_values, Constant, Expression, expression_code, expression_mode, Final, Generator, HasEmitted, HasGrown, HasTakenItems, HasTakenLoopItem, height, Instruction, IsAround, IsInFrame, IsSiteOperand, IsTyped, Lined, next, no_code, on_line, place, Placed, pos, Site, take_all, take_code, values_code, values_high, VariableSpot, view_expression, Whole}
 use Rattle.std.specs.List.{AllByRecursion as Every}
-use Rattle.ss_base.specs.declared.value.Value.TheVariants.{Whole}
 use Rattle.ss_program.specs.declared.expression.Expression as expressions
-use Rattle.ss_code_generator.proofs.Common.{above, Address, after_values, Constant, Expression, expression_code, expression_mode, Final, Generator, HasEmitted, HasGrown, height, Instruction, IsAround, IsInFrame, IsSiteOperand, IsTyped, Lined, next, no_code, on_line, place, Placed, Site, values_code, values_high, VariableSpot, view_expression}
 use Rattle.ss_code_instructions.specs.declared.instruction.Instruction.TheVariants as r
 use Rattle.ss_code_instructions.specs.Instructions as i
-use Rattle.ss_code_instructions.specs.Translation.{take_code}
 use Rattle.ss_code_generator.specs.declared.generator.Site.{Site as Here}
-use Rattle.ss_code_generator.specs.Looped.{HasTakenLoopItem, HasTakenItems}
 use Rattle.ss_code_generator.proofs.Emitting.{around_old, grows_same, grows_then, stands_old, stands_above, adds_then, adds_one, adds_piece, adds_same, piece_long}
 use Rattle.ss_code_generator.proofs.Operands.{cell_at_site}
 use Rattle.ss_code_generator.proofs.Listed.{every_split}
 use Rattle.ss_code_pieces.proofs.Steps.{next_taken, taken_long}
-use Rattle.std.proofs.lemmas.List.{take_all}
 
 -- ## Values
 

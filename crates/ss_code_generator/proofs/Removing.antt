@@ -1,13 +1,10 @@
 -- What the generator emits for REMOVE FIRST and REMOVE LAST.
 use Rattle.std.proofs.Common.{◌≡◌, ℕ, ◌+◌, ◌<◌, ◌^◌, Bool, [], ◌∷◌, ◌++◌, refl}
-use Rattle.ss_code_generator.proofs.Common.{Address, after_bearer, after_place, bearer, bearer_code, code_of, expression_of, Generator, HasAssignedLanded, HasBorne, HasEmitted, HasGrown, Instruction, Integer, IsSpot, IsTypedPlace, IsTypedStatement, landed_code, landing, Lined, OfCount, on_line, Place, place, place_code, SetOwner, Site, Spot, spot_cells, Taking, Target, watch}
-use Rattle.ss_base.specs.declared.words.End.{End}
-use Rattle.ss_program.specs.Program.{RemoveEnd}
+use Rattle.ss_code_generator.proofs.Common.{Address, after_bearer, after_place, bearer, bearer_code, code_of, End, expression_of, Generator, HasAssignedLanded, HasBorne, HasEmitted, HasGrown, Instruction, Integer, IsSpot, IsTypedPlace, IsTypedStatement, landed_code, landing, Lined, OfCount, on_line, place, place_code, remove_end_code, removing, Site, Spot, spot_cells, Taking, Target, watch, with_owner}
+use Rattle.ss_program.specs.Program.{Place, SetOwner, RemoveEnd}
 use Rattle.ss_code_instructions.specs.Instructions as i
-use Rattle.ss_code_instructions.specs.Translation.{with_owner, remove_end_code}
 use Rattle.ss_code_generator.specs.declared.expressions.Operand.{Operand as Read}
 use Rattle.ss_code_generator.specs.declared.generator.Site.{Site as Here}
-use Rattle.ss_code_instructions.specs.Forms.{removing}
 use Rattle.ss_code_generator.proofs.Emitting.{around_old, grows_then, stands_old, adds_then, adds_one, adds_same}
 use Rattle.ss_code_generator.proofs.Forms as forms
 use Rattle.ss_code_generator.proofs.Testing.{owner_number}

@@ -2,17 +2,14 @@
 use Rattle.std.proofs.Common.{◌≡◌, ℕ, ◌+◌, ◌-◌, ◌<◌, ◌≤◌, ◌^◌, Bool, true, false, List, [], ◌∷◌, ◌++◌, length, Option, Some, None, refl, sym, ap, ◌∙◌, subst, arith, append_assoc, append-nil, length-append}
 use Rattle.std.specs.Prelude.{IfSome}
 use Rattle.std.specs.List.{AllByRecursion as Every}
-use Rattle.ss_code_generator.proofs.Common.{above, Address, AreNumbers, Each, Entity, Expression, expression_code, expression_of, Final, for_code, Generator, Guard, guards_code, HasAdded, HasBorne, HasEmitted, HasEmittedAround, HasGrown, HasMode, height, Integer, IsAround, IsInFrame, IsInteger, IsLocated, IsRunBy, IsTyped, IsTypedCondition, IsTypedHead, IsTypedPhrase, IsVariable, Line, Lined, next, no_code, on_line, Phrase, phrases_code, place, Placed, SetOwner, Site, TheSystem, TypedScope, Variable, VariableSpot}
-use Rattle.ss_program.specs.Program.{Start, AtEnd, From, After, Head, Numbers, Members}
+use Rattle.ss_code_generator.proofs.Common.{Address, AreNumbers, Bearer, expression_of, Final, Generator, HasAdded, HasBorne, HasEmitted, HasEmittedAround, HasEmittedAroundBoth, HasGrown, HasMode, Integer, IsAround, IsInFrame, IsInteger, IsLocated, IsRunBy, IsSiteBearer, IsTyped, IsTypedCondition, IsTypedHead, IsTypedPhrase, IsVariable, Line, Lined, MemberLoop, no_code, on_line, Placed, TypedScope, Variable, VariableSpot}
+use Rattle.ss_code_instructions.specs.Translation.{above, expression_code, for_code, guards_code, height, next, phrases_code, place, Site, forget, forget_to, loop_code, take_code, turns_code, step_code, range_code, number_loop, walk_loop, owner_code, owner_cell, owner_kept, start_code, begin_code, in_loop, find_code}
+use Rattle.ss_program.specs.Program.{Each, Entity, Expression, Guard, Phrase, SetOwner, TheSystem, Start, AtEnd, From, After, Head, Numbers, Members}
 use Rattle.ss_code_instructions.specs.declared.instruction.Instruction.{Instruction as Running}
 use Rattle.ss_code_instructions.specs.declared.instruction.Instruction.TheVariants as r
-use Rattle.ss_code_instructions.specs.Instructions.{Bearer}
 use Rattle.ss_code_instructions.specs.Instructions as i
-use Rattle.ss_code_instructions.specs.Translation.{forget, forget_to, loop_code, take_code, turns_code, step_code, range_code, number_loop, walk_loop, owner_code, owner_cell, owner_kept, start_code, begin_code, in_loop, find_code}
 use Rattle.ss_code_generator.specs.declared.expressions.Operand.{Operand as Read}
 use Rattle.ss_code_generator.specs.declared.generator.Site.{Site as Here}
-use Rattle.ss_code_generator.specs.declared.loops.MemberLoop.{MemberLoop}
-use Rattle.ss_code_generator.specs.Emitted.{HasEmittedAroundBoth, IsSiteBearer}
 use Rattle.ss_code_generator.specs.Looped.{loop_width, is_after, begin_of, items_begin, begins_items, item_loop_code, HasTakenLoopItem, HasTakenItems, HasTakenMembers, HasKeptOwner, HasStartedWalk, Walking}
 use Rattle.ss_code_generator.proofs.Emitting.{around_old, grows_same, grows_then, stands_old, stands_new, stands_above, adds_none, adds_then, adds_one, adds_piece, adds_same, piece_long}
 use Rattle.ss_code_generator.proofs.Operands.{cell_at_site}

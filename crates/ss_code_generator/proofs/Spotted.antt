@@ -1,14 +1,12 @@
 -- What the generator finds of a place that is assigned, and what it emits there.
 use Rattle.std.proofs.Common.{◌≡◌, ℕ, ◌+◌, ◌<◌, ◌≤◌, ◌^◌, Bool, true, false, List, [], ◌∷◌, ◌++◌, Some, None, Result, Ok, Err, IfOk, refl, sym, ap, ◌∙◌, subst, arith, append-nil, if◌then◌else◌}
-use Rattle.ss_code_generator.proofs.Common.{above, Address, after, Alpha, Assignment, AttributeSpot, code_of, CountedClass, entity_code, Expression, field_mode, Final, Generator, Global, HasAdded, HasAssigned, HasAssignedLanded, HasGenerated, HasHeldMode, HasReadOperand, HasTargetRoom, height, Instruction, Integer, is_kept, IsAround, IsInteger, IsLocated, IsSiteOperand, IsSiteTarget, IsSpot, IsTypedPlace, IsWatchedAs, landed_code, landing, Line, Lined, Mode, mode_at, mode_here, moving, next, OfAttribute, on_line, Operand, operand, operand_code, or_integer, Place, place, Placed, Program, Site, Spot, stay, storing, Taken, Target, ToAttribute, ToCount, ToVariable, TypedScope, VariableSpot, view_program, watch}
+use Rattle.ss_code_generator.proofs.Common.{above, Address, after, Alpha, assignment, AttributeSpot, code_of, CountedClass, entity_code, Expression, field_mode, Final, Generator, Global, HasAdded, HasGenerated, HasReadOperand, height, Instruction, Integer, is_kept, IsAround, IsInteger, IsLocated, IsSiteOperand, IsSiteTarget, Leave, Line, Lined, Mode, mode_at, mode_here, moving, next, OfAttribute, on_line, Operand, operand, operand_code, or_integer, Place, place, Placed, Program, Site, Spot, stay, storing, Taken, Target, ToAttribute, ToCount, ToVariable, TypedScope, VariableSpot, view_program, watch}
+use Rattle.ss_code_generator.specs.Spots.{Assignment, HasAssigned, HasAssignedLanded, HasHeldMode, HasTargetRoom, IsSpot, IsTypedPlace, IsWatchedAs, landed_code, landing, IsAttribute, IsPlaceOf, assigned_code}
 use Rattle.ss_code_instructions.specs.declared.instruction.Instruction.{Instruction as Running}
 use Rattle.ss_code_instructions.specs.declared.instruction.Instruction.TheVariants as r
-use Rattle.ss_code_instructions.specs.Instructions.{Leave}
 use Rattle.ss_code_instructions.specs.Instructions as i
-use Rattle.ss_code_instructions.specs.Translation.{assignment}
 use Rattle.ss_code_generator.specs.declared.generator.Site.{Site as Here}
 use Rattle.ss_code_generator.specs.declared.targets.Spot.TheVariants as spots
-use Rattle.ss_code_generator.specs.Spots.{IsAttribute, IsPlaceOf, assigned_code}
 use Rattle.ss_code_generator.proofs.Emitting.{grows_same, stands_above, adds_none, adds_then, adds_one, adds_same}
 use Rattle.ss_code_generator.proofs.Operands.{operand_at, stays_at}
 use Rattle.ss_code_generator.proofs.Modes.{on_top}

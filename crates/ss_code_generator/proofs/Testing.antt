@@ -1,16 +1,13 @@
 -- What the generator emits for conditions.
 use Rattle.std.proofs.Common.{◌≡◌, ℕ, ◌+◌, ◌<◌, ◌^◌, Bool, List, [], ◌∷◌, ◌++◌, length, Option, Some, refl, sym, ap, ◌∙◌, subst, arith, append_assoc, length-append}
-use Rattle.ss_code_generator.proofs.Common.{after, after_bearer, AreNumbers, bearer, bearer_code, code_of, condition_code, Entity, Expression, expression_of, Final, Generator, Guard, guards_code, HasBorne, HasEmitted, HasEmittedAround, HasMode, HasReadOperand, Instruction, IsAround, IsLocated, IsTyped, IsTypedCondition, IsTypedPhrase, IsTypedTest, Lined, Mode, no_code, on_line, operand, operand_code, Phrase, phrases_code, place, Placed, SetOwner, Site, TheSystem, TypedScope}
-use Rattle.ss_base.specs.declared.words.Relation.{Relation}
+use Rattle.ss_code_generator.proofs.Common.{AreNumbers, comparing, expression_of, Final, Generator, HasBorne, HasEmitted, HasEmittedAround, HasMode, HasReadOperand, Instruction, IsAround, IsLocated, IsTyped, IsTypedCondition, IsTypedOwner, IsTypedPhrase, IsTypedTest, Lined, Mode, no_code, on_line, Placed, Relation, TypedScope}
+use Rattle.ss_code_instructions.specs.Translation.{after, after_bearer, bearer, bearer_code, code_of, condition_code, guards_code, operand, operand_code, phrases_code, place, Site, test_code, tests_code, negated_code, guard_code, phrase_code}
+use Rattle.ss_program.specs.Program.{Entity, Expression, Guard, Phrase, SetOwner, TheSystem, Test, Compare, Empty, Condition}
 use Rattle.std.specs.List.{AllByRecursion as Every}
-use Rattle.ss_program.specs.Program.{Test, Compare, Empty, Condition}
-use Rattle.ss_program.specs.WellTyped.{IsTypedOwner}
 use Rattle.ss_code_instructions.specs.declared.instruction.Instruction.TheVariants as r
 use Rattle.ss_code_instructions.specs.Instructions as i
-use Rattle.ss_code_instructions.specs.Translation.{test_code, tests_code, negated_code, guard_code, phrase_code}
 use Rattle.ss_code_generator.specs.declared.expressions.Operand.{Operand as Read}
 use Rattle.ss_code_generator.specs.declared.generator.Site.{Site as Here}
-use Rattle.ss_code_instructions.specs.Forms.{comparing}
 use Rattle.ss_code_generator.proofs.Emitting.{around_old, grows_same, grows_then, stands_old, adds_then, adds_one, adds_apart, adds_same, piece_long}
 use Rattle.ss_code_generator.proofs.Forms as forms
 use Rattle.ss_code_generator.proofs.Modes.{operand_mode, mode_after}

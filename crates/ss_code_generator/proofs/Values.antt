@@ -1,30 +1,21 @@
 -- What the generator emits for each form of an expression.
 use Rattle.std.proofs.Common.{◌≡◌, ℕ, ◌+◌, ◌<◌, ◌≤◌, ◌^◌, List, [], ◌∷◌, ◌++◌, length, get_or, take, Some, None, refl, sym, ap, ◌∙◌, arith}
-use Rattle.std.proofs.lemmas.List.{take_more, take_all}
+use Rattle.ss_code_generator.proofs.Common.{Address, after, asking_member, asking_set, calculating, code_of, Constant, expression_code, fetching, field_mode, Final, Generator, Global, HasEmittedTo, HasGrown, HasMode, HasPrintModes, HasReadOperand, height, Held, Instruction, Integer, IsAround, IsInteger, IsLocated, IsRunBy, IsSiteOperand, IsSiteTarget, IsTyped, Lined, Local, MemberQuery, Mode, mode_at, moving, on_line, Operand, operand, operand_code, operator_of, or_integer, place, Placed, pos, SetQuery, Sign, Site, slice_get, take_all, take_more, Target, TypedScope, Value, Variable, view_expression, view_program, Whole, with_operand}
 use Rattle.std.proofs.lemmas.List.Sums.{fold-append}
-use Rattle.std.specs.Prelude.{pos, slice_get}
-use Rattle.ss_code_generator.proofs.Common.{Address, after, calculating, code_of, Constant, Expression, expression_code, field_mode, Final, Generator, Global, HasGrown, HasMode, HasPrintModes, HasReadOperand, height, Held, Instruction, Integer, IsAround, IsCarriedOut, IsInFrame, IsInteger, IsLocated, IsRunBy, IsSiteOperand, IsSiteTarget, IsTyped, Lined, Local, Mode, mode_at, moving, on_line, Operand, operand, operand_code, or_integer, place, Placed, Program, Site, Target, TypedScope, Value, Variable, view_expression, view_program, with_operand, with_operations}
-use Rattle.ss_base.specs.declared.value.Value.TheVariants.{Whole}
+use Rattle.ss_code_generator.specs.Calculations.{with_operations, HasEmittedExpression, operation_code, LeftOperand, HasOperated}
+use Rattle.ss_code_instructions.specs.Carried.{IsCarriedOut, IsInFrame, IsVariableAt}
+use Rattle.ss_program.specs.Program.{Expression, Program, Constant as AConstant, Fetch, Attribute, OfSystemSet, OfSet, OfMember, TimeOf, Figure, FigureOf, Signed, Unary}
 use Rattle.ss_base.specs.Layout.{mode_of}
 use Rattle.ss_program.specs.declared.expression.Operation.{Operation}
-use Rattle.ss_program.specs.declared.expression.SetQuery.{SetQuery}
-use Rattle.ss_program.specs.declared.expression.MemberQuery.{MemberQuery}
 use Rattle.ss_program.specs.declared.expression.Fold.{Fold}
-use Rattle.ss_base.specs.declared.words.Sign.{Sign}
 use Rattle.ss_base.specs.declared.words.UnaryOperator.{UnaryOperator}
-use Rattle.ss_program.specs.Program.{Constant as AConstant, Fetch, Attribute, OfSystemSet, OfSet, OfMember, TimeOf, Figure, FigureOf, Signed, Unary}
 use Rattle.ss_program.specs.Views.{with_operation}
-use Rattle.ss_meaning.specs.Values.{operator_of}
 use Rattle.ss_code_instructions.specs.declared.instruction.Instruction.{Instruction as Running}
 use Rattle.ss_code_instructions.specs.declared.instruction.Instruction.TheVariants as r
 use Rattle.ss_code_instructions.specs.Instructions as i
-use Rattle.ss_code_instructions.specs.Carried.{IsVariableAt}
 use Rattle.ss_code_generator.specs.declared.expressions.Operand.{Operand as Read}
 use Rattle.ss_code_generator.specs.declared.generator.Site.{Site as Here}
-use Rattle.ss_code_instructions.specs.Forms.{asking_set, asking_member, fetching}
 use Rattle.ss_code_pieces.specs.Preamble.{mode_in}
-use Rattle.ss_code_generator.specs.Calculations.{HasEmittedExpression, operation_code, LeftOperand, HasOperated}
-use Rattle.ss_code_generator.specs.Emitted.{HasEmittedTo}
 use Rattle.ss_code_generator.proofs.Emitting.{around_old, grows_then, stands_old, adds_then, adds_one, adds_same, makes_later}
 use Rattle.ss_code_generator.proofs.Forms as forms
 use Rattle.ss_code_generator.proofs.Modes.{held_mode, has_field}

@@ -1,18 +1,16 @@
 -- What statistics watch in a program that is well typed.
 use Rattle.std.proofs.Common.{◌≡◌, ℕ, Bool, true, false, List, [], ◌∷◌, Some, refl, sym, ap, ◌∙◌, subst, if◌then◌else◌}
-use Rattle.std.proofs.lemmas.Bool.{true≢false}
+use Rattle.ss_code_generator.proofs.Common.{Alpha, CountedClass, Global, Integer, Local, Program, Statistic, true≢false, Variable}
 use Rattle.std.specs.Prelude.{slice_get, Contains}
 use Rattle.std.specs.List.{AllByRecursion as Every}
-use Rattle.ss_code_generator.proofs.Common.{Alpha, CountedClass, field_mode, Global, Integer, Local, mode_at, OfAttribute, Program, TypedScope, Variable, watch}
+use Rattle.ss_code_instructions.specs.Facts.{watch, is_watched}
+use Rattle.ss_program.specs.WellTyped.{field_mode, mode_at, TypedScope, IsWellTyped, IsTypedSubject, IsTypedCount}
+use Rattle.ss_program.specs.declared.sections.Subject.TheVariants.{OfAttribute, OfVariable}
 use Rattle.ss_program.specs.declared.sections.Subject.{Subject}
-use Rattle.ss_program.specs.declared.sections.Subject.TheVariants.{OfVariable}
-use Rattle.ss_program.specs.declared.sections.Statistic.{Statistic}
-use Rattle.ss_program.specs.WellTyped.{IsWellTyped, IsTypedSubject, IsTypedCount}
 use Rattle.ss_meaning.specs.Histories.{same_subject}
 use Rattle.ss_meaning.proofs.Lists.{every_get}
 use Rattle.ss_meaning.proofs.Kept.{same_subject_is}
 use Rattle.ss_meaning.proofs.Entities.{contains_get}
-use Rattle.ss_code_instructions.specs.Facts.{is_watched}
 
 not_both : (p : Program) (class field : ℕ) → field_mode p class field ≡ Some Alpha → field_mode p class field ≡ Some Integer → ⊥
 not_both p class field e f = differ (sym e ∙ f)

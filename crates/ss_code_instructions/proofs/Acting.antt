@@ -1,8 +1,7 @@
 -- No instruction changes what the program says once and for all, or that each member of a set lives, and none but a READ the input.
 use Rattle.std.proofs.Common.{ℕ, ◌==◌, Bool, true, false, List, [], ◌∷◌, length, Option, Some, None, Ok, Err, ℤ, sym, ap, ◌∙◌}
 use Rattle.std.specs.Prelude.{Result, ◌+ℤ◌, slice_get}
-use Rattle.ss_code_instructions.proofs.Common.{act, AnEvent, applied, ARoutine, assignable_count, assigned_attribute, assigned_variable, AtTime, attribute, back_if, Beginning, begun, begun_at, calculated, Called, cell_at, cells_of_kinds, changed_attribute, clock, Code, Coming, Core, deliver_with, did, due, empty_lines, enter, entity, EntryPoint, event_begun, Failure, FaultKind, figure, filed_in, filed_notice, Frame, goes_on, has_next, if_ok, indices, Instruction, Into, is_empty, is_ended, is_in, is_none, known_owner, Later, leave, Line, made_all, made_notice, made_one, mean, member, Mode, Moved, next_event, next_item, number_of, of_member, of_set, Onto, onward, opened, printed, put_to, range_of, read_value, related, removed_at, removed_from, rescheduled, reset, Setting, Store, take_event, take_next, take_off, Taken, Target, time_at, time_of, turned, unscheduled, unsigned, Value, values_shown, Walk, walk_at, walk_cells, walk_further, where_fit, Whole, without, Written, yielded}
-use Rattle.ss_meaning.specs.Words.{Given}
+use Rattle.ss_code_instructions.proofs.Common.{act, AnEvent, applied, ARoutine, assignable_count, assigned_attribute, assigned_variable, AtTime, attribute, back_if, Beginning, begun, begun_at, calculated, Called, cell_at, cells_of_kinds, changed_attribute, clock, Code, Coming, Core, deliver_with, did, due, empty_lines, enter, entity, EntryPoint, event_begun, Failure, FaultKind, figure, filed_in, filed_notice, Frame, Given, goes_on, has_next, if_ok, indices, Instruction, Into, is_empty, is_ended, is_in, is_none, known_owner, Later, leave, Line, made_all, made_notice, made_one, mean, member, Mode, Moved, next_event, next_item, number_of, of_member, of_set, Onto, onward, opened, printed, put_to, range_of, read_value, related, removed_at, removed_from, rescheduled, reset, Setting, Store, take_event, take_next, take_off, Taken, Target, time_at, time_of, turned, unscheduled, unsigned, Value, values_shown, Walk, walk_at, walk_cells, walk_further, where_fit, Whole, without, Written, yielded}
 use Rattle.ss_code_instructions.specs.Instructions as i
 use Rattle.ss_code_instructions.specs.Reached.{read_mode, HasTakenIf, HasTakenBy, input_of}
 use Rattle.ss_code_instructions.proofs.Keeping.{Only, Where, Lasts, lasts_then, lasts_so, Same, same_here, same_then, SameWith, TakesWord, ComingSame, BeginningSame, each, then_only, made, made_from, variable_same, attribute_same, changed_same, made_one_same, made_all_same, without_same, filed_same, removed_same, end_same, notice_same, pending_same, again_same, cancelled_same, read_takes, reset_same, event_same, begun_same}

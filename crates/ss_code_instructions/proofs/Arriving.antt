@@ -1,9 +1,8 @@
 -- Whatever input is handed to a machine as it goes on, it finds at each place what the place says, and is never stuck.
 use Rattle.std.proofs.Common.{ℕ, zero, suc, List, sym, subst}
-use Rattle.ss_code_instructions.proofs.Common.{Code, code_of, Core, IsFitForCode, IsFittingStore, IsWellTyped, Program, start}
+use Rattle.ss_code_instructions.proofs.Common.{Code, code_of, Core, HasShape, IsFitForCode, IsFittingStore, IsWellTyped, Program, ShapeStays}
+use Rattle.ss_code_instructions.specs.Running.{start, begin_store}
 use Rattle.ss_meaning.specs.Laws.{BeginsFit}
-use Rattle.ss_code_instructions.specs.Running.{begin_store}
-use Rattle.ss_code_instructions.specs.Laws.{HasShape, ShapeStays}
 use Rattle.ss_code_instructions.specs.Reached.{IsReachedAfter, ReachedFits, ReachedGoes, core_with_input, at_core}
 use Rattle.ss_code_instructions.proofs.ShapeKept.{fits_goes}
 

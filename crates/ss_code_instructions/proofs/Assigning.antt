@@ -1,11 +1,8 @@
 -- The code of assignments to variables, and to N. of a permanent class.
 use Rattle.std.proofs.Common.{◌≡◌, ℕ, ◌+◌, Bool, true, false, List, [], ◌∷◌, ◌++◌, length, Some, Ok, Err, refl, subst, arith}
 use Rattle.std.specs.Prelude.{Result as OkOr, slice_get, if◌then◌else◌}
-use Rattle.ss_base.specs.declared.fault.FaultKind.TheVariants.{CreatedTwice}
-use Rattle.ss_code_instructions.proofs.Common.{above, assignable_count, assigned_variable, class_at, Code, core_at, count_code, CountedClass, deliver, did, Fails, Failure, Frame, Global, height, InCount, Integer, Into, InVariable, is_kept, is_permanent, Left, Line, looked, MachineState, Moved, next, onward, Operand, Outcome, outcome_then, Part, place, Placed, RunState, settle, Site, Store, Target, turned, TypeError, unless_fault, Value, Variable, variable_code, WentOn, where_fit, with_operand_value, write, Written}
-use Rattle.ss_meaning.specs.State.{is_made}
+use Rattle.ss_code_instructions.proofs.Common.{above, assignable_count, assigned_variable, assignment, class_at, Code, core_at, count_code, CountedClass, CreatedTwice, deliver, did, Fails, Failure, Frame, Global, height, InCount, Integer, Into, InVariable, is_kept, is_made, is_permanent, Left, Line, looked, MachineState, Moved, next, onward, Operand, Outcome, outcome_then, Part, place, Placed, RunState, settle, Site, Store, Target, turned, TypeError, unless_fault, Value, Variable, variable_code, WentOn, where_fit, with_operand_value, write, Written}
 use Rattle.ss_code_instructions.specs.Instructions as i
-use Rattle.ss_code_instructions.specs.Translation.{assignment}
 use Rattle.ss_code_instructions.proofs.Steps.{HasAt, Reaches, here, at, arrive}
 use Rattle.ss_code_instructions.proofs.Parts.{Leads, onwards, breaks, whatever, step_leads, did_leads, at_the_height, Runs, same, done, put_on, went, seq, alike, change_runs}
 use Rattle.ss_code_instructions.proofs.Operands.{on, Tops, put_then}

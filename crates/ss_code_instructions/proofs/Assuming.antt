@@ -1,10 +1,9 @@
 -- What is shown of the code of each statement and of each list of them, and what is assumed of calls and of events.
 use Rattle.std.proofs.Common.{◌≡◌, ℕ, suc, ◌+◌, List, [], ◌∷◌, ◌++◌, length}
-use Rattle.ss_code_instructions.proofs.Common.{act, Block, block_code, block_prints, Calls, Code, core_at, effects, Frame, height, Line, place, RunState, Site, Statement, statement_prints, Then, Value}
-use Rattle.ss_program.specs.Program.{Done}
-use Rattle.ss_meaning.specs.Statements.{effect}
+use Rattle.ss_code_instructions.proofs.Common.{act, block_code, block_prints, Code, core_at, Frame, height, Line, place, RunState, Site, statement_code, statement_prints, Value}
+use Rattle.ss_meaning.specs.Statements.{Calls, effects, effect}
+use Rattle.ss_program.specs.Program.{Block, Statement, Then, Done}
 use Rattle.ss_code_instructions.specs.Instructions as i
-use Rattle.ss_code_instructions.specs.Translation.{statement_code}
 use Rattle.ss_code_instructions.proofs.Steps.{HasAt, has_front, has_back, at, arrive}
 use Rattle.ss_code_instructions.proofs.Parts.{Within, Leads, Runs, same, done, onto, seq, none}
 use Rattle.ss_code_instructions.proofs.Following.{IfWentOn}

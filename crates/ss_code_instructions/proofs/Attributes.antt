@@ -2,9 +2,9 @@
 use Rattle.std.proofs.Common.{◌≡◌, ℕ, ◌+◌, Bool, true, false, not, List, [], ◌∷◌, ◌++◌, length, Some, Ok, Err, ℤ, refl, sym, ap, ◌∙◌, subst, arith, length-append, ◌⊎◌, inl, inr}
 use Rattle.std.proofs.lemmas.Bool.{eqb-true, and_parts, false≢true}
 use Rattle.std.specs.Prelude.{Result as OkOr, slice_get, ◌==◌, ◌&&◌, if◌then◌else◌}
-use Rattle.ss_code_instructions.proofs.Common.{act, after, assigned_attribute, Attribute, attribute, Calculate, calculated, change, Clock, Code, Constant, Core, core_at, did, entity, entity_code, Expression, Fails, Failure, Faulted, FaultKind, Fetch, fetched, Figure, FigureOf, Frame, give_to, Global, height, Held, if_ok, InAttribute, is_due, leaf, let_code, lies_above, Line, Local, look, looked, looked_at, Mode, Moved, must_look, OfMember, OfSet, OfSystemSet, onward, Operand, operand, operand_code, or_zero, outcome_then, Part, place, Placed, RunState, settle, Signed, Site, stay, Stays, Store, sure, Taken, TimeOf, ToAttribute, turned, TypeError, Unary, Value, value, Variable, with_cells, with_operand, with_operand_value, with_values, write}
+use Rattle.ss_code_instructions.proofs.Common.{act, after, assigned_attribute, Attribute, attribute, Calculate, calculated, change, Clock, Code, Constant, Core, core_at, did, entity, entity_code, Expression, Fails, Failure, Faulted, FaultKind, Fetch, fetched, Figure, FigureOf, Frame, give_to, Global, height, Held, if_ok, InAttribute, is_due, leaf, let_code, lies_above, Line, Local, look, looked, looked_at, Mode, Moved, OfMember, OfSet, OfSystemSet, onward, Operand, operand, operand_code, or_zero, outcome_then, Part, place, Placed, RunState, settle, Signed, Site, stay, Stays, Store, sure, Taken, TimeOf, ToAttribute, turned, TypeError, Unary, Value, value, Variable, with_cells, with_operand, with_operand_value, with_values, write}
+use Rattle.ss_code_instructions.specs.Facts.{must_look, is_leaf, is_constant, same_variable, is_fetch_of, looks_first}
 use Rattle.ss_code_instructions.specs.Instructions as i
-use Rattle.ss_code_instructions.specs.Facts.{is_leaf, is_constant, same_variable, is_fetch_of, looks_first}
 use Rattle.ss_code_instructions.proofs.Steps.{HasAt, has_front, has_back, Reaches, here, free, at, left_to, arrive}
 use Rattle.ss_code_instructions.proofs.Parts.{Within, onwards, breaks, step_leads, did_leads, Runs, same, done}
 use Rattle.ss_code_instructions.proofs.Operands.{held, held_height, sure_is, reads, reads_both, one_join}

@@ -1,8 +1,7 @@
 -- The code of statements, one by one and in lists.
 use Rattle.std.proofs.Common.{◌≡◌, ℕ, ◌+◌, List, [], ◌∷◌, length, refl, subst}
-use Rattle.ss_code_instructions.proofs.Common.{after_values, Block, block_code, block_prints, Call, Calls, Cancel, Change, choose, Code, Condition, condition_code, Create, CreateEvery, Destroy, Each, effects, Entity, File, Find, For, Head, height, holds, If, in_loop, Let, Line, look, Loop, Members, Numbers, outcome_then, Part, Placed, Print, Read, Remove, RemoveEnd, Reset, Return, Schedule, ScheduleNew, Simulate, Site, Skip, Statement, statement_prints, Stop, Then, TheSystem, Value}
-use Rattle.ss_program.specs.Program.{Done}
-use Rattle.ss_code_instructions.specs.Translation.{site_at_line, no_line, if_code}
+use Rattle.ss_code_instructions.proofs.Common.{after_values, block_code, block_prints, Calls, choose, Code, condition_code, effects, height, holds, if_code, in_loop, Line, look, no_line, outcome_then, Part, Placed, Site, site_at_line, statement_prints, Value}
+use Rattle.ss_program.specs.Program.{Block, Call, Cancel, Change, Condition, Create, CreateEvery, Destroy, Each, Entity, File, Find, For, Head, If, Let, Loop, Members, Numbers, Print, Read, Remove, RemoveEnd, Reset, Return, Schedule, ScheduleNew, Simulate, Skip, Statement, Stop, Then, TheSystem, Done}
 use Rattle.ss_code_instructions.proofs.Steps.{has_front, has_back}
 use Rattle.ss_code_instructions.proofs.Parts.{Runs, same, done, onto, seq}
 use Rattle.ss_code_instructions.proofs.Branching.{if_run, if_alone_run}

@@ -2,13 +2,12 @@
 use Rattle.std.proofs.Common.{◌≡◌, ℕ, zero, suc, ◌+◌, ◌-◌, ◌*◌, ◌<◌, ◌≤◌, Bool, true, false, not, List, [], ◌∷◌, ◌++◌, length, Option, Some, None, Ok, ℤ, refl, sym, ap, ◌∙◌, subst, arith, length-append, ◌⊎◌, inl, inr}
 use Rattle.std.proofs.lemmas.Option.{slice_get_within}
 use Rattle.std.specs.Prelude.{Result, ◌+ℤ◌, slice_get}
-use Rattle.ss_code_instructions.proofs.Common.{act, after_one_step, all_events, all_routines, applied, assignable_count, assigned_attribute, assigned_variable, AtTime, attribute, back_if, begun, begun_at, block_code, Breaks, calculated, cells_of_kinds, changed_attribute, clock, Code, code_of, Core, deliver_with, did, Done, due, empty_lines, entity, Failure, figure, filed_in, filed_notice, first_site, Frame, Goes, goes_on, has_item, has_next, if_ok, indices, Instruction, is_awaited, is_due, is_empty, is_ended, is_in, is_none, known_owner, Later, leave, Line, MachineState, made_all, made_notice, made_one, main_code, mean, member, Moved, next_item, NoStep, not_if, number_of, of_member, of_set, onward, onward_if, Over, place, Placed, printed, Program, put_to, range_of, read_value, related, removed_at, removed_from, rescheduled, reset, Rest, Sends, start, step, step_at, Stepped, steps, Store, Stuck, take_off, Taken, Target, time_at, time_of, To, turned, Underway, unscheduled, unsigned, Value, values_shown, Walk, walk_at, walk_cells, walk_further, when_due, Whole, with_rest, without, yielded}
+use Rattle.ss_code_instructions.proofs.Common.{act, all_events, all_routines, applied, assignable_count, assigned_attribute, assigned_variable, AtTime, attribute, back_if, begun, begun_at, block_code, Breaks, calculated, cells_of_kinds, changed_attribute, clock, Code, code_of, Core, deliver_with, did, Done, due, empty_lines, entity, Failure, figure, filed_in, filed_notice, first_site, Frame, Goes, goes_on, has_item, has_next, if_ok, indices, Instruction, is_awaited, is_due, is_empty, is_ended, is_in, is_none, known_owner, Later, leave, Line, MachineState, made_all, made_notice, made_one, main_code, main_scope, mean, member, Moved, next_item, NoStep, not_if, number_of, of_member, of_set, onward, onward_if, Over, place, Placed, printed, Program, put_to, range_of, read_value, related, removed_at, removed_from, rescheduled, reset, Rest, Sends, step, step_at, Stepped, Store, Stuck, take_off, Taken, Target, time_at, time_of, To, turned, unscheduled, unsigned, Value, values_shown, Walk, walk_at, walk_cells, walk_further, when_due, Whole, with_rest, without, yielded}
+use Rattle.ss_code_instructions.specs.Running.{after_one_step, start, steps, Underway, HasLandings, goes_back}
 use Rattle.ss_code_instructions.specs.Instructions as i
-use Rattle.ss_code_instructions.specs.Running.{HasLandings, goes_back}
 use Rattle.ss_code_instructions.specs.Measure.{left_in, is_due_at, left_from, left_at, left_to_do}
 use Rattle.ss_code_instructions.specs.Reached.{StepsFall}
 use Rattle.ss_code_instructions.specs.Laws.{StepsAreBounded}
-use Rattle.ss_code_instructions.specs.Translation.{main_scope}
 use Rattle.ss_code_instructions.proofs.Landing.{jumps_land}
 use Rattle.ss_code_instructions.proofs.Calling.{Calls, act_calls}
 use Rattle.ss_code_instructions.proofs.Moving.{Every, did_any, fit_any, if_every, high, block, number, value, values, bearer, position, three, walk}

@@ -1,10 +1,8 @@
 -- Code that goes on where something holds, and jumps where it does not.
 use Rattle.std.proofs.Common.{◌≡◌, ℕ, ◌+◌, Bool, true, false, not, List, [], ◌∷◌, ◌++◌, length, Some, Ok, refl, subst, arith, length-append}
 use Rattle.std.specs.Prelude.{slice_get, Result as OkOr}
-use Rattle.ss_code_instructions.proofs.Common.{choose, Code, core_at, Failure, Frame, height, if_ok, Line, look, outcome_then, Part, past, Placed, RunState, Site, Store, Value}
-use Rattle.ss_code_instructions.specs.Instructions.{Jump}
-use Rattle.ss_meaning.specs.Expressions.{both, either}
-use Rattle.ss_code_instructions.specs.Translation.{place as here_is}
+use Rattle.ss_code_instructions.proofs.Common.{both, choose, Code, core_at, either, Failure, Frame, if_ok, Jump, Line, look, outcome_then, Part, past, Placed, RunState, Store, Value}
+use Rattle.ss_code_instructions.specs.Translation.{height, Site, place as here_is}
 use Rattle.ss_code_instructions.proofs.Steps.{HasAt, has_front, has_back, Goal, Comes, Reaches, here, at, arrive, join, follow}
 use Rattle.ss_code_instructions.proofs.Parts.{Within, within_on, onwards, step_leads, Lands, Runs, same, done, alike, looks_then}
 

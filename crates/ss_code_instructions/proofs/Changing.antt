@@ -2,10 +2,9 @@
 use Rattle.std.proofs.Common.{◌≡◌, ℕ, suc, ◌+◌, Bool, true, false, List, [], ◌∷◌, ◌++◌, length, Option, Some, None, Ok, Err, ℤ, refl, sym, ap, ◌∙◌, subst, arith, length-append}
 use Rattle.std.proofs.lemmas.Bool.{lt-ltb}
 use Rattle.std.specs.Prelude.{nat_lt, Result as OkOr, if◌then◌else◌}
-use Rattle.ss_code_instructions.proofs.Common.{after, assigned_attribute, Attribute, attribute, Calculate, calculated, change, change_code, changed_attribute, Clock, Code, Constant, entity, Expression, expression_mode, Fails, Failure, Fetch, Figure, FigureOf, height, Held, if_ok, InAttribute, leaf, lies_above, Line, look, looked, looked_at, MachineState, Moved, OfMember, OfSet, OfSystemSet, Operand, operand, operand_code, operator_of, or_cell, or_in_cell, outcome_then, place, Placed, RunState, settle, Sign, Signed, Site, Store, Taken, TimeOf, ToAttribute, turned, TypeError, Unary, Value, value, with_operand_value, with_values, write}
-use Rattle.ss_meaning.specs.Places.{held as held_at}
-use Rattle.ss_meaning.specs.Expressions.{spot}
-use Rattle.ss_meaning.specs.Statements.{change_by}
+use Rattle.ss_code_instructions.proofs.Common.{after, Attribute, attribute, Calculate, calculated, change, change_by, change_code, changed_attribute, Clock, Code, Constant, entity, Expression, expression_mode, Fails, Failure, Fetch, Figure, FigureOf, height, Held, if_ok, leaf, lies_above, Line, look, looked, MachineState, Moved, OfMember, OfSet, OfSystemSet, Operand, operand, operand_code, operator_of, or_cell, or_in_cell, outcome_then, place, Placed, RunState, settle, Sign, Signed, Site, Store, Taken, TimeOf, ToAttribute, turned, TypeError, Unary, Value, with_operand_value, with_values, write}
+use Rattle.ss_meaning.specs.Expressions.{looked_at, value, spot}
+use Rattle.ss_meaning.specs.Places.{assigned_attribute, InAttribute, held as held_at}
 use Rattle.ss_code_instructions.specs.Instructions as i
 use Rattle.ss_code_instructions.proofs.Steps.{Reaches, at, arrive}
 use Rattle.ss_code_instructions.proofs.Parts.{Runs, same, done}

@@ -1,11 +1,10 @@
 -- The code of conditions.
 use Rattle.std.proofs.Common.{◌≡◌, ℕ, ◌+◌, Bool, true, false, not, List, [], ◌∷◌, ◌++◌, length, Option, Ok, Err, refl, ap, subst, arith}
 use Rattle.std.specs.Prelude.{Result as OkOr}
-use Rattle.ss_code_instructions.proofs.Common.{after, Code, Compare, Condition, condition_code, core_at, DataEnded, did, due, Empty, Expression, expression_of, Fails, Failure, FaultKind, fit, Guard, GuardKind, guards_code, height, holds, if_ok, is_empty, is_ended, is_in, Line, look, looked, looked_code, may_fault, Member, member, member_value, Moved, not_if, onward_if, operand, outcome_then, owner_value, past, place, related, RunState, SetOwner, Site, sure, Test, turned, TypeError, Value, WentOn, with_owner}
+use Rattle.ss_code_instructions.proofs.Common.{after, alternatives_code, Code, Compare, Condition, condition_code, core_at, DataEnded, did, due, Empty, Expression, expression_of, Fails, Failure, FaultKind, fit, Guard, guard_code, GuardKind, guards_code, height, if_ok, is_empty, is_ended, is_in, Line, look, looked, looked_code, may_fault, Member, member, Moved, negated_code, onward_if, operand, outcome_then, past, place, related, RunState, SetOwner, Site, sure, Test, test_code, tests_code, turned, TypeError, Value, WentOn, with_owner}
+use Rattle.ss_meaning.specs.Expressions.{holds, member_value, not_if, owner_value, passed, both, either, all_hold, passes, all_pass}
 use Rattle.ss_base.specs.declared.words.GuardKind.TheVariants as guards
-use Rattle.ss_meaning.specs.Expressions.{passed, both, either, all_hold, passes, all_pass}
 use Rattle.ss_code_instructions.specs.Instructions as i
-use Rattle.ss_code_instructions.specs.Translation.{test_code, tests_code, alternatives_code, negated_code, guard_code}
 use Rattle.ss_code_instructions.proofs.Steps.{Comes, Reaches, here, at, arrive}
 use Rattle.ss_code_instructions.proofs.Parts.{onwards, Lands, same, done, alike, look_lands}
 use Rattle.ss_code_instructions.proofs.Looking.{fit_did, two_lands, owner_lands}

@@ -1,13 +1,10 @@
 -- The code of calls and of events: into a section, and back.
 use Rattle.std.proofs.Common.{◌≡◌, ℕ, zero, suc, ◌+◌, ◌==◌, Bool, true, false, List, [], ◌∷◌, ◌++◌, length, Option, Some, None, Ok, refl, sym, ap, ◌∙◌, subst, arith, if◌then◌else◌}
-use Rattle.std.proofs.lemmas.Bool.{eqb-true}
-use Rattle.std.specs.Prelude.{slice_get}
-use Rattle.ss_code_instructions.proofs.Common.{act, AnEvent, ARoutine, at_height, Beginning, Block, block_code, block_prints, Called, Calls, calls, Code, Coming, Core, core_at, effects, enter, EntryPoint, Event, event_begun, Faulted, first_site, fit, Frame, Left, Line, MachineState, Moved, needed, next_event, opened, Outcome, outcome_then, OutOfTicks, Part, place, Placed, Program, Returned, Routine, routine_entry, RunState, section_code, Site, Stopped, Store, take_event, take_next, TypedScope, Value, WentOn, with_block, with_locals, Wrong, yielded}
-use Rattle.ss_meaning.specs.Parts.{then_nothing}
-use Rattle.ss_meaning.specs.Meaning.{come_back, enclosed, routine_called, event_routine, begin, event_taken, setting_of}
+use Rattle.ss_code_instructions.proofs.Common.{AnEvent, ARoutine, at_height, Beginning, Block, Called, Calls, Coming, Core, core_at, effects, EntryPoint, eqb-true, Event, event_begun, Faulted, fit, Frame, Left, Line, MachineState, Moved, needed, next_event, opened, Outcome, outcome_then, OutOfTicks, Part, Placed, Program, Returned, Routine, RunState, slice_get, Stopped, Store, then_nothing, TypedScope, Value, WentOn, with_block, Wrong, yielded}
+use Rattle.ss_code_instructions.specs.Machine.{act, Code, enter, take_event, take_next, enter_with}
+use Rattle.ss_code_instructions.specs.Translation.{block_code, block_prints, first_site, place, routine_entry, section_code, Site, routine_scope, event_scope, event_entry}
+use Rattle.ss_meaning.specs.Meaning.{calls, with_locals, come_back, enclosed, routine_called, event_routine, begin, event_taken, setting_of}
 use Rattle.ss_code_instructions.specs.Instructions as i
-use Rattle.ss_code_instructions.specs.Machine.{enter_with}
-use Rattle.ss_code_instructions.specs.Translation.{routine_scope, event_scope, event_entry}
 use Rattle.ss_code_instructions.proofs.Keeping.{Only, Where, Lasts, lasts_then, lasts_so, ComingSame, BeginningSame, event_same, begun_same}
 use Rattle.ss_code_instructions.proofs.Steps.{HasAt, has_front, has_back, Reaches, reaches_on, at, arrive, landed}
 use Rattle.ss_code_instructions.proofs.Parts.{Within, Leads, onwards, whatever, ticked, tick_run, out_run, did_leads, at_the_height, onto}

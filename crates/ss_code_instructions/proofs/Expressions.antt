@@ -1,11 +1,10 @@
 -- The code of expressions.
 use Rattle.std.proofs.Common.{◌≡◌, ℕ, ◌+◌, false, List, [], ◌∷◌, ◌++◌, length, Some, None, Ok, Err, refl, sym, ap, ◌∙◌, subst, arith, length-append}
-use Rattle.std.specs.Prelude.{Result as OkOr}
-use Rattle.ss_code_instructions.proofs.Common.{act, after, applied, Attribute, attribute, Calculate, calculated, Clock, clock, Code, Constant, core_at, deliver, Expression, expression_code, Fails, Failure, Fetch, Figure, figure, FigureOf, Frame, height, if_ok, Instruction, is_due, leaf, Line, look, looked, next, of_member, of_set, OfMember, OfSet, OfSystemSet, Operand, operand, operand_code, operator_of, outcome_then, Part, place, Placed, RunState, Signed, Site, Store, Target, time_of, TimeOf, TypeError, Unary, Value, value, Whole, with_operand_value, with_values}
-use Rattle.std.specs.Prelude.{pos}
-use Rattle.ss_meaning.specs.Values.{signed}
+use Rattle.std.specs.Prelude.{Result as OkOr, pos}
+use Rattle.ss_code_instructions.proofs.Common.{act, Attribute, attribute, Calculate, Clock, clock, Code, Constant, core_at, deliver, Expression, Fetch, Figure, figure, FigureOf, Frame, Instruction, is_due, Line, look, looked, of_member, of_set, OfMember, OfSet, OfSystemSet, Operand, outcome_then, Part, Placed, RunState, Signed, Store, Target, time_of, TimeOf, Unary, Value, value, Whole, with_operand_value, with_values}
+use Rattle.ss_code_instructions.specs.Translation.{after, expression_code, height, leaf, next, operand, operand_code, place, Site, one_operand}
+use Rattle.ss_meaning.specs.Values.{applied, calculated, Fails, Failure, if_ok, operator_of, TypeError, signed}
 use Rattle.ss_code_instructions.specs.Instructions as i
-use Rattle.ss_code_instructions.specs.Translation.{one_operand}
 use Rattle.ss_code_instructions.proofs.Steps.{Reaches, at, arrive}
 use Rattle.ss_code_instructions.proofs.Parts.{Leads, step_leads, Runs, same, put_on, went, look_then, alike}
 use Rattle.ss_code_instructions.proofs.Operands.{on, Tops, put_then, computes, held, reads, reads_both, Evaluates, leaf_runs, operand_runs, one_join, two_join}

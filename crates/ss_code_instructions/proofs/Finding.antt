@@ -1,10 +1,6 @@
 -- The code of FOR and of FIND, with their phrases.
 use Rattle.std.proofs.Common.{◌≡◌, ℕ, ◌+◌, ◌-◌, Bool, true, false, List, [], ◌∷◌, ◌++◌, length, refl, subst, arith, length-append}
-use Rattle.ss_code_instructions.proofs.Common.{choose, Code, for_code, forget_to, Frame, GoesOn, Head, height, in_loop, IsFound, outcome_then, over, Part, Phrase, phrases_code, place, Placed, RunState, Site, Turn, Value, WentOn}
-use Rattle.ss_meaning.specs.Loops.{phrases}
-use Rattle.ss_meaning.specs.Parts.{then_nothing}
-use Rattle.ss_code_instructions.specs.Instructions.{Jump}
-use Rattle.ss_code_instructions.specs.Translation.{find_code}
+use Rattle.ss_code_instructions.proofs.Common.{choose, Code, find_code, for_code, forget_to, Frame, GoesOn, Head, height, in_loop, IsFound, Jump, outcome_then, over, Part, Phrase, phrases, phrases_code, place, Placed, RunState, Site, then_nothing, Turn, Value, WentOn}
 use Rattle.ss_code_instructions.proofs.Steps.{HasAt, has_front, has_back, Comes, Reaches, here, at, arrive, join, follow}
 use Rattle.ss_code_instructions.proofs.Parts.{Within, within_on, Lands, Runs, same, done}
 use Rattle.ss_code_instructions.proofs.Branching.{jumps}

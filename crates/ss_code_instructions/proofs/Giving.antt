@@ -1,8 +1,8 @@
 -- The code of several values, which lie in cells, one above the other.
 use Rattle.std.proofs.Common.{ℕ, suc, ◌+◌, List, [], ◌∷◌, length, Ok, Err, ap}
 use Rattle.std.specs.Prelude.{Result as OkOr}
-use Rattle.ss_code_instructions.proofs.Common.{Code, Expression, expression_mode, Fails, Failure, Frame, height, Line, look, looked, MachineState, Placed, RunState, Site, Store, turned, TypeError, Value, value, values, values_code}
-use Rattle.ss_code_instructions.specs.Translation.{above as with_cell}
+use Rattle.ss_code_instructions.proofs.Common.{Code, Expression, Fails, Failure, Frame, Line, look, looked, MachineState, Placed, RunState, Store, turned, TypeError, Value, value, values}
+use Rattle.ss_code_instructions.specs.Translation.{expression_mode, height, Site, values_code, above as with_cell}
 use Rattle.ss_code_instructions.proofs.Steps.{Reaches, at, arrive}
 use Rattle.ss_code_instructions.proofs.Parts.{Runs, same, put_on, onto, none, seq_look, above}
 use Rattle.ss_code_instructions.proofs.Expressions.{value_runs}

@@ -1,8 +1,7 @@
 -- The code of a FOR by its head: how it ends; and that it does what the FOR does, whatever its turns.
 use Rattle.std.proofs.Common.{◌≡◌, ℕ, suc, ◌+◌, ◌-◌, ◌≤◌, Bool, List, ◌∷◌, ◌++◌, length, Option, refl, sym, ap, ◌∙◌, subst, arith, length-append, append_assoc}
-use Rattle.ss_code_instructions.proofs.Common.{Code, Each, Entity, Expression, for_code, forget, forget_to, Frame, Head, height, in_loop, Members, Numbers, over, owner_code, owner_kept, Part, place, Placed, RunState, SetOwner, Site, Start, TheSystem, Turn, turns_code, Value, Variable, walk_loop}
+use Rattle.ss_code_instructions.proofs.Common.{begin_code, Code, Each, Entity, Expression, for_code, forget, forget_to, Frame, Head, height, in_loop, Members, number_loop, Numbers, over, owner_cell, owner_code, owner_kept, Part, place, Placed, range_code, RunState, SetOwner, Site, Start, start_code, TheSystem, Turn, turns_code, Value, Variable, walk_loop}
 use Rattle.ss_code_instructions.specs.Instructions as i
-use Rattle.ss_code_instructions.specs.Translation.{owner_cell, number_loop, range_code, start_code, begin_code}
 use Rattle.ss_code_instructions.proofs.Steps.{HasAt, has_back, Reaches, at, arrive}
 use Rattle.ss_code_instructions.proofs.Parts.{Within, Lands, same, done}
 use Rattle.ss_code_instructions.proofs.Forgetting.{two_more, three_more}

@@ -1,7 +1,6 @@
 -- A READ takes the next word from the input, and no other instruction takes anything.
 use Rattle.std.proofs.Common.{◌≡◌, ℕ, zero, suc, Bool, true, false, List, Option, Some, None, subst}
-use Rattle.std.specs.Prelude.{slice_get}
-use Rattle.ss_code_instructions.proofs.Common.{act, Breaks, Code, Core, Done, Goes, is_due, MachineState, Moved, NoStep, Over, Placed, Rest, Sends, step_at, Stepped, Stuck, To, when_due, with_rest}
+use Rattle.ss_code_instructions.proofs.Common.{act, Breaks, Code, Core, Done, Goes, is_due, MachineState, Moved, NoStep, Over, Placed, Rest, Sends, slice_get, step_at, Stepped, Stuck, To, when_due, with_rest}
 use Rattle.ss_code_instructions.specs.Reached.{HasTakenBy, HasTakenInput, InputStays, input_of}
 use Rattle.ss_code_instructions.proofs.Moving.{Every}
 use Rattle.ss_code_instructions.proofs.Acting.{act_takes}

@@ -3,17 +3,16 @@
 use Rattle.std.proofs.Common.{◌≡◌, ℕ, zero, suc, ◌+◌, ◌-◌, ◌<◌, Bool, true, false, List, [], ◌∷◌, ◌++◌, length, Option, Some, None, Ok, Err, ℤ, pos, negsuc, refl, sym, ap, ◌∙◌, subst, arith, ◌⊎◌, inl, inr, true≢false}
 use Rattle.std.proofs.lemmas.Bool.{eqb-true, eqb-false, eq-eqb, and_parts, and_from}
 use Rattle.std.specs.Prelude.{slice_get, slice_set, replicate, is_some, cond, nat_lt, nat_le, ◌==◌, ◌&&◌, ◌||◌, Result, if◌then◌else◌}
-use Rattle.ss_code_instructions.proofs.Common.{assigned, created, Discipline, FaultKind, filed, SetLayout, State, timed, Value}
+use Rattle.ss_code_instructions.proofs.Common.{Discipline, FaultKind, IsInList, SetLayout, Value}
+use Rattle.ss_world.specs.Disciplines.{filed, ranks_after, put_ranked, take, first_removed, last_removed}
+use Rattle.ss_world.specs.State.{assigned, created, State, timed, Record, Members, and_then, kind_of, issued_record, numbered_record, indexed_record, records_in, of_class, entity_of_kind, entity_in, notice, number_in, first_record, record_with_value, with_time, with_indexed, with_entity_of_kind, with_created, LAST_NUMBER, MOST_ENTITIES, is_made_in, is_made, with_made, made_many, created_all, members_of, contains, owner_among, is_filed, with_members, in_a_set, owns_members, let_go, destroyed, first_state}
 use Rattle.ss_base.specs.declared.fault.FaultKind.TheVariants as faults
 use Rattle.ss_base.specs.declared.layout.ClassKind.{ClassKind}
 use Rattle.ss_base.specs.declared.layout.ClassKind.TheVariants.{Permanent, Temporary, Notice}
 use Rattle.ss_base.specs.declared.layout.Discipline.TheVariants.{Fifo, Lifo, Ranked}
 use Rattle.ss_base.specs.declared.layout.Layout.{Layout}
 use Rattle.ss_base.specs.declared.layout.RankKey.{RankKey}
-use Rattle.ss_world.specs.Lists.{IsInList}
-use Rattle.ss_world.specs.State.{Record, Members, and_then, kind_of, issued_record, numbered_record, indexed_record, records_in, of_class, entity_of_kind, entity_in, notice, number_in, first_record, record_with_value, with_time, with_indexed, with_entity_of_kind, with_created, LAST_NUMBER, MOST_ENTITIES, is_made_in, is_made, with_made, made_many, created_all, members_of, contains, owner_among, is_filed, with_members, in_a_set, owns_members, let_go, destroyed, first_state}
 use Rattle.ss_world.specs.Sets.{member_in, member_class, joiner, owner, first_in, last_in, put_before, put_after, less, with_list_of, put_in, put_beside, taken_out, filed_first, filed_last, filed_before, filed_after, removed, AreMembersApart}
-use Rattle.ss_world.specs.Disciplines.{ranks_after, put_ranked, take, first_removed, last_removed}
 use Rattle.ss_meaning.specs.Fitting.{class_of_record, living, made, IsIndex, IsLivingAs, IsLiving}
 use Rattle.ss_meaning.proofs.Fine.{Sane, sane_then}
 use Rattle.ss_meaning.proofs.Heaps.{HasRecord, IsEntityAs, entity_known, entity_lives, notice_known, set_length}

@@ -1,24 +1,15 @@
 -- No operation changes what the program says once and for all, or that each member of a set lives, and none but that of a READ the input.
 use Rattle.std.proofs.Common.{◌≡◌, ℕ, ◌+◌, Bool, true, false, List, [], ◌∷◌, Option, Some, None, Ok, Err, ℤ, pos, refl, sym, ap, ◌∙◌, true≢false}
-use Rattle.std.specs.Prelude.{Result, int_lt, slice_get}
-use Rattle.ss_code_instructions.proofs.Common.{all_noting, assigned, assigned_attribute, assigned_variable, attribute, Beginning, ByRule, calculated, changed_attribute, class_at, ClassLayout, Code, Coming, CountedClass, created, due, End, entity, event_begun, Failure, FaultKind, fetched, filed, filed_in, filed_notice, Foremost, Global, Hindmost, if_ok, is_permanent, is_single, JustAfter, JustBefore, Local, made_all, made_notice, made_one, member, Mode, next_event, noted, number_of, OfVariable, operator_of, owner_number, read_value, recounted, removed_at, removed_from, rescheduled, reset, Setting, Sign, State, Store, Subject, sure, timed, turned, unless_fault, unscheduled, Value, value_given, Variable, where_fit, Whole, with_heap, with_histories, with_input, with_new, without}
+use Rattle.ss_code_instructions.proofs.Common.{assigned_attribute, assigned_variable, ByRule, calculated, changed_attribute, ClassLayout, Code, count_in, CountedClass, due, End, end_removed, Failure, FaultKind, filed, filed_after, filed_before, filed_by, filed_first, filed_in, filed_last, Filing, Foremost, Given, Global, HasTakenIf, Hindmost, if_ok, int_lt, is_fit, is_of_mode, JustAfter, JustBefore, Local, member, Mode, number_of, OfAttribute, OfCount, OfVariable, operator_of, owner_number, Permanent, read_value, recounted, removed, removed_at, removed_from, Result, Sane, Sign, slice_get, Subject, sure, turned, unless_fault, Value, value_given, Variable, where_fit, Whole, with_input}
+use Rattle.ss_meaning.specs.Entities.{attribute, class_at, entity, is_permanent, is_single, made_all, made_one, with_new, without, field_at, comes_singly, with_all, with_none, gone}
+use Rattle.ss_meaning.specs.Events.{Beginning, Coming, event_begun, filed_notice, made_notice, next_event, rescheduled, unscheduled, Ranked, ranked, ties_of, attributes_given, with_notice_time, endowed, prepared, saved_or_gone, coming_as, coming_with, ranked_as}
+use Rattle.ss_meaning.specs.Histories.{all_noting, noted, renewed}
+use Rattle.ss_meaning.specs.Statistics.{reset, subject_of_statistic, bearer_number, present}
+use Rattle.ss_meaning.specs.Store.{fetched, Setting, Store, with_heap, with_histories, with_pending, put_at, put}
+use Rattle.ss_world.specs.State.{assigned, created, State, timed, kind_in, notice, created_all, destroyed}
 use Rattle.ss_base.specs.declared.fault.FaultKind.TheVariants.{Scheduled, AlreadyScheduled, PastTime}
-use Rattle.ss_base.specs.declared.layout.ClassKind.TheVariants.{Permanent}
-use Rattle.ss_world.specs.State.{kind_in, notice, created_all, destroyed}
-use Rattle.ss_world.specs.Sets.{count_in, filed_first, filed_last, filed_before, filed_after, removed}
 use Rattle.ss_world.specs.PendingList.{is_pending, scheduled, cancelled, least_event}
-use Rattle.ss_meaning.specs.Words.{Given}
-use Rattle.ss_program.specs.declared.sections.Subject.TheVariants.{OfAttribute, OfCount}
-use Rattle.ss_meaning.specs.Histories.{renewed}
 use Rattle.ss_base.specs.declared.words.End.TheVariants as sides
-use Rattle.ss_meaning.specs.Store.{with_pending, put_at, put}
-use Rattle.ss_meaning.specs.Entities.{field_at, comes_singly, with_all, with_none, gone}
-use Rattle.ss_meaning.specs.Places.{is_of_mode}
-use Rattle.ss_meaning.specs.Sets.{Filing, is_fit, filed_by, end_removed}
-use Rattle.ss_meaning.specs.Events.{Ranked, ranked, ties_of, attributes_given, with_notice_time, endowed, prepared, saved_or_gone, coming_as, coming_with, ranked_as}
-use Rattle.ss_meaning.specs.Statistics.{subject_of_statistic, bearer_number, present}
-use Rattle.ss_meaning.proofs.Fine.{Sane}
-use Rattle.ss_code_instructions.specs.Reached.{HasTakenIf}
 use Rattle.ss_code_instructions.proofs.Joining.{Joined, assigned_joined, timed_joined, created_joined, created_all_joined, first_filed, last_filed, before_filed, after_filed, filed_joined, removed_joined, first_removed_joined, last_removed_joined, destroyed_joined}
 
 -- what an operation gives, where it gives anything, has a property

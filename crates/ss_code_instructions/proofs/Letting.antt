@@ -1,9 +1,8 @@
 -- LET, ADD and SUBTRACT, for each place that they assign.
 use Rattle.std.proofs.Common.{◌≡◌, ℕ, ◌+◌, Bool, true, false, List, [], ◌∷◌, ◌++◌, length, Option, Some, None, refl, sym, subst, arith, length-append}
 use Rattle.std.specs.Prelude.{if◌then◌else◌}
-use Rattle.ss_code_instructions.proofs.Common.{above, after, assigned_variable, calculated, change_code, Code, core_at, count_code, CountedClass, deliver, did, Expression, expression_code, fetched, Frame, give_to, Global, height, Held, if_ok, InCount, Integer, InVariable, is_kept, leaf, let_code, look, looked, MachineState, next, onward, operand, operand_code, operator_of, or_zero, outcome_then, Part, Place, place, Placed, RunState, settle, Sign, Site, sure, Taken, ToAttribute, ToCount, ToVariable, Value, value, Variable, with_operand, with_operand_value, write}
-use Rattle.ss_meaning.specs.Statements.{change_by}
-use Rattle.ss_code_instructions.specs.Instructions.{Target as To}
+use Rattle.ss_code_instructions.proofs.Common.{above, after, assigned_variable, calculated, change_by, change_code, Code, core_at, count_code, CountedClass, deliver, did, Expression, expression_code, fetched, Frame, give_to, Global, height, if_ok, InCount, Integer, InVariable, is_kept, leaf, let_code, look, looked, MachineState, next, onward, operand, operand_code, operator_of, or_zero, outcome_then, Part, Place, place, RunState, settle, Sign, Site, sure, ToAttribute, ToCount, ToVariable, Value, value, Variable, with_operand, with_operand_value, write}
+use Rattle.ss_code_instructions.specs.Instructions.{Held, Placed, Taken, Target as To}
 use Rattle.ss_code_instructions.specs.Instructions as i
 use Rattle.ss_code_instructions.proofs.Steps.{has_front, has_back, Comes, Reaches, here, at, arrive, join}
 use Rattle.ss_code_instructions.proofs.Parts.{Leads, onwards, whatever, step_leads, did_leads, at_the_height, Runs, same, done, went, then_then, alike}

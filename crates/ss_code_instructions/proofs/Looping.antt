@@ -1,13 +1,12 @@
 -- The code of loops led by WHILE or UNTIL, and of the phrases of a FOR.
 use Rattle.std.proofs.Common.{◌≡◌, ℕ, suc, ◌+◌, ◌-◌, ◌≤◌, Bool, true, false, not, List, [], ◌∷◌, ◌++◌, length, Some, Ok, Err, refl, sym, ap, ◌∙◌, subst, arith, length-append}
 use Rattle.std.specs.Prelude.{slice_get, Result as OkOr}
-use Rattle.ss_code_instructions.proofs.Common.{act, Again, choose, Code, Condition, core_at, EndsLoop, Fails, Failure, Frame, GoesOn, Guard, guards_code, height, holds, if_ok, is_due, IsFound, look, looked, loop, outcome_then, Part, past, Phrase, PhraseKind, phrases_code, Placed, RunState, Site, To, Turn, TypeError, Value, WentOn}
+use Rattle.ss_code_instructions.proofs.Common.{act, all_pass, Code, Condition, core_at, Fails, Failure, Frame, Guard, holds, if_ok, is_due, past, Phrase, PhraseKind, Placed, To, TypeError, Value}
+use Rattle.ss_code_instructions.specs.Translation.{guards_code, height, phrases_code, Site, place as here_is, loop_code, phrase_code}
+use Rattle.ss_meaning.specs.Loops.{EndsLoop, GoesOn, IsFound, Turn, phrase, phrases, guarded_turn, guarded}
+use Rattle.ss_meaning.specs.Parts.{Again, choose, look, looked, loop, outcome_then, Part, RunState, WentOn, Over}
 use Rattle.ss_base.specs.declared.words.PhraseKind.TheVariants as kinds
-use Rattle.ss_meaning.specs.Expressions.{all_pass}
-use Rattle.ss_meaning.specs.Parts.{Over}
-use Rattle.ss_meaning.specs.Loops.{phrase, phrases, guarded_turn, guarded}
 use Rattle.ss_code_instructions.specs.Instructions as i
-use Rattle.ss_code_instructions.specs.Translation.{place as here_is, loop_code, phrase_code}
 use Rattle.ss_code_instructions.proofs.Steps.{HasAt, has_front, has_back, Goal, Comes, Reaches, here, at, arrive, join}
 use Rattle.ss_code_instructions.proofs.Parts.{Within, within_on, onwards, step_leads, Lands, Runs, same, done, alike}
 use Rattle.ss_code_instructions.proofs.Loops.{turned, Turns, loop_run}

@@ -1,8 +1,7 @@
 -- Loops: the instruction at their head takes a tick, and their end jumps back to it.
 use Rattle.std.proofs.Common.{◌≡◌, ℕ, zero, suc, ◌≤◌, true, List, ◌++◌, Some, arith}
-use Rattle.std.specs.Prelude.{slice_get}
-use Rattle.ss_code_instructions.proofs.Common.{act, Again, Code, core_at, Frame, is_due, Left, loop, MachineState, Moved, Outcome, outcome_then, Part, Placed, RunState, Value, WentOn}
-use Rattle.ss_meaning.specs.Parts.{Next, Over, go_on}
+use Rattle.ss_code_instructions.proofs.Common.{act, Code, core_at, Frame, is_due, MachineState, Moved, Placed, slice_get, Value}
+use Rattle.ss_meaning.specs.Parts.{Again, Left, loop, Outcome, outcome_then, Part, RunState, WentOn, Next, Over, go_on}
 use Rattle.ss_code_instructions.proofs.Keeping.{Lasts, lasts_then, Suits, suits_on}
 use Rattle.ss_code_instructions.proofs.Acting.{Endures, act_lasts}
 use Rattle.ss_code_instructions.proofs.Steps.{Goal, Comes, Reaches, here, reaches_on, Kept, kept, at, arrive}

@@ -1,9 +1,8 @@
 -- A member, then an owner, then an instruction that works on both: the member is looked at before where the owner's evaluation may fault.
 use Rattle.std.proofs.Common.{◌≡◌, ℕ, ◌+◌, Bool, true, false, List, [], ◌∷◌, ◌++◌, length, Option, Some, None, Ok, Err, ℤ, refl, sym, ap, ◌∙◌, subst, arith, length-append}
-use Rattle.std.proofs.lemmas.Bool.{eq-eqb}
+use Rattle.ss_code_instructions.proofs.Common.{act, after, after_bearer, Attribute, bearer, bearer_code, Calculate, cell_at, Clock, Code, Constant, core_at, did, eq-eqb, Expression, expression_of, Fails, Failure, FaultKind, Fetch, fetched, Figure, FigureOf, fit, Frame, height, if_ok, is_due, leaf, look, looked, looked_at, looked_code, MachineState, may_fault, member, member_value, Moved, OfMember, OfSet, OfSystemSet, onward, operand, operand_code, or_cell, or_zero, outcome_then, owner_value, Part, place, RunState, SetOwner, Signed, Site, stay, Store, TimeOf, turned, TypeError, Unary, Value, value, with_bearer, with_operand_value, with_owner}
 use Rattle.std.specs.Prelude.{slice_get, Result as OkOr, if◌then◌else◌}
-use Rattle.ss_code_instructions.proofs.Common.{act, after, after_bearer, Attribute, Bearer, bearer, bearer_code, Calculate, cell_at, Clock, Code, Constant, core_at, did, Expression, expression_of, Fails, Failure, FaultKind, Fetch, fetched, Figure, FigureOf, fit, Frame, height, Held, if_ok, Instruction, is_due, leaf, look, looked, looked_at, looked_code, MachineState, may_fault, member, member_value, Moved, OfMember, OfSet, OfSystemSet, onward, Operand, operand, operand_code, or_cell, or_zero, outcome_then, owner_value, Part, place, Placed, RunState, SetOwner, Signed, Site, stay, Store, TimeOf, turned, TypeError, Unary, Value, value, with_bearer, with_operand_value, with_owner}
-use Rattle.ss_code_instructions.specs.Instructions.{Constant as AConstant, LookMember}
+use Rattle.ss_code_instructions.specs.Instructions.{Bearer, Held, Instruction, Operand, Placed, Constant as AConstant, LookMember}
 use Rattle.ss_code_instructions.proofs.Steps.{HasAt, has_front, has_back, Reaches, free, at, arrive}
 use Rattle.ss_code_instructions.proofs.Parts.{Within, Leads, onwards, breaks, step_leads, did_leads, turned_then}
 use Rattle.ss_code_instructions.proofs.Operands.{held, held_height, reads, one_join}

@@ -1,11 +1,9 @@
 -- Where an instruction leads: what holds of each state that it may lead to.
 use Rattle.std.proofs.Common.{ℕ, ◌==◌, Bool, true, false, List, [], ◌∷◌, length, Option, Some, None, Ok, Err, ℤ}
 use Rattle.std.specs.Prelude.{Result, if◌then◌else◌}
-use Rattle.ss_code_instructions.proofs.Common.{at_height, Bearer, Before, ByRule, cell_at, Core, did, Fails, Failure, fetched, FilingPlace, First, fit, Foremost, Held, Hindmost, JustAfter, JustBefore, Last, lies_above, Line, Moved, Operand, or_zero, Ranked, Rest, Sends, Stays, Store, Stuck, take_off, Taken, Text, To, TypeError, Value, Walk, Whole, with_bearer, with_block, with_operand_value, with_values}
-use Rattle.ss_meaning.specs.Sets.{Filing as Position}
-use Rattle.ss_code_instructions.specs.Instructions.{Constant, After}
-use Rattle.ss_code_instructions.specs.States.{with_top_number, with_topmost, with_position}
-use Rattle.ss_code_instructions.specs.Machine.{with_loop, with_walk_in_cells}
+use Rattle.ss_code_instructions.proofs.Common.{at_height, cell_at, Core, did, Fails, Failure, fetched, fit, lies_above, Line, Moved, or_zero, Rest, Sends, Store, Stuck, take_off, Text, To, TypeError, Value, Walk, Whole, with_bearer, with_block, with_loop, with_operand_value, with_position, with_top_number, with_topmost, with_values, with_walk_in_cells}
+use Rattle.ss_code_instructions.specs.Instructions.{Bearer, Before, FilingPlace, First, Held, Last, Operand, Ranked, Stays, Taken, Constant, After}
+use Rattle.ss_meaning.specs.Sets.{ByRule, Foremost, Hindmost, JustAfter, JustBefore, Filing as Position}
 use Rattle.ss_code_instructions.proofs.Keeping.{Only, Where}
 
 module _ (Good : Core → Type 0) where

@@ -1,8 +1,7 @@
 -- A variable takes the value that some code leaves at a target, and what follows may read it there.
 use Rattle.std.proofs.Common.{◌≡◌, ℕ, zero, suc, ◌+◌, Bool, true, false, List, [], ◌∷◌, ◌++◌, length, Some, Ok, Err, pos, refl, sym, subst, arith, length-append}
 use Rattle.std.specs.Prelude.{slice_get, Result as OkOr, if◌then◌else◌}
-use Rattle.ss_code_instructions.proofs.Common.{above, all_noting, assigned_variable, Code, core_at, did, Fails, Failure, fetched, Frame, Global, height, Integer, Into, InVariable, is_kept, Left, Local, looked, MachineState, mode_of, next, noted, OfVariable, onward, Outcome, outcome_then, Part, place, Placed, RunState, same_mode, settle, Site, Store, Target, TypeError, Value, Variable, variable_code, WentOn, with_histories, write}
-use Rattle.ss_meaning.specs.Store.{put_at, put}
+use Rattle.ss_code_instructions.proofs.Common.{above, all_noting, assigned_variable, Code, core_at, did, Fails, Failure, fetched, Frame, Global, height, Integer, Into, InVariable, is_kept, Left, Local, looked, MachineState, mode_of, next, noted, OfVariable, onward, Outcome, outcome_then, Part, place, Placed, put, put_at, RunState, same_mode, settle, Site, Store, Target, TypeError, Value, Variable, variable_code, WentOn, with_histories, write}
 use Rattle.ss_code_instructions.specs.Instructions as i
 use Rattle.ss_code_instructions.proofs.Keeping.{Only, then_only, made, made_from}
 use Rattle.ss_code_instructions.proofs.Steps.{HasAt, has_front, has_back, Reaches, free, reaches_on, at, arrive, join}

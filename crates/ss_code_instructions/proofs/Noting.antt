@@ -1,11 +1,9 @@
 -- Where no statistic watches a subject, a note of it changes nothing.
 use Rattle.std.proofs.Common.{◌≡◌, Bool, true, false, List, [], ◌∷◌, Ok, Err, ℤ, refl, ap, ◌⊎◌, inl, inr}
 use Rattle.std.specs.Prelude.{Result as OkOr, if◌then◌else◌}
-use Rattle.ss_code_instructions.proofs.Common.{all_noting, Failure, if_ok, noted, Store, Subject, turned, TypeError, Value, with_histories}
-use Rattle.ss_program.specs.declared.sections.Statistic.{Statistic}
-use Rattle.ss_meaning.specs.Store.{Column}
-use Rattle.ss_meaning.specs.Histories.{same_subject, noting}
-use Rattle.ss_code_instructions.specs.Facts.{watch}
+use Rattle.ss_code_instructions.proofs.Common.{Failure, if_ok, Statistic, Subject, turned, TypeError, Value, watch}
+use Rattle.ss_meaning.specs.Histories.{all_noting, noted, same_subject, noting}
+use Rattle.ss_meaning.specs.Store.{Store, with_histories, Column}
 
 -- a note that leaves the store, or does not fit
 abbrev pub Quiet : Store → OkOr Store Failure → Type 0

@@ -2,10 +2,8 @@
 use Rattle.std.proofs.Common.{◌≡◌, ℕ, suc, ◌+◌, Bool, false, List, [], ◌∷◌, ◌++◌, length, Option, Some, None, Ok, Err, refl, sym, ap, ◌∙◌, subst, arith, ◌⊎◌, inl, inr, if◌then◌else◌}
 use Rattle.std.proofs.lemmas.Bool.{eq-eqb, le-ltb}
 use Rattle.std.specs.Prelude.{nat_lt, Result as OkOr}
-use Rattle.ss_code_instructions.proofs.Common.{after, assigned_variable, Attribute, Calculate, change, Clock, Code, Constant, core_at, deliver, deliver_with, did, Expression, expression_code, expression_mode, Fails, Failure, FaultKind, Fetch, fetched, Figure, FigureOf, Frame, height, Held, Into, leaf, lies_above, Line, look, looked, MachineState, Mode, Moved, next, OfMember, OfSet, OfSystemSet, Onto, onward, Operand, operand, operand_code, or_cell, or_in_cell, or_zero, outcome_then, Part, place, Placed, RunState, settle, Signed, Site, Stays, Store, sure, Taken, Target, TimeOf, turned, TypeError, Unary, Value, value, Variable, WentOn, where_fit, with_operand_value, with_values, Written}
-use Rattle.ss_meaning.specs.Parts.{settle_with}
+use Rattle.ss_code_instructions.proofs.Common.{after, assigned_variable, Attribute, Calculate, change, Clock, Code, Constant, core_at, deliver, deliver_with, did, Expression, expression_code, expression_mode, Fails, Failure, FaultKind, Fetch, fetched, Figure, FigureOf, Frame, height, Held, Into, leaf, lies_above, Line, look, looked, MachineState, Mode, Moved, next, OfMember, OfSet, OfSystemSet, Onto, onward, Operand, operand, operand_code, or_cell, or_in_cell, or_zero, outcome_then, Part, place, Placed, RunState, settle, settle_with, Signed, Site, Stays, Store, sure, Taken, Target, TimeOf, turned, TypeError, Unary, unless_leaf, Value, value, Variable, WentOn, where_fit, with_operand_value, with_values, Written}
 use Rattle.ss_code_instructions.specs.Instructions as i
-use Rattle.ss_code_instructions.specs.Translation.{unless_leaf}
 use Rattle.ss_code_instructions.proofs.Steps.{HasAt, has_front, has_back, Comes, Reaches, here, free, reaches_on, at, arrive}
 use Rattle.ss_code_instructions.proofs.Parts.{Within, Leads, onwards, breaks, whatever, at_the_height, Runs, same, put_on}
 

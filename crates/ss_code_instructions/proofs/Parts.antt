@@ -1,10 +1,7 @@
 -- Code that does what a part of a program does: how such code is put together.
 use Rattle.std.proofs.Common.{◌≡◌, ℕ, zero, suc, ◌+◌, ◌≤◌, true, false, List, [], ◌∷◌, ◌++◌, length, Option, Some, None, Ok, Err, refl, sym, ap, ◌∙◌, subst, arith, length-append, if◌then◌else◌}
-use Rattle.std.proofs.lemmas.Bool.{eq-eqb}
+use Rattle.ss_code_instructions.proofs.Common.{act, at_height, Breaks, change, Code, Core, core_at, did, Done, Ended, eq-eqb, Fails, Failure, Fault, FaultKind, fit, Frame, if_ok, is_due, Left, Line, look, looked, MachineState, Moved, Outcome, outcome_then, OutOfTicks, Part, Paused, Placed, Rest, run_at, RunState, Sends, settle, step_at, Store, Stuck, sure, take_tick, tick_from, To, turned, TypeError, Value, WentOn, when_due, with_rest}
 use Rattle.std.specs.Prelude.{slice_get, Result as OkOr}
-use Rattle.ss_code_instructions.proofs.Common.{act, at_height, Breaks, change, Code, Core, core_at, did, Done, Ended, Fails, Failure, Fault, FaultKind, fit, Frame, if_ok, is_due, Left, Line, look, looked, MachineState, Moved, Outcome, outcome_then, OutOfTicks, Part, Paused, Placed, Rest, RunState, Sends, settle, step_at, Store, Stuck, sure, To, turned, TypeError, Value, WentOn, when_due, with_rest}
-use Rattle.ss_meaning.specs.Parts.{tick_from, take_tick}
-use Rattle.ss_meaning.specs.Meaning.{run_at}
 use Rattle.ss_code_instructions.proofs.Keeping.{Suits, suits_on}
 use Rattle.ss_code_instructions.proofs.Steps.{HasAt, has_front, has_back, Goal, Comes, Finishes, Free, Reaches, here, over, free, more, Kept, at, arrive, join}
 

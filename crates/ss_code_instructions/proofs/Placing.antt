@@ -1,14 +1,10 @@
 -- The code of FILE.
 use Rattle.std.proofs.Common.{◌≡◌, ℕ, ◌+◌, true, List, [], ◌∷◌, ◌++◌, length, Option, Some, None, Ok, Err, ℤ, refl, sym, ap, ◌∙◌, subst, arith, length-append}
 use Rattle.std.specs.Prelude.{slice_get, Result as OkOr}
-use Rattle.ss_code_instructions.proofs.Common.{act, after, after_bearer, Bearer, bearer, bearer_code, ByRule, change, Code, core_at, did, Discipline, due, Expression, expression_of, Fails, Failure, filed, filed_in, Foremost, Frame, height, Hindmost, if_ok, JustAfter, JustBefore, leaf, look, looked, looked_at, looked_code, MachineState, may_fault, member, member_value, Moved, onward, Operand, operand, operand_code, outcome_then, owner_number, owner_value, Part, place, Placed, Position, recounted, RunState, SetOwner, Setting, settle, Site, stay, Store, sure, turned, TypeError, Value, value, where_fit, with_bearer, with_operand_value, with_owner}
+use Rattle.ss_code_instructions.proofs.Common.{act, after, after_bearer, AfterMember, AsFirst, AsLast, Bearer, bearer, bearer_code, BeforeMember, ByDiscipline, ByRule, change, Code, core_at, did, Discipline, due, Expression, expression_of, Fails, Failure, file_code, filed, filed_by, filed_in, Filing, filing_by, Foremost, Frame, height, Hindmost, if_ok, is_fit, JustAfter, JustBefore, leaf, look, looked, looked_at, looked_code, MachineState, may_fault, member, member_code, member_value, Moved, onward, Operand, operand, operand_code, outcome_then, owner_number, owner_value, Part, place, Placed, Position, recounted, RunState, SetOwner, Setting, setting_of, settle, Site, stay, Store, sure, turned, TypeError, Value, value, where_fit, with_bearer, with_operand_value, with_owner}
 use Rattle.ss_base.specs.declared.layout.Discipline.TheVariants as disciplines
-use Rattle.ss_program.specs.Program.{ByDiscipline, AsFirst, AsLast, BeforeMember, AfterMember}
-use Rattle.ss_meaning.specs.Sets.{Filing, is_fit, filed_by}
-use Rattle.ss_meaning.specs.Meaning.{setting_of}
 use Rattle.ss_meaning.specs.Statements.{file}
 use Rattle.ss_code_instructions.specs.Instructions as i
-use Rattle.ss_code_instructions.specs.Translation.{member_code, filing_by, file_code}
 use Rattle.ss_code_instructions.proofs.Steps.{HasAt, has_front, has_back, Comes, Reaches, here, at, arrive}
 use Rattle.ss_code_instructions.proofs.Parts.{Within, Leads, onwards, step_leads, did_leads, turned_then, Runs, same, done}
 use Rattle.ss_code_instructions.proofs.Operands.{held, held_height, reads, one_join}

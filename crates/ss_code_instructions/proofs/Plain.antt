@@ -1,11 +1,9 @@
 -- Statements of one operand and one instruction: DESTROY, CANCEL, SKIP; and CREATE EVERY and RESET.
 use Rattle.std.proofs.Common.{◌≡◌, ℕ, ◌+◌, false, List, [], ◌∷◌, ◌++◌, length, Option, Ok, Err, refl, ◌∙◌, subst, arith, length-append}
 use Rattle.std.specs.Prelude.{Result as OkOr}
-use Rattle.ss_code_instructions.proofs.Common.{act, after, after_bearer, bearer, bearer_code, change, Code, core_at, CountedClass, did, empty_lines, Expression, Fails, Failure, Frame, height, if_ok, Instruction, is_due, leaf, look, looked, MachineState, made_all, onward, Operand, operand, operand_code, outcome_then, place, Placed, reset, Restart, RunState, Sends, settle, Site, Store, TypeError, unscheduled, Value, value, value_if_any, with_operand, with_operand_value, without}
-use Rattle.ss_meaning.specs.Parts.{send}
+use Rattle.ss_code_instructions.proofs.Common.{act, after, after_bearer, bearer, bearer_code, change, Code, core_at, CountedClass, creates_code, did, empty_lines, Expression, Fails, Failure, Frame, height, if_ok, Instruction, is_due, leaf, look, looked, MachineState, made_all, onward, Operand, operand, operand_code, outcome_then, place, Placed, reset, Restart, restarts_code, RunState, send, Sends, settle, Site, Store, TypeError, unscheduled, Value, value, value_if_any, with_operand, with_operand_value, without}
 use Rattle.ss_meaning.specs.Statements.{create_every, destroy, cancel, restart_each}
 use Rattle.ss_code_instructions.specs.Instructions as i
-use Rattle.ss_code_instructions.specs.Translation.{creates_code, restarts_code}
 use Rattle.ss_code_instructions.proofs.Steps.{Comes, Reaches, here, at, arrive}
 use Rattle.ss_code_instructions.proofs.Parts.{onwards, writes, step_leads, did_leads, Runs, same, done, none, seq, change_runs}
 use Rattle.ss_code_instructions.proofs.Operands.{held, reads, one_join}

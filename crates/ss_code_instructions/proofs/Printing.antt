@@ -1,18 +1,14 @@
 -- The code of PRINT: its items, of which means are looked at in their place, and its lines.
 use Rattle.std.proofs.Common.{◌≡◌, ℕ, suc, ◌+◌, false, List, [], ◌∷◌, ◌++◌, length, Option, Some, None, Ok, Err, ℤ, refl, sym, ap, ◌∙◌, subst, arith, map}
 use Rattle.std.specs.Prelude.{slice_get, Result as OkOr}
-use Rattle.ss_code_instructions.proofs.Common.{above, act, AMean, AMeanOf, AValue, cells_of_kinds, Code, core_at, did, Expression, expression_code, expression_mode, Fails, Failure, fit, Frame, height, if_ok, Integer, Is, is_due, Item, items_code, Line, lines_of_items, look, looked, Mean, mean, Moved, next, onward, outcome_then, place, Placed, printed, PrintItem, RunState, Sends, Site, Stays, Store, sure, turned, TypeError, Value, value, values_shown, with_cells}
-use Rattle.ss_meaning.specs.Expressions.{mean_shown, shown_items}
-use Rattle.ss_meaning.specs.Parts.{send}
+use Rattle.ss_code_instructions.proofs.Common.{act, AMean, AMeanOf, AValue, cells_of_kinds, Code, core_at, did, Expression, Fails, Failure, fit, Frame, if_ok, Integer, Is, is_due, Item, item_before, ItemKind, Line, Lines, look, looked, Mean, mean, mean_item, Moved, onward, outcome_then, Placed, print_lines, printed, PrintItem, RunState, send, Sends, ShowsMean, ShowsMeanOf, ShowsValue, Stays, Store, sure, turned, TypeError, Value, values_shown}
+use Rattle.ss_code_instructions.specs.Translation.{above, expression_code, expression_mode, height, items_code, lines_of_items, next, place, Site, with_cells, after_items, item_kind}
+use Rattle.ss_meaning.specs.Expressions.{value, mean_shown, shown_items}
 use Rattle.ss_meaning.specs.Statements.{print}
-use Rattle.ss_code_instructions.specs.Instructions.{ItemKind, ShowsValue, ShowsMean, ShowsMeanOf, Lines}
 use Rattle.ss_code_instructions.specs.Instructions as i
-use Rattle.ss_code_instructions.specs.Machine.{mean_item, item_before, print_lines}
-use Rattle.ss_code_instructions.specs.Translation.{after_items, item_kind}
 use Rattle.ss_code_instructions.proofs.Keeping.{Only, each, made_from}
 use Rattle.ss_code_instructions.proofs.Steps.{here, at}
-use Rattle.ss_code_instructions.proofs.Parts.{writes, step_leads, did_leads, at_end, Runs, same, done, put_on, onto, seq_look, alike, none, look_lands}
-use Rattle.ss_code_instructions.proofs.Parts.{above as above_cells}
+use Rattle.ss_code_instructions.proofs.Parts.{writes, step_leads, did_leads, at_end, Runs, same, done, put_on, onto, seq_look, alike, none, look_lands, above as above_cells}
 use Rattle.ss_code_instructions.proofs.Expressions.{value_runs}
 use Rattle.ss_code_instructions.proofs.Looking.{fit_did}
 use Rattle.ss_code_instructions.proofs.Members.{top_cell}

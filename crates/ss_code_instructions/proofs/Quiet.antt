@@ -1,11 +1,7 @@
 -- Making a notice leaves the variables, and what the program says.
 use Rattle.std.proofs.Common.{ℕ, ◌+◌, List, [], ◌∷◌, Ok, Err, ℤ, refl, ◌∙◌}
 use Rattle.std.specs.Prelude.{Result as OkOr}
-use Rattle.ss_code_instructions.proofs.Common.{all_noting, assigned, assigned_attribute, class_at, created, due, entity, Failure, get, is_single, Line, made_notice, made_one, noted, number_of, Store, Subject, timed, turned, Value, with_heap, with_histories, with_new}
-use Rattle.ss_program.specs.declared.sections.Subject.TheVariants.{OfAttribute}
-use Rattle.ss_meaning.specs.Entities.{field_at}
-use Rattle.ss_meaning.specs.Places.{is_of_mode}
-use Rattle.ss_meaning.specs.Events.{with_notice_time, endowed, prepared}
+use Rattle.ss_code_instructions.proofs.Common.{all_noting, assigned, assigned_attribute, class_at, created, due, endowed, entity, Failure, field_at, get, is_of_mode, is_single, Line, made_notice, made_one, noted, number_of, OfAttribute, prepared, Store, Subject, timed, turned, Value, with_heap, with_histories, with_new, with_notice_time}
 use Rattle.ss_code_instructions.proofs.Keeping.{Only, each, then_only, made, made_from, fitting}
 use Rattle.ss_code_instructions.proofs.Receiving.{Alike, Quietly, get_quietly}
 

@@ -1,19 +1,15 @@
 -- The code of a FOR over numbers, and over the entities of a permanent class.
 use Rattle.std.proofs.Common.{◌≡◌, ℕ, zero, suc, ◌+◌, ◌-◌, ◌≤◌, Bool, true, false, List, [], ◌∷◌, ◌++◌, length, Option, Some, None, Ok, Err, ℤ, pos, refl, sym, ap, ◌∙◌, subst, arith, length-append, append_assoc}
-use Rattle.std.proofs.lemmas.Bool.{ne_eqb}
+use Rattle.ss_code_instructions.proofs.Common.{above, act, back_if, cell_at, class_at, Code, Constant, core_at, did, Each, Expression, expression_code, Fails, Failure, for_code, forget_to, Frame, has_item, height, if_ok, Integer, is_permanent, Line, look, looked, MachineState, made_count, ne_eqb, next, next_item, number_loop, Numbers, onward_if, outcome_then, Part, past, place, Placed, RunState, Site, step_code, Store, take_code, Text, To, turned, turns_code, TypeError, unless_fault, unsigned, Value, value, value_if_any, Variable, where_fit, Whole}
 use Rattle.std.proofs.lemmas.Int.{ints}
 use Rattle.std.specs.Prelude.{slice_get, ◌^◌, int_le, int_lt, ◌+ℤ◌, ◌&&◌, Result as OkOr, if◌then◌else◌}
 use Rattle.std.specs.Int.{int_min}
 use Rattle.ss_base.specs.declared.fault.FaultKind.TheVariants.{LoopStep}
-use Rattle.ss_code_instructions.proofs.Common.{above, act, back_if, cell_at, class_at, Code, Constant, core_at, did, Each, EndsLoop, Expression, expression_code, Fails, Failure, for_code, forget_to, Frame, GoesOn, has_item, height, if_ok, indices, Integer, is_permanent, IsFound, Line, look, looked, MachineState, next, next_item, Numbers, onward_if, outcome_then, over, Part, past, place, Placed, range_of, RunState, Site, Store, take_code, Text, To, Turn, turned, turns_code, TypeError, unless_fault, unsigned, Value, value, value_if_any, Variable, visit, where_fit, Whole}
-use Rattle.ss_meaning.specs.Entities.{made_count}
-use Rattle.ss_meaning.specs.Loops.{greatest, Range, items_from, range_items, after_turn, over_items, step_number, range}
+use Rattle.ss_meaning.specs.Loops.{EndsLoop, GoesOn, indices, IsFound, over, range_of, Turn, visit, greatest, Range, items_from, range_items, after_turn, over_items, step_number, range}
 use Rattle.ss_code_instructions.specs.Instructions as i
-use Rattle.ss_code_instructions.specs.Translation.{number_loop, step_code}
 use Rattle.ss_code_instructions.proofs.Keeping.{Only}
 use Rattle.ss_code_instructions.proofs.Steps.{HasAt, has_front, has_back, Comes, Reaches, free, reaches_on, at, arrive, join}
-use Rattle.ss_code_instructions.proofs.Parts.{Within, within_on, at_the_height, Lands, same, done, put_on, seq_look, alike, look_lands}
-use Rattle.ss_code_instructions.proofs.Parts.{above as above_cells}
+use Rattle.ss_code_instructions.proofs.Parts.{Within, within_on, at_the_height, Lands, same, done, put_on, seq_look, alike, look_lands, above as above_cells}
 use Rattle.ss_code_instructions.proofs.Expressions.{value_runs}
 use Rattle.ss_code_instructions.proofs.Forgetting.{three_more, forget_run}
 use Rattle.ss_code_instructions.proofs.Members.{top_cell}

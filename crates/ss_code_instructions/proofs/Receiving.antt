@@ -1,12 +1,10 @@
 -- The code of a place that takes what an instruction leaves: READ and CREATE.
 use Rattle.std.proofs.Common.{◌≡◌, ℕ, ◌+◌, false, List, [], ◌∷◌, ◌++◌, length, Option, Some, None, Ok, Err, ℤ, refl, sym, ap, ◌∙◌, subst, arith, length-append, ◌⊎◌, inl, inr}
 use Rattle.std.specs.Prelude.{slice_get, Result as OkOr}
-use Rattle.ss_code_instructions.proofs.Common.{above, act, after, assigned_attribute, class_at, Clock, Code, Constant, core_at, count_code, CountedClass, created, deliver_with, did, due, entity, Expression, Fails, Failure, Fetch, fetched, Frame, get, give_to, Global, height, if_ok, InAttribute, InCount, InputTarget, Instruction, Integer, is_due, is_single, leaf, Line, Local, looked, looked_at, MachineState, made_one, Mode, Moved, next, onward, Operand, operand, operand_code, or_cell, outcome_then, Part, Place, place, Placed, read_value, RunState, Site, stay, Store, sure, Taken, ToAttribute, ToCount, ToVariable, turned, TypeError, Value, value, value_given, Variable, WentOn, with_input, with_new, with_operand_value, with_values, write}
-use Rattle.ss_meaning.specs.Parts.{settle_with}
-use Rattle.ss_meaning.specs.Statements.{read_each}
-use Rattle.ss_code_instructions.specs.Instructions.{Target as To}
+use Rattle.ss_code_instructions.proofs.Common.{above, act, after, assigned_attribute, class_at, Clock, Code, Constant, core_at, count_code, CountedClass, created, deliver_with, did, due, entity, Expression, Fails, Failure, Fetch, fetched, Frame, get, Global, height, if_ok, InAttribute, InCount, InputTarget, Integer, is_due, is_single, leaf, Line, Local, looked, looked_at, MachineState, made_one, Mode, Moved, next, onward, operand, operand_code, or_cell, outcome_then, Part, Place, place, reads_code, RunState, settle_with, Site, stay, Store, sure, to_place_code, ToAttribute, ToCount, ToVariable, turned, TypeError, Value, value, value_given, Variable, WentOn, with_new, with_operand_value, with_values, write}
+use Rattle.ss_code_instructions.specs.Instructions.{Instruction, Operand, Placed, Taken, Target as To}
+use Rattle.ss_meaning.specs.Statements.{give_to, read_value, with_input, read_each}
 use Rattle.ss_code_instructions.specs.Instructions as i
-use Rattle.ss_code_instructions.specs.Translation.{to_place_code, reads_code}
 use Rattle.ss_code_instructions.proofs.Keeping.{Only, Says, made, fitting}
 use Rattle.ss_code_instructions.proofs.Steps.{HasAt, has_front, has_back, Reaches, at, arrive, join, join_known}
 use Rattle.ss_code_instructions.proofs.Parts.{onwards, step_leads, did_leads, at_the_height, Runs, same, done, went, seq, none}

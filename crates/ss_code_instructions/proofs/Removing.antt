@@ -1,13 +1,9 @@
 -- The code of REMOVE, REMOVE FIRST and REMOVE LAST.
 use Rattle.std.proofs.Common.{◌≡◌, ℕ, ◌+◌, List, [], ◌∷◌, ◌++◌, length, Option, Ok, Err, ℤ, refl, sym, subst, arith, length-append}
 use Rattle.std.specs.Prelude.{Result as OkOr}
-use Rattle.ss_code_instructions.proofs.Common.{after_bearer, all_noting, bearer, bearer_code, Code, core_at, deliver_with, due, End, Expression, expression_of, Fails, Failure, Frame, get, give_to, height, Integer, Line, look, looked, MachineState, member, Moved, onward, outcome_then, owner_number, owner_value, Part, Place, place, Placed, recounted, removed_at, removed_from, RunState, SetOwner, settle, Site, State, Store, TypeError, Value, WentOn, Whole, with_heap, with_histories, with_owner}
-use Rattle.ss_world.specs.Sets.{count_in}
-use Rattle.ss_program.specs.declared.sections.Subject.TheVariants.{OfCount}
-use Rattle.ss_meaning.specs.Sets.{end_removed}
-use Rattle.ss_meaning.specs.Statements.{remove, remove_end}
+use Rattle.ss_code_instructions.proofs.Common.{after_bearer, all_noting, bearer, bearer_code, Code, core_at, count_in, deliver_with, due, End, end_removed, Expression, expression_of, Fails, Failure, Frame, get, height, Integer, Line, look, looked, MachineState, member, Moved, OfCount, onward, outcome_then, owner_number, owner_value, Part, Place, place, Placed, recounted, remove_code, remove_end_code, removed_at, removed_from, RunState, SetOwner, settle, Site, State, Store, TypeError, Value, WentOn, Whole, with_heap, with_histories, with_owner}
+use Rattle.ss_meaning.specs.Statements.{give_to, remove, remove_end}
 use Rattle.ss_code_instructions.specs.Instructions as i
-use Rattle.ss_code_instructions.specs.Translation.{remove_code, remove_end_code}
 use Rattle.ss_code_instructions.proofs.Keeping.{Only, each, made, made_from}
 use Rattle.ss_code_instructions.proofs.Steps.{Comes, Reaches, here, at, arrive}
 use Rattle.ss_code_instructions.proofs.Parts.{Leads, onwards, step_leads, Runs, same, done, then_then}

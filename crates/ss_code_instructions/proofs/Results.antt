@@ -1,13 +1,12 @@
 -- What a routine yields goes to places.
 use Rattle.std.proofs.Common.{◌≡◌, ℕ, suc, ◌+◌, false, List, [], ◌∷◌, ◌++◌, length, Option, Some, None, Ok, Err, ℤ, refl, ap, ◌∙◌, subst, arith, length-append}
 use Rattle.std.specs.Prelude.{Result as OkOr}
-use Rattle.ss_code_instructions.proofs.Common.{above, after, assigned_attribute, change, Code, CountedClass, entity, Expression, Fails, Failure, give_to, gives_code, height, if_ok, InAttribute, Integer, leaf, Line, looked, looked_at, MachineState, Mode, Moved, Operand, operand, operand_code, or_cell, outcome_then, Place, place, Placed, results_cells, RunState, settle, Site, Store, Taken, ToAttribute, ToCount, ToVariable, turned, TypeError, Value, value, Variable, WentOn, with_operand_value, with_values, write}
-use Rattle.ss_meaning.specs.Statements.{give_each}
+use Rattle.ss_code_instructions.proofs.Common.{assigned_attribute, change, Code, CountedClass, entity, Expression, Fails, Failure, if_ok, InAttribute, Integer, Line, looked, looked_at, MachineState, Mode, Moved, Operand, outcome_then, Place, Placed, RunState, settle, Store, Taken, ToAttribute, ToCount, ToVariable, turned, TypeError, Value, value, Variable, WentOn, with_operand_value, with_values, write}
+use Rattle.ss_code_instructions.specs.Translation.{above, after, gives_code, height, leaf, operand, operand_code, or_cell, place, results_cells, Site, place_mode, with_results, give_code}
+use Rattle.ss_meaning.specs.Statements.{give_to, give_each}
 use Rattle.ss_code_instructions.specs.Instructions as i
-use Rattle.ss_code_instructions.specs.Translation.{place_mode, with_results, give_code}
 use Rattle.ss_code_instructions.proofs.Steps.{Reaches, at, arrive}
-use Rattle.ss_code_instructions.proofs.Parts.{at_the_height, Runs, done, put_on, seq, none}
-use Rattle.ss_code_instructions.proofs.Parts.{above as above_cells}
+use Rattle.ss_code_instructions.proofs.Parts.{at_the_height, Runs, done, put_on, seq, none, above as above_cells}
 use Rattle.ss_code_instructions.proofs.Operands.{held, leaf_reads, leaf_low, one_join}
 use Rattle.ss_code_instructions.proofs.Expressions.{evaluates}
 use Rattle.ss_code_instructions.proofs.Assigning.{assigns, count_run}

@@ -1,12 +1,9 @@
 -- The code of SCHEDULE.
 use Rattle.std.proofs.Common.{◌≡◌, ℕ, suc, ◌+◌, ◌-◌, false, true, List, [], ◌∷◌, ◌++◌, length, Option, Some, None, Ok, ℤ, refl, sym, ap, ◌∙◌, subst, arith, length-append}
-use Rattle.std.specs.Prelude.{slice_get}
-use Rattle.ss_code_instructions.proofs.Common.{above, after, after_values, assigned_attribute, change, Code, core_at, count_code, CountedClass, deliver_with, did, entity_code, Expression, expression_mode, fetched, filed_notice, fit, forget_to, Frame, get, height, Held, if_ok, InAttribute, InCount, Integer, InVariable, leaf, look, MachineState, made_notice, Moved, next, number_of, onward, Operand, operand, or_in_cell, or_zero, outcome_then, Part, Place, place, Placed, rescheduled, RunState, settle, Site, stay, Stays, Store, Taken, Target, ToAttribute, ToCount, ToVariable, Value, value, values, values_code, Variable, variable_code, When, when_code, Whole, with_cells, with_operand_value, with_values, write}
-use Rattle.ss_meaning.specs.Places.{Spot}
-use Rattle.ss_meaning.specs.Expressions.{entity_value, time_value}
+use Rattle.ss_code_instructions.proofs.Common.{above, after, after_values, change, Code, core_at, count_code, CountedClass, deliver_with, did, entity_code, entity_value, Expression, expression_mode, fetched, filed_notice, fit, forget_to, Frame, get, height, Held, if_ok, Integer, leaf, look, MachineState, made_notice, Moved, next, number_of, onward, Operand, operand, or_in_cell, or_zero, outcome_then, Part, Place, place, Placed, rescheduled, RunState, schedule_code, schedule_new_code, settle, Site, slice_get, stay, Stays, Store, Taken, Target, time_value, ToAttribute, ToCount, ToVariable, Value, value, values, values_code, Variable, variable_code, When, when_code, Whole, with_cells, with_operand_value, with_values, write}
+use Rattle.ss_meaning.specs.Places.{assigned_attribute, InAttribute, InCount, InVariable, Spot}
 use Rattle.ss_meaning.specs.Statements.{schedule_new, schedule}
 use Rattle.ss_code_instructions.specs.Instructions as i
-use Rattle.ss_code_instructions.specs.Translation.{schedule_new_code, schedule_code}
 use Rattle.ss_code_instructions.proofs.Steps.{HasAt, has_front, has_back, Comes, Reaches, here, at, arrive, join, join_known, follow}
 use Rattle.ss_code_instructions.proofs.Parts.{onwards, step_leads, did_leads, at_the_height, Runs, same, done, onto, went, turned_then}
 use Rattle.ss_code_instructions.proofs.Operands.{on, Tops, put_then, delivers, held, held_height, reads}

@@ -1,22 +1,15 @@
 -- A step of code that has shape leads from a state that suits its place to another one, and the machine is not stuck there.
 use Rattle.std.proofs.Common.{◌≡◌, ℕ, zero, suc, ◌+◌, ◌-◌, Bool, true, false, List, [], ◌∷◌, ◌++◌, length, Option, Some, None, Ok, Err, ℤ, refl, sym, ap, ◌∙◌, subst, arith}
 use Rattle.std.specs.Prelude.{slice_get, take, map, replicate, not, is_some, nat_lt, pos, negsuc, ◌+ℤ◌, Result as OkOr, if◌then◌else◌}
-use Rattle.std.specs.List.{AllZip}
-use Rattle.std.specs.Option.{option_map}
+use Rattle.ss_code_instructions.proofs.Common.{act, after_one_step, AllZip, AnEvent, appended, AreOfModes, ARoutine, assignable_count, assigned_attribute, assigned_variable, AtTime, attribute, begin_walk, Breaks, Called, cell_at, cells_of_kinds, changed_attribute, class_at, ClassLayout, clock, Code, code_of, Coming, coming_with, Core, core_at, deliver, deliver_with, did, Done, enter, entity, EntryPoint, Event, event_begun, field_mode, figure, filed_notice, first_fits, first_values, fit, Frame, front, Goes, has_item, has_next, indices, Instruction, Is, is_awaited, is_due, is_ended, is_made, is_permanent, IsFittingStore, IsSet, IsWellTyped, Item, item_before, ItemKind, Later, leave, Line, MachineState, made_all, made_count, made_notice, made_one, Mean, mean, mean_item, Mode, Moved, next_event, next_item, NoStep, not_if, onward, opened, option_map, Over, Placed, prepended, print_lines, Program, range_of, read_value, rescheduled, reset, Rest, Sends, ShowsMean, ShowsMeanOf, ShowsValue, Sign, start, step, step_at, Stepped, steps, Store, Stuck, take_event, take_next, take_off, taken_by_modes, TakenOff, Target, Text, time_at, time_of, To, Underway, unscheduled, unsigned, Value, value_given, values_shown, Walk, walk_at, walk_cells, walk_further, when_due, Whole, with_block, with_input, with_rest, without, yielded}
 use Rattle.ss_base.specs.declared.fault.FaultKind.TheVariants.{CreatedTwice, BadCount}
-use Rattle.ss_code_instructions.proofs.Common.{act, after_one_step, AnEvent, applied, AreFoundAt, ARoutine, assignable_count, assigned_attribute, assigned_variable, AtTime, attribute, begun, begun_at, Breaks, calculated, Called, cell_at, cells_of_kinds, changed_attribute, class_at, ClassLayout, clock, Code, code_of, Coming, Core, core_at, deliver, deliver_with, did, Done, due, empty_lines, enter, entity, EntryPoint, Event, event_begun, Fails, Failure, figure, filed_in, filed_notice, fit, Frame, Goes, goes_on, has_item, has_next, if_ok, indices, Instruction, Integer, Is, is_awaited, is_due, is_empty, is_ended, is_in, is_none, is_permanent, IsFitForCode, IsFittingStore, IsSuited, IsWellTyped, Item, known_owner, Later, leave, Line, MachineState, made_all, made_notice, made_one, Mean, mean, member, Mode, mode_of, Moved, next_event, next_item, NoStep, not_if, number_of, of_member, of_set, onward, opened, operator_of, Over, Placed, printed, Program, range_of, read_value, related, removed_at, removed_from, rescheduled, reset, Rest, same_mode, Sends, Sign, start, step, step_at, Stepped, steps, Store, Stuck, take_event, take_next, take_off, TakenOff, Target, Text, time_at, time_of, To, turned, TypeError, Underway, unless_fault, unscheduled, unsigned, Value, value_given, values_shown, Walk, walk_at, walk_cells, walk_further, when_due, Whole, with_block, with_input, with_rest, without, yielded}
-use Rattle.ss_base.specs.declared.layout.Mode.TheVariants.{Alpha}
-use Rattle.ss_base.specs.Layout.{first_value}
+use Rattle.ss_base.specs.Layout.{mode_of, first_value}
+use Rattle.ss_base.specs.declared.layout.Mode.TheVariants.{Integer, Alpha}
+use Rattle.ss_code_instructions.specs.Shape.{AreFoundAt, IsFitForCode, IsSuited, AreGivenModes, AreFitForItems, IsOfKind, IsDeliveringTo, HasEntryShape, IsShaped, AreFitFrames}
+use Rattle.ss_meaning.specs.Sets.{begun, begun_at, filed_in, goes_on, is_empty, is_in, is_none, known_owner, member, of_member, of_set, removed_at, removed_from, coming as coming_in}
+use Rattle.ss_meaning.specs.Values.{applied, calculated, due, empty_lines, Fails, Failure, if_ok, number_of, operator_of, printed, related, same_mode, turned, TypeError, unless_fault, line_end}
 use Rattle.ss_base.specs.declared.words.Relation.{Relation}
-use Rattle.ss_program.specs.WellTyped.{IsSet, field_mode}
 use Rattle.ss_meaning.specs.PendingList.{least_event}
-use Rattle.ss_meaning.specs.State.{is_made}
-use Rattle.ss_meaning.specs.Values.{line_end}
-use Rattle.ss_meaning.specs.Store.{first_values, prepended, taken_by_modes, appended, front}
-use Rattle.ss_meaning.specs.Entities.{made_count}
-use Rattle.ss_meaning.specs.Sets.{coming as coming_in}
-use Rattle.ss_meaning.specs.Events.{coming_with}
-use Rattle.ss_meaning.specs.Fitting.{AreOfModes}
 use Rattle.ss_meaning.proofs.Fine.{Fine, There, Any, fine_then, fine_turned, fine_weaker, any_due, fit_fine, unless_fine}
 use Rattle.ss_meaning.proofs.Kept.{number_fine}
 use Rattle.ss_meaning.proofs.Entities.{permanent_here, entity_fine, attribute_fine, time_of_fine, made_one_fine, made_all_fine, without_fine, variable_fine, attribute_assigned_fine}
@@ -24,11 +17,7 @@ use Rattle.ss_meaning.proofs.Sets.{set_of, member_fine, known_owner_fine, is_emp
 use Rattle.ss_meaning.proofs.Events.{FieldsAre, fields_are, time_at_fine, made_notice_fine, filed_notice_fine, rescheduled_fine, unscheduled_fine, ComingAs, next_event_there, BegunAs, begun_fine}
 use Rattle.ss_meaning.proofs.Expressions.{calculated_fine, applied_fine, asked_alone, asked_of}
 use Rattle.ss_meaning.proofs.Statements.{held_length, range_of_fine, word_fine, input_fits}
-use Rattle.ss_meaning.proofs.Whole.{first_fits}
-use Rattle.ss_code_instructions.specs.Instructions.{ItemKind, ShowsValue, ShowsMean, ShowsMeanOf}
 use Rattle.ss_code_instructions.specs.Instructions as i
-use Rattle.ss_code_instructions.specs.Machine.{begin_walk, mean_item, item_before, print_lines}
-use Rattle.ss_code_instructions.specs.Shape.{AreGivenModes, AreFitForItems, IsOfKind, IsDeliveringTo, HasEntryShape, IsShaped, AreFitFrames}
 use Rattle.ss_code_instructions.specs.Laws.{ShapeStays, StatesSuit, NeverStuck}
 use Rattle.ss_code_instructions.proofs.ShapingPrograms.{has_shape}
 use Rattle.ss_code_instructions.proofs.Valued.{cell_there, owner_ok, asked, GoesWell, fit_well, did_well, height_well, number_well, block_well, loop_well, walk_well, value_well, both_well, bearer_well, position_well, goes_to, ways_well, back_well, delivered_well, deliver_well}

@@ -1,18 +1,15 @@
 -- The code of expressions, references and conditions has shape.
 use Rattle.std.proofs.Common.{◌≡◌, ℕ, suc, ◌+◌, Bool, true, false, List, [], ◌∷◌, ◌++◌, length, Option, Some, None, refl, sym, ap, ◌∙◌, subst, arith}
-use Rattle.std.specs.Prelude.{slice_get, pos}
+use Rattle.ss_code_instructions.proofs.Common.{after, alternatives_code, Attribute, Calculate, ClassLayout, Clock, Code, Compare, Condition, condition_code, Constant, DataEnded, Empty, Entity, entity_code, Expression, expression_code, expression_mode, expression_of, Fetch, Figure, FigureOf, Global, Guard, guard_code, GuardKind, guards_code, Integer, leaf, lies_above, Line, Local, looked_code, may_fault, Member, member_code, Mode, negated_code, next, OfMember, OfSet, OfSystemSet, operand, operand_cells, operand_code, operator_of, option_map, or_cell, or_in_cell, or_integer, place, pos, Program, SetLayout, SetOwner, Signed, Site, slice_get, stay, Test, test_code, tests_code, TheSystem, TimeOf, Unary, unless_leaf, values_cells, values_code, Variable, Whole, with_operand, with_owner}
 use Rattle.std.specs.List.{AllByRecursion as Every}
-use Rattle.std.specs.Option.{option_map}
-use Rattle.ss_code_instructions.proofs.Common.{after, AreFoundAt, Attribute, Bearer, Calculate, ClassLayout, Clock, Code, Compare, Condition, condition_code, Constant, DataEnded, Empty, Entity, entity_code, Expression, expression_code, expression_mode, expression_of, Fetch, Figure, FigureOf, Global, Guard, GuardKind, guards_code, HasMode, Instruction, Integer, IsAccepting, IsGivingBearer, IsGivingMode, IsSuited, IsTypedOwner, leaf, lies_above, Line, Local, looked_code, may_fault, Member, Mode, mode_at, modes_onto, next, OfMember, OfSet, OfSystemSet, Operand, operand, operand_cells, operand_code, operator_of, or_cell, or_in_cell, place, Placed, Program, SetLayout, SetOwner, Signed, Site, stay, Taken, Test, TheSystem, TimeOf, TypedScope, Unary, values_cells, values_code, Variable, Whole, with_operand, with_owner}
+use Rattle.ss_code_instructions.specs.Instructions.{Bearer, Instruction, Operand, Placed, Taken, Target as To}
+use Rattle.ss_code_instructions.specs.Shape.{AreFoundAt, IsAccepting, IsGivingBearer, IsGivingMode, IsSuited, modes_onto, AreGivingBy, AreGivingBoth, IsSetBearer as BearerFits}
+use Rattle.ss_program.specs.WellTyped.{HasMode, IsTypedOwner, mode_at, TypedScope, field_mode, fields_of, owner_of_set, IsSet, HaveModes, IsTypedTest, IsTypedCondition}
 use Rattle.ss_base.specs.declared.layout.Owner.{Owner}
 use Rattle.ss_base.specs.declared.layout.Owner.TheVariants.{System, Class}
 use Rattle.ss_base.specs.declared.words.GuardKind.TheVariants as guards
-use Rattle.ss_program.specs.WellTyped.{field_mode, fields_of, owner_of_set, IsSet, HaveModes, IsTypedTest, IsTypedCondition}
 use Rattle.ss_meaning.proofs.Entities.{field_said}
-use Rattle.ss_code_instructions.specs.Instructions.{Target as To}
 use Rattle.ss_code_instructions.specs.Instructions as i
-use Rattle.ss_code_instructions.specs.Shape.{AreGivingBy, AreGivingBoth, IsSetBearer as BearerFits}
-use Rattle.ss_code_instructions.specs.Translation.{or_integer, unless_leaf, member_code, test_code, tests_code, alternatives_code, negated_code, guard_code}
 use Rattle.ss_code_instructions.proofs.Operands.{leaf_low, not_above}
 use Rattle.ss_code_instructions.proofs.Changing.{next_above, under_none}
 use Rattle.ss_code_instructions.proofs.Stacked.{under_cell}

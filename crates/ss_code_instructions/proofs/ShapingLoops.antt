@@ -3,13 +3,12 @@ use Rattle.std.proofs.Common.{◌≡◌, ℕ, zero, suc, ◌+◌, ◌-◌, Bool,
 use Rattle.std.specs.Prelude.{pos, if◌then◌else◌}
 use Rattle.std.specs.List.{AllByRecursion as Every}
 use Rattle.std.specs.Option.{IfSome}
-use Rattle.ss_code_instructions.proofs.Common.{After, AtEnd, Bearer, cell_at, Code, Condition, Each, Entity, Expression, expression_code, for_code, forget, forget_to, From, Guard, guards_code, HasMode, HasOnTop, Head, in_loop, Instruction, Integer, IsDueAt, IsGivingBearer, IsSuited, IsTypedOwner, IsWellTyped, Line, Members, Mode, mode_at, next, Numbers, owner_code, owner_kept, Phrase, PhraseKind, phrases_code, place, Placed, Program, SetOwner, Site, Start, TheSystem, turns_code, TypedScope, Variable, walk_loop, Whole}
+use Rattle.ss_code_instructions.proofs.Common.{After, AtEnd, Bearer, cell_at, Code, Condition, Each, Entity, Expression, From, Guard, Head, Instruction, Integer, is_watched, Line, Members, Mode, Numbers, Phrase, PhraseKind, Placed, Program, SetOwner, Start, TheSystem, Variable, Whole}
+use Rattle.ss_code_instructions.specs.Shape.{HasOnTop, IsDueAt, IsGivingBearer, IsSuited, loop_modes, walk_modes, IsSetBearer as BearerFits}
+use Rattle.ss_code_instructions.specs.Translation.{expression_code, for_code, forget, forget_to, guards_code, in_loop, next, owner_code, owner_kept, phrases_code, place, Site, turns_code, walk_loop, if_code, loop_code, phrase_code, owner_cells, loop_cells, step_code, range_code, start_code, begin_code, find_code}
+use Rattle.ss_program.specs.WellTyped.{HasMode, IsTypedOwner, IsWellTyped, mode_at, TypedScope, IsTypedCondition, IsTypedStart, IsTypedHead, IsTypedPhrase}
 use Rattle.ss_base.specs.declared.words.PhraseKind.TheVariants as kinds
-use Rattle.ss_program.specs.WellTyped.{IsTypedCondition, IsTypedStart, IsTypedHead, IsTypedPhrase}
 use Rattle.ss_code_instructions.specs.Instructions as i
-use Rattle.ss_code_instructions.specs.Facts.{is_watched}
-use Rattle.ss_code_instructions.specs.Shape.{loop_modes, walk_modes, IsSetBearer as BearerFits}
-use Rattle.ss_code_instructions.specs.Translation.{if_code, loop_code, phrase_code, owner_cells, loop_cells, step_code, range_code, start_code, begin_code, find_code}
 use Rattle.ss_code_instructions.proofs.Forgetting.{two_more, three_more}
 use Rattle.ss_code_instructions.proofs.Stacked.{under_cell}
 use Rattle.ss_code_instructions.proofs.Suiting.{Shapes, seq, none, one, put_before, lead, ending, keep, looped, moved}

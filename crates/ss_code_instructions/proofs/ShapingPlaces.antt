@@ -2,16 +2,12 @@
 use Rattle.std.proofs.Common.{◌≡◌, ℕ, ◌+◌, Bool, true, false, List, [], ◌∷◌, ◌++◌, length, Some, refl, sym, ap, ◌∙◌, subst}
 use Rattle.std.specs.Prelude.{Contains, if◌then◌else◌}
 use Rattle.std.specs.List.{AllByRecursion as Every, AllZip}
-use Rattle.ss_code_instructions.proofs.Common.{AreFoundAt, CanTakeMode, change_code, Clock, Code, count_code, CountedClass, Expression, expression_code, gives_code, Global, HasMode, InputTarget, Integer, IsAccepting, IsGivingMode, IsSuited, IsWellTyped, let_code, Line, Local, Mode, mode_at, must_look, next, OfVariable, Operand, operand, operand_cells, operator_of, Place, place, Placed, Program, results_cells, Sign, Site, Subject, Taken, ToAttribute, ToCount, ToVariable, TypedScope, Variable, variable_code, with_operand}
-use Rattle.ss_program.specs.declared.sections.Statistic.{Statistic}
-use Rattle.ss_program.specs.WellTyped.{IsTypedSubject, IsTypedCount}
-use Rattle.ss_meaning.specs.Histories.{same_subject}
+use Rattle.ss_code_instructions.proofs.Common.{AreFoundAt, assignment, change_code, Clock, Code, count_code, CountedClass, Expression, expression_code, give_code, gives_code, Global, InputTarget, Integer, is_watched, IsAccepting, IsGivingMode, IsSuited, let_code, Line, Local, Mode, must_look, next, OfVariable, operand, operand_cells, operator_of, or_integer, Place, place, place_mode, Program, reads_code, results_cells, same_subject, Sign, Site, Statistic, Subject, to_place_code, ToAttribute, ToCount, ToVariable, Variable, variable_code, watch, with_operand}
+use Rattle.ss_code_instructions.specs.Instructions.{Operand, Placed, Taken, Target as To}
+use Rattle.ss_program.specs.WellTyped.{CanTakeMode, HasMode, IsWellTyped, mode_at, TypedScope, IsTypedSubject, IsTypedCount}
 use Rattle.ss_meaning.proofs.Kept.{same_subject_is}
 use Rattle.ss_meaning.proofs.Entities.{count_said}
-use Rattle.ss_code_instructions.specs.Instructions.{Target as To}
 use Rattle.ss_code_instructions.specs.Instructions as i
-use Rattle.ss_code_instructions.specs.Facts.{watch, is_watched}
-use Rattle.ss_code_instructions.specs.Translation.{or_integer, place_mode, assignment, to_place_code, reads_code, give_code}
 use Rattle.ss_code_instructions.proofs.Operands.{not_above}
 use Rattle.ss_code_instructions.proofs.Suiting.{Shapes, seq, none, one, put_before, lead}
 use Rattle.ss_code_instructions.proofs.Shaping.{class_known, here, view, site, Onward, same_mode_at, cell_gives, gives, second_first, both_gives, over_cell, turned_gives, expression_shapes, operand_shapes, operand_then, entity_shapes}

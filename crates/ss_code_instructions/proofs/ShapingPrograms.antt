@@ -1,13 +1,10 @@
 -- The code of a well-typed program has shape.
 use Rattle.std.proofs.Common.{◌≡◌, ℕ, ◌+◌, Bool, true, false, List, [], ◌∷◌, ◌++◌, length, Option, Some, None, refl, sym, ap, subst, arith}
-use Rattle.std.specs.Prelude.{slice_get}
+use Rattle.ss_code_instructions.proofs.Common.{all_events, all_routines, Block, block_prints, Code, code_of, EntryPoint, Event, event_code, event_entry, events_code, events_prints, HasShape, main_code, main_prints, Mode, Placed, prints_before_events, Program, Routine, routine_code, routine_entry, routines_code, routines_prints, section_code, slice_get}
 use Rattle.std.specs.List.{AllByRecursion as Every}
-use Rattle.ss_code_instructions.proofs.Common.{all_events, all_routines, AreFoundAt, Block, block_prints, Code, code_of, EntryPoint, Event, IsSuited, IsWellTyped, main_code, Mode, Placed, Program, Routine, routine_entry, section_code}
-use Rattle.ss_program.specs.WellTyped.{IsTypedBlock, IsTypedRoutine, IsTypedEvent}
+use Rattle.ss_code_instructions.specs.Shape.{AreFoundAt, IsSuited, HasEntryShape, IsServed, IsShaped}
+use Rattle.ss_program.specs.WellTyped.{IsWellTyped, IsTypedBlock, IsTypedRoutine, IsTypedEvent}
 use Rattle.ss_meaning.proofs.Lists.{every_get}
-use Rattle.ss_code_instructions.specs.Shape.{HasEntryShape, IsServed, IsShaped}
-use Rattle.ss_code_instructions.specs.Laws.{HasShape}
-use Rattle.ss_code_instructions.specs.Translation.{routine_code, event_code, routines_code, events_code, routines_prints, events_prints, event_entry, main_prints, prints_before_events}
 use Rattle.ss_code_instructions.proofs.Steps.{HasAt, has_front, has_back}
 use Rattle.ss_code_instructions.proofs.Entering.{RoutineAt, EventAt, Linked}
 use Rattle.ss_code_instructions.proofs.Whole.{sections, later_prints, program_linked, main_here, after_main, all_prints, prints_after}

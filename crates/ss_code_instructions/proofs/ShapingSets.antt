@@ -3,17 +3,14 @@ use Rattle.std.proofs.Common.{◌≡◌, ℕ, suc, ◌-◌, Bool, true, List, []
 use Rattle.std.proofs.lemmas.Bool.{eq-eqb, le-leb}
 use Rattle.std.specs.Prelude.{slice_get, take, map, ◌&&◌, is_some, Contains, if◌then◌else◌}
 use Rattle.std.specs.List.{AllByRecursion as Every, AllZip}
-use Rattle.ss_code_instructions.proofs.Common.{after_bearer, AMean, AMeanOf, AValue, bearer, bearer_code, CanTakeMode, Code, CountedClass, Discipline, End, Expression, expression_mode, expression_of, FilingPlace, forget, forget_to, HasMode, HasOnTop, In, Integer, Is, IsAccepting, IsGivingMode, IsTypedOwner, IsWellTyped, Item, items_code, leaf, Line, lines_of_items, may_fault, Mean, Mode, modes_onto, next, Now, Operand, operand, operand_cells, or_in_cell, Place, place, Placed, Position, PrintItem, Program, Restart, SetOwner, Site, stay, ToAttribute, ToCount, ToVariable, TypedScope, values_cells, When, when_code, with_owner}
-use Rattle.ss_base.specs.declared.layout.ClassKind.TheVariants.{Notice}
+use Rattle.ss_code_instructions.proofs.Common.{AreFitForItems, AreGivenModes, CanBePrinted, Code, CountedClass, Discipline, End, expression_of, HasOnTop, Integer, Is, IsAccepting, IsGivingMode, IsGivingPosition, IsOfKind, Item, Line, may_fault, Mean, Mode, modes_onto, needs_look, neighbour_of, Notice}
+use Rattle.ss_code_instructions.specs.Instructions.{FilingPlace, Operand, Placed, Target as To}
+use Rattle.ss_code_instructions.specs.Translation.{after_bearer, bearer, bearer_code, expression_mode, forget, forget_to, items_code, leaf, lines_of_items, next, operand, operand_cells, or_in_cell, place, Site, stay, values_cells, when_code, with_owner, filing_by, beside_code, filing_place, file_code, remove_code, remove_end_code, creates_code, place_code, place_cells, notice_code, schedule_new_code, schedule_code, restarts_code, item_code, item_cells, items_cells, item_kind}
+use Rattle.ss_program.specs.Program.{AMean, AMeanOf, AValue, Expression, In, Now, Place, Position, PrintItem, Program, Restart, SetOwner, ToAttribute, ToCount, ToVariable, When, ByDiscipline, AsFirst, AsLast, BeforeMember, AfterMember, At as AtTime}
+use Rattle.ss_program.specs.WellTyped.{CanTakeMode, HasMode, IsTypedOwner, IsWellTyped, TypedScope, kind_of_class, IsTypedPosition, IsTypedWhen, AreTypedGiven, IsTypedRestart, CanTakeItem, IsTypedPrint, HasSubject, IsAlone, IsOfEntities}
 use Rattle.ss_base.specs.declared.layout.Discipline.TheVariants as disciplines
-use Rattle.ss_program.specs.Program.{ByDiscipline, AsFirst, AsLast, BeforeMember, AfterMember, At as AtTime}
-use Rattle.ss_program.specs.WellTyped.{kind_of_class, IsTypedPosition, IsTypedWhen, AreTypedGiven, IsTypedRestart, CanTakeItem, IsTypedPrint, HasSubject, IsAlone, IsOfEntities}
 use Rattle.ss_meaning.specs.Values.{lines_with, takes, take_all}
-use Rattle.ss_code_instructions.specs.Instructions.{Target as To}
 use Rattle.ss_code_instructions.specs.Instructions as i
-use Rattle.ss_code_instructions.specs.Facts.{needs_look, neighbour_of}
-use Rattle.ss_code_instructions.specs.Shape.{IsGivingPosition, AreGivenModes, AreFitForItems, IsOfKind, CanBePrinted}
-use Rattle.ss_code_instructions.specs.Translation.{filing_by, beside_code, filing_place, file_code, remove_code, remove_end_code, creates_code, place_code, place_cells, notice_code, schedule_new_code, schedule_code, restarts_code, item_code, item_cells, items_cells, item_kind}
 use Rattle.ss_code_instructions.proofs.Changing.{next_above}
 use Rattle.ss_code_instructions.proofs.Stacked.{under_cell}
 use Rattle.ss_code_instructions.proofs.Leaves.{stay_low}

@@ -1,13 +1,11 @@
 -- The code of statements and of blocks has shape.
 use Rattle.std.proofs.Common.{◌≡◌, ℕ, ◌+◌, ◌-◌, Bool, List, [], ◌∷◌, ◌++◌, length, Option, Some, None, refl, sym, ap, ◌∙◌, subst, arith}
-use Rattle.std.specs.Prelude.{slice_get, take}
+use Rattle.ss_code_instructions.proofs.Common.{block_code, block_prints, Code, EntryPoint, gives_code, Integer, items_cells, items_code, Line, lines_of_items, loop_cells, Mode, no_line, place, Placed, results_cells, routine_entry, section_code, Site, slice_get, statement_code, statement_prints, take, values_cells, values_code}
 use Rattle.std.specs.List.{AllByRecursion as Every, AllZip}
-use Rattle.ss_code_instructions.proofs.Common.{AreFoundAt, Block, block_code, block_prints, Call, Cancel, CanTakeMode, Change, Code, Create, CreateEvery, Destroy, Each, Entity, EntryPoint, Expression, File, Find, For, gives_code, Head, If, Integer, IsDueAt, IsSuited, IsWellTyped, items_code, Let, Line, lines_of_items, Loop, Members, Mode, Numbers, Place, place, Placed, Print, PrintItem, Program, Read, Remove, RemoveEnd, Reset, results_cells, Return, Routine, routine_entry, Schedule, ScheduleNew, section_code, Simulate, Site, Skip, Statement, statement_prints, Stop, Then, TheSystem, TypedScope, values_cells, values_code}
-use Rattle.ss_program.specs.Program.{Done}
-use Rattle.ss_program.specs.WellTyped.{HaveModes, IsTypedCall, IsTypedStatement, IsTypedBlock}
+use Rattle.ss_code_instructions.specs.Shape.{AreFoundAt, IsDueAt, IsSuited, HasOnTop as CellBlock, CanBePrinted}
+use Rattle.ss_program.specs.Program.{Block, Call, Cancel, Change, Create, CreateEvery, Destroy, Each, Entity, Expression, File, Find, For, Head, If, Let, Loop, Members, Numbers, Place, Print, PrintItem, Program, Read, Remove, RemoveEnd, Reset, Return, Routine, Schedule, ScheduleNew, Simulate, Skip, Statement, Stop, Then, TheSystem, Done}
+use Rattle.ss_program.specs.WellTyped.{CanTakeMode, IsWellTyped, TypedScope, HaveModes, IsTypedCall, IsTypedStatement, IsTypedBlock}
 use Rattle.ss_code_instructions.specs.Instructions as i
-use Rattle.ss_code_instructions.specs.Shape.{HasOnTop as CellBlock, CanBePrinted}
-use Rattle.ss_code_instructions.specs.Translation.{loop_cells, items_cells, no_line, statement_code}
 use Rattle.ss_code_instructions.proofs.Steps.{HasAt, has_front, has_back}
 use Rattle.ss_code_instructions.proofs.Entering.{RoutineAt, Linked}
 use Rattle.ss_code_instructions.proofs.Suiting.{Shapes, seq, none, one, put_before, lead, looped}

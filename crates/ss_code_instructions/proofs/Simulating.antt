@@ -1,11 +1,10 @@
 -- The code of START SIMULATION, of RETURN and of STOP.
 use Rattle.std.proofs.Common.{◌≡◌, ℕ, zero, suc, ◌+◌, ◌-◌, ◌≤◌, Bool, true, false, List, [], ◌∷◌, ◌++◌, length, Option, Some, None, refl, sym, ap, subst, arith}
-use Rattle.std.specs.Prelude.{slice_get}
-use Rattle.ss_code_instructions.proofs.Common.{act, Again, Calls, choose, Code, core_at, fit, Frame, height, is_awaited, Left, loop, past, place, Placed, Returned, RunState, Site, Stopped, To, Value, WentOn, yielded}
-use Rattle.ss_meaning.specs.Parts.{Over}
-use Rattle.ss_meaning.specs.Statements.{next_due, event_turn, simulate}
+use Rattle.ss_code_instructions.proofs.Common.{act, Code, height, is_awaited, place, Placed, Site, slice_get, Value, yielded}
+use Rattle.ss_code_instructions.specs.States.{core_at, fit, Frame, past, To, backwards}
+use Rattle.ss_meaning.specs.Parts.{Again, choose, Left, loop, Returned, RunState, Stopped, WentOn, Over}
+use Rattle.ss_meaning.specs.Statements.{Calls, next_due, event_turn, simulate}
 use Rattle.ss_code_instructions.specs.Instructions as i
-use Rattle.ss_code_instructions.specs.States.{backwards}
 use Rattle.ss_code_instructions.proofs.Acting.{act_lasts}
 use Rattle.ss_code_instructions.proofs.Steps.{HasAt, Reaches, here, at, left_to, landed, arrive}
 use Rattle.ss_code_instructions.proofs.Parts.{Within, Leads, onwards, ends, whatever, step_leads, out_run, Runs, same, done}

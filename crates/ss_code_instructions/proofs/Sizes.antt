@@ -1,15 +1,13 @@
 -- The code of a program has as many instructions as its size says.
 use Rattle.std.proofs.Common.{◌≡◌, ℕ, zero, suc, ◌+◌, ◌-◌, Bool, true, false, List, [], ◌∷◌, ◌++◌, length, Option, Some, None, refl, ap, ◌∙◌, arith, length-append}
-use Rattle.std.specs.Prelude.{if◌then◌else◌}
-use Rattle.ss_code_instructions.proofs.Common.{After, after, AMean, AMeanOf, At, AtEnd, Attribute, AValue, Bearer, Block, Calculate, Call, Cancel, Change, Clock, Compare, Condition, Constant, CountedClass, Create, CreateEvery, DataEnded, Destroy, Each, Empty, End, Entity, Event, Expression, expression_code, expression_of, Fetch, Figure, FigureOf, File, Find, For, From, Global, Guard, GuardKind, Head, height, If, In, InputTarget, Instruction, Integer, leaf, Let, Loop, may_fault, Member, Members, Mode, must_look, next, Now, Numbers, OfMember, OfSet, OfSystemSet, Operand, operand, operand_code, operator_of, Phrase, PhraseKind, Place, place, Placed, Position, Print, PrintItem, Program, Read, Remove, RemoveEnd, Reset, Restart, Return, Routine, Schedule, ScheduleNew, SetOwner, Sign, Signed, Simulate, Site, Skip, Start, Statement, Stop, Test, Then, TheSystem, TimeOf, ToAttribute, ToCount, ToVariable, TypedScope, Unary, Variable, When, Whole}
+use Rattle.std.specs.Prelude.{if◌then◌else◌, pos}
+use Rattle.ss_code_instructions.proofs.Common.{after, CountedClass, End, expression_code, expression_of, Global, GuardKind, height, Integer, leaf, may_fault, Mode, must_look, needs_look, neighbour_of, next, operand, operand_code, operator_of, PhraseKind, place, Sign, Site, TypedScope, Variable, Whole}
+use Rattle.ss_code_instructions.specs.Instructions.{Bearer, Instruction, Operand, Placed, Target as To}
+use Rattle.ss_program.specs.Program.{After, AMean, AMeanOf, At, AtEnd, Attribute, AValue, Block, Calculate, Call, Cancel, Change, Clock, Compare, Condition, Constant, Create, CreateEvery, DataEnded, Destroy, Each, Empty, Entity, Event, Expression, Fetch, Figure, FigureOf, File, Find, For, From, Guard, Head, If, In, InputTarget, Let, Loop, Member, Members, Now, Numbers, OfMember, OfSet, OfSystemSet, Phrase, Place, Position, Print, PrintItem, Program, Read, Remove, RemoveEnd, Reset, Restart, Return, Routine, Schedule, ScheduleNew, SetOwner, Signed, Simulate, Skip, Start, Statement, Stop, Test, Then, TheSystem, TimeOf, ToAttribute, ToCount, ToVariable, Unary, When, Done}
 use Rattle.ss_base.specs.declared.words.GuardKind.TheVariants as guards
 use Rattle.ss_base.specs.declared.words.PhraseKind.TheVariants as kinds
-use Rattle.ss_program.specs.Program.{Done}
-use Rattle.std.specs.Prelude.{pos}
 use Rattle.ss_code_instructions.specs.Instructions as i
-use Rattle.ss_code_instructions.specs.Instructions.{Target as To}
 use Rattle.ss_code_instructions.specs.Translation as t
-use Rattle.ss_code_instructions.specs.Facts.{needs_look, neighbour_of}
 use Rattle.ss_code_instructions.specs.Size as z
 use Rattle.ss_code_instructions.specs.Size.{expression_size, operand_size}
 use Rattle.ss_code_instructions.specs.Laws.{HasSize}

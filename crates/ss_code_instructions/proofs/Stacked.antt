@@ -1,7 +1,6 @@
 -- Values in cells, one above the other: how many they are, how they are read, and how they come off.
 use Rattle.std.proofs.Common.{◌≡◌, ℕ, suc, ◌+◌, Bool, true, List, [], ◌∷◌, ◌++◌, length, Some, refl, sym, ap, ◌∙◌, arith, length-append, append-nil, if◌then◌else◌}
-use Rattle.std.proofs.lemmas.Bool.{ne_eqb}
-use Rattle.ss_code_instructions.proofs.Common.{after_values, at_height, cell_at, Expression, expression_mode, fit, height, Mode, Moved, Site, Store, take_off, Taken, TakenOff, TypedScope, Value, value, values, values_cells, with_block, with_values}
+use Rattle.ss_code_instructions.proofs.Common.{after_values, at_height, cell_at, Expression, expression_mode, fit, height, Mode, Moved, ne_eqb, Site, Store, take_off, Taken, TakenOff, TypedScope, Value, value, values, values_cells, with_block, with_values}
 use Rattle.ss_code_instructions.proofs.Keeping.{Only, each, made_from}
 use Rattle.ss_code_instructions.proofs.Parts.{at_the_height, onto}
 use Rattle.ss_code_instructions.proofs.Members.{top_cell}

@@ -1,12 +1,10 @@
 -- Steps of the machine, and where they lead.
 use Rattle.std.proofs.Common.{◌≡◌, ℕ, zero, suc, ◌+◌, ◌<◌, ◌≤◌, Bool, true, false, List, [], ◌∷◌, ◌++◌, length, Option, Some, None, refl, sym, ap, ◌∙◌, subst, arith, append_assoc, length-append}
-use Rattle.std.specs.Prelude.{slice_get}
+use Rattle.ss_code_instructions.proofs.Common.{act, Breaks, Code, core_at, Done, Ended, Ending, Fault, Frame, Goes, is_due, MachineState, Moved, Over, Paused, Placed, Rest, Run, run_at, Sends, slice_get, step, step_at, Store, Stuck, To, Value, when_due, with_locals, with_rest, yielded}
 use Rattle.std.proofs.Math.Seq.{get_or-append_seam}
 use Rattle.std.proofs.lemmas.Option.{slice_get-get_or}
-use Rattle.ss_code_instructions.proofs.Common.{act, after_one_step, Breaks, Code, core_at, Done, Ended, Fault, Faulted, Frame, Goes, is_due, Left, MachineState, Moved, Outcome, outcome_then, OutOfTicks, Over, Part, Paused, Placed, Rest, Returned, RunState, Sends, step, step_at, steps, Stopped, Store, Stuck, To, Underway, Value, WentOn, when_due, with_locals, with_rest, Wrong, yielded}
-use Rattle.ss_meaning.specs.Parts.{Exit}
-use Rattle.ss_meaning.specs.Meaning.{Ending, Run, run_at}
-use Rattle.ss_code_instructions.specs.Running.{Result, Ends, IsStuck, ended_at}
+use Rattle.ss_code_instructions.specs.Running.{after_one_step, steps, Underway, Result, Ends, IsStuck, ended_at}
+use Rattle.ss_meaning.specs.Parts.{Faulted, Left, Outcome, outcome_then, OutOfTicks, Part, Returned, RunState, Stopped, WentOn, Wrong, Exit}
 use Rattle.ss_code_instructions.proofs.Keeping.{Lasts, lasts_then}
 use Rattle.ss_code_instructions.proofs.Acting.{Endures, act_lasts}
 

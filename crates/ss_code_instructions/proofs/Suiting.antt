@@ -1,7 +1,6 @@
 -- Pieces of code that suit their places, one after another.
 use Rattle.std.proofs.Common.{◌≡◌, ℕ, zero, suc, ◌+◌, ◌-◌, true, List, [], ◌∷◌, ◌++◌, length, Some, refl, subst, arith, length-append}
-use Rattle.std.specs.Prelude.{slice_get}
-use Rattle.ss_code_instructions.proofs.Common.{AreFoundAt, Code, is_due, IsDueAt, IsSuited, Mode, Placed, Program}
+use Rattle.ss_code_instructions.proofs.Common.{AreFoundAt, Code, is_due, IsDueAt, IsSuited, Mode, Placed, Program, slice_get}
 use Rattle.ss_code_instructions.proofs.Steps.{HasAt, has_front, has_back}
 
 module _ (p : Program) (code : Code) where

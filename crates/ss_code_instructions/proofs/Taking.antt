@@ -1,8 +1,7 @@
 -- The code that takes an item of a loop or a member of a walk: a tick, and the assignment to the loop's variable.
 use Rattle.std.proofs.Common.{◌≡◌, ℕ, suc, ◌+◌, ◌≤◌, Bool, true, false, List, [], ◌∷◌, length, Some, Ok, ℤ, refl, sym, ap, ◌∙◌, subst, arith}
 use Rattle.std.specs.Prelude.{if◌then◌else◌}
-use Rattle.ss_code_instructions.proofs.Common.{assigned_variable, cell_at, Code, core_at, did, fit, Frame, is_kept, Left, looked, MachineState, Moved, onward, outcome_then, OutOfTicks, Part, place, RunState, settle, Site, Stays, Store, take_code, Turn, Value, Variable, visit, Whole}
-use Rattle.ss_meaning.specs.Parts.{take_tick}
+use Rattle.ss_code_instructions.proofs.Common.{assigned_variable, cell_at, Code, core_at, did, fit, Frame, is_kept, Left, looked, MachineState, Moved, onward, outcome_then, OutOfTicks, Part, place, RunState, settle, Site, Stays, Store, take_code, take_tick, Turn, Value, Variable, visit, Whole}
 use Rattle.ss_code_instructions.specs.Instructions as i
 use Rattle.ss_code_instructions.proofs.Keeping.{Only, Same, lasts_so, suits_on, variable_same}
 use Rattle.ss_code_instructions.proofs.Steps.{HasAt, Reaches, at, arrive}

@@ -1,9 +1,8 @@
 -- The code of a time, of values and then a time, and of a reference that is looked at: what SCHEDULE begins with.
 use Rattle.std.proofs.Common.{◌≡◌, ℕ, ◌+◌, false, true, List, [], ◌∷◌, ◌++◌, length, Ok, Err, ℤ, refl, sym, ◌∙◌, subst, arith, length-append}
 use Rattle.std.specs.Prelude.{Result as OkOr}
-use Rattle.ss_code_instructions.proofs.Common.{act, after, after_values, At, AtTime, Code, core_at, deliver, did, entity, entity_code, Expression, Fails, Failure, Frame, height, if_ok, In, Instruction, is_due, Later, leaf, look, looked, looked_at, MachineState, next, Now, onward, Operand, operand, operand_code, outcome_then, Part, place, Placed, RunState, Site, stay, Store, time_at, turned, TypeError, Value, value, values, values_code, When, when_code, Whole, with_operand, with_operand_value}
-use Rattle.ss_meaning.specs.Events.{Moment}
-use Rattle.ss_meaning.specs.Expressions.{entity_value, time_value}
+use Rattle.ss_code_instructions.proofs.Common.{act, after, after_values, At, Code, core_at, deliver, did, entity, entity_code, entity_value, Expression, Fails, Failure, Frame, height, if_ok, In, Instruction, is_due, leaf, look, looked, looked_at, MachineState, next, Now, onward, Operand, operand, operand_code, outcome_then, Part, place, Placed, RunState, Site, stay, Store, time_value, turned, TypeError, Value, value, values, values_code, When, when_code, Whole, with_operand, with_operand_value}
+use Rattle.ss_meaning.specs.Events.{AtTime, Later, time_at, Moment}
 use Rattle.ss_code_instructions.specs.Instructions as i
 use Rattle.ss_code_instructions.proofs.Keeping.{Only}
 use Rattle.ss_code_instructions.proofs.Steps.{HasAt, has_front, has_back, Reaches, at, arrive}

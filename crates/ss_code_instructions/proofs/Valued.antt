@@ -1,19 +1,12 @@
 -- Values have the modes that shape says, and where the machine goes a state suits its place.
 use Rattle.std.proofs.Common.{◌≡◌, ℕ, ◌+◌, ◌-◌, Bool, true, false, List, [], ◌∷◌, length, Option, Some, None, Ok, Err, ℤ, refl, sym, ◌∙◌, subst}
-use Rattle.std.proofs.lemmas.Bool.{eq-eqb}
+use Rattle.ss_code_instructions.proofs.Common.{AreOfModes, asked_alone, asked_of, assigned_variable, at_height, back_if, cell_at, Code, Core, core_at, deliver, deliver_with, did, eq-eqb, Fails, Failure, fetched, Fine, fine_turned, fit, fit_fine, Frame, held_length, Integer, IsFittingStore, IsWellTyped, lies_above, Line, Mode, mode_of, Moved, onward_if, or_zero, Program, put_to, Rest, Sends, Store, Stuck, Text, There, To, turned, TypedScope, TypeError, Value, Walk, Whole, with_bearer, with_block, with_loop, with_operand_value, with_position, with_top_number, with_topmost, with_values, with_walk_in_cells, Written}
 use Rattle.std.specs.Prelude.{◌==◌, Result as OkOr, if◌then◌else◌}
-use Rattle.ss_code_instructions.proofs.Common.{AreFoundAt, assigned_variable, at_height, back_if, Bearer, Before, ByRule, cell_at, Code, Core, core_at, deliver, deliver_with, did, Fails, Failure, fetched, FilingPlace, First, fit, Foremost, Frame, HasOnTop, Held, Hindmost, Integer, Into, IsAccepting, IsFitForCode, IsFittingStore, IsGivingBearer, IsGivingMode, IsWellTyped, JustAfter, JustBefore, Last, lies_above, Line, Mode, mode_of, modes_onto, Moved, Onto, onward_if, Operand, or_zero, Program, put_to, Ranked, Rest, Sends, Stays, Store, Stuck, Taken, Target, Text, To, turned, TypedScope, TypeError, Value, Walk, Whole, with_bearer, with_block, with_operand_value, with_values, Written}
-use Rattle.ss_meaning.specs.Sets.{Filing as Position}
-use Rattle.ss_meaning.specs.Fitting.{AreOfModes}
-use Rattle.ss_meaning.proofs.Fine.{Fine, There, fine_turned, fit_fine}
+use Rattle.ss_code_instructions.specs.Instructions.{Bearer, Before, FilingPlace, First, Held, Into, Last, Onto, Operand, Ranked, Stays, Taken, Target, Constant, After}
+use Rattle.ss_code_instructions.specs.Shape.{AreFoundAt, HasOnTop, IsAccepting, IsFitForCode, IsGivingBearer, IsGivingMode, modes_onto, AreGivingBy, AreGivingBoth, IsGivingPosition, loop_modes, walk_modes, IsSetBearer as BearerFits, IsStatisticBearer, AreFitFrames}
+use Rattle.ss_meaning.specs.Sets.{ByRule, Foremost, Hindmost, JustAfter, JustBefore, Filing as Position}
 use Rattle.ss_meaning.proofs.Entities.{variable_fine, fetched_there}
 use Rattle.ss_meaning.proofs.Sets.{OwnerOk, FilingOk, AskedStatistic}
-use Rattle.ss_meaning.proofs.Expressions.{asked_alone, asked_of}
-use Rattle.ss_meaning.proofs.Statements.{held_length}
-use Rattle.ss_code_instructions.specs.Instructions.{Constant, After}
-use Rattle.ss_code_instructions.specs.States.{with_top_number, with_topmost, with_position}
-use Rattle.ss_code_instructions.specs.Machine.{with_loop, with_walk_in_cells}
-use Rattle.ss_code_instructions.specs.Shape.{AreGivingBy, AreGivingBoth, IsGivingPosition, loop_modes, walk_modes, IsSetBearer as BearerFits, IsStatisticBearer, AreFitFrames}
 use Rattle.ss_code_instructions.proofs.Parts.{onto}
 use Rattle.ss_code_instructions.proofs.Stacked.{block_takes}
 

@@ -1,18 +1,15 @@
 -- The code of a FOR over the members of a set. At the head of a turn the cells hold the member, and the one that comes after it.
 use Rattle.std.proofs.Common.{◌≡◌, ℕ, zero, suc, ◌+◌, ◌-◌, ◌<◌, ◌≤◌, Bool, true, false, not, List, [], ◌∷◌, ◌++◌, length, Option, Some, None, Ok, Err, ℤ, pos, refl, sym, ap, ◌∙◌, subst, arith, length-append, inl, inr}
-use Rattle.std.proofs.lemmas.Bool.{ne_eqb}
+use Rattle.ss_code_instructions.proofs.Common.{above, After, at_height, AtEnd, back_if, begin_walk, cell_at, Code, Core, core_at, did, due, Entity, Expression, expression_code, Fails, Failure, FaultKind, fit, for_code, forget_to, Frame, From, height, if_ok, Integer, Line, looked_at, MachineState, member_value, Members, Moved, ne_eqb, next, onward, onward_if, owner_cell, owner_code, owner_kept, owner_value, place, Placed, SetLayout, SetOwner, Site, Start, Store, take_code, Text, TheSystem, turned, turns_code, TypeError, unless_fault, Value, value, Variable, Walk, walk_at, walk_cells, walk_further, walk_loop, where_fit, Whole, with_bearer}
 use Rattle.std.specs.Prelude.{slice_get, is_some, cond, ◌==◌, Result as OkOr, if◌then◌else◌}
-use Rattle.ss_code_instructions.proofs.Common.{above, After, Again, at_height, AtEnd, back_if, begun, begun_at, cell_at, choose, Code, Core, core_at, did, due, EndsLoop, Entity, Expression, expression_code, Fails, Failure, FaultKind, fit, for_code, forget_to, Frame, From, goes_on, GoesOn, height, if_ok, Integer, is_in, is_none, IsFound, known_owner, Line, look, looked, looked_at, loop, MachineState, member, member_value, Members, Moved, next, onward, onward_if, outcome_then, over, owner_code, owner_kept, owner_value, Part, place, Placed, RunState, SetLayout, SetOwner, Site, Start, State, Store, take_code, Text, TheSystem, Turn, turned, turns_code, TypeError, unless_fault, Value, value, Variable, visit, Walk, walk_at, walk_cells, walk_further, walk_loop, WentOn, where_fit, Whole, with_bearer}
+use Rattle.ss_meaning.specs.Loops.{EndsLoop, GoesOn, IsFound, over, Turn, visit, Outset, next_member, member_turn, over_members}
+use Rattle.ss_meaning.specs.Parts.{Again, choose, look, looked, loop, outcome_then, Part, RunState, WentOn, Next, Over, go_on}
+use Rattle.ss_meaning.specs.Sets.{begun, begun_at, goes_on, is_in, is_none, known_owner, member, set_at, owner_as, owner_by_layout, outset, beside, coming, from_or_after, or_gone}
+use Rattle.ss_world.specs.State.{State, Members as Row, and_then, members_of, owner_of}
 use Rattle.ss_base.specs.declared.fault.FaultKind.TheVariants.{NotFiled}
 use Rattle.ss_world.specs.Lists.{head0, last_or, IsInList}
-use Rattle.ss_world.specs.State.{Members as Row, and_then, members_of, owner_of}
 use Rattle.ss_world.specs.Sets.{joiner, owner as owner_there, follower, precursor, members_by, companions, next_in, previous_in}
-use Rattle.ss_meaning.specs.Sets.{set_at, owner_as, owner_by_layout, outset, beside, coming, from_or_after, or_gone}
-use Rattle.ss_meaning.specs.Loops.{Outset, next_member, member_turn, over_members}
-use Rattle.ss_meaning.specs.Parts.{Next, Over, go_on}
 use Rattle.ss_code_instructions.specs.Instructions as i
-use Rattle.ss_code_instructions.specs.Machine.{begin_walk}
-use Rattle.ss_code_instructions.specs.Translation.{owner_cell}
 use Rattle.ss_code_instructions.proofs.Steps.{HasAt, has_front, has_back, Comes, Reaches, at, arrive, join}
 use Rattle.ss_code_instructions.proofs.Parts.{Within, within_on, Leads, onwards, breaks, whatever, ticked, step_leads, did_leads, at_the_height, turned_then, then_then, look_then, Lands, same, done}
 use Rattle.ss_code_instructions.proofs.Operands.{join_look}

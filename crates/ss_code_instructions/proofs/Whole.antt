@@ -1,13 +1,10 @@
 -- A whole program and its code.
 use Rattle.std.proofs.Common.{◌≡◌, ℕ, zero, suc, ◌+◌, ◌≤◌, List, [], ◌∷◌, ◌++◌, length, Some, refl, subst, arith}
 use Rattle.std.specs.Prelude.{◌≢◌, slice_get}
-use Rattle.ss_code_instructions.proofs.Common.{all_events, all_routines, block_code, block_prints, calls, Code, code_of, core_at, effects, Event, Faulted, first_site, Left, MachineState, main_code, Outcome, OutOfTicks, place, Placed, Program, Returned, Routine, Site, start, Stopped, WentOn, Wrong}
-use Rattle.ss_meaning.specs.Meaning.{WentWrong, run_of, first_run_state, meaning}
-use Rattle.ss_code_instructions.specs.Instructions.{Lines}
+use Rattle.ss_code_instructions.proofs.Common.{Code, CodeBehaves, core_at, effects, Event, Faulted, HasGoneRight, IsFaithful, Left, Lines, MachineState, Outcome, OutOfTicks, Placed, Program, Returned, Routine, start, Stopped, WentOn, Wrong}
+use Rattle.ss_code_instructions.specs.Translation.{all_events, all_routines, block_code, block_prints, code_of, first_site, main_code, place, Site, main_scope, routine_code, event_code, routines_code, events_code, routines_prints, events_prints, routine_entries, event_entries, main_prints, prints_before_events}
+use Rattle.ss_meaning.specs.Meaning.{calls, WentWrong, run_of, first_run_state, meaning}
 use Rattle.ss_code_instructions.specs.Instructions as i
-use Rattle.ss_code_instructions.specs.Running.{HasGoneRight, IsFaithful}
-use Rattle.ss_code_instructions.specs.Laws.{CodeBehaves}
-use Rattle.ss_code_instructions.specs.Translation.{main_scope, routine_code, event_code, routines_code, events_code, routines_prints, events_prints, routine_entries, event_entries, main_prints, prints_before_events}
 use Rattle.ss_code_instructions.proofs.Joining.{Joined, first_joined}
 use Rattle.ss_code_instructions.proofs.Steps.{HasAt, has_front, has_back, has_all, Finishes, Reaches, reaches_on, in_steps, Agrees, agrees, at, arrive}
 use Rattle.ss_code_instructions.proofs.Parts.{Within, ends, step_leads}

@@ -1,10 +1,6 @@
 -- A call yields as many values as are wanted; and what is given to a section is as many as it takes.
 use Rattle.std.proofs.Common.{◌≡◌, ℕ, zero, suc, ◌==◌, Bool, true, false, List, [], ◌∷◌, ◌++◌, length, Option, Some, None, refl, ap, subst, if◌then◌else◌}
-use Rattle.std.specs.Prelude.{slice_get}
-use Rattle.ss_code_instructions.proofs.Common.{Calls, calls, effects, Faulted, Left, Mode, mode_of, needed, opened, Outcome, outcome_then, OutOfTicks, Part, Program, Returned, Routine, RunState, same_mode, Stopped, Value, WentOn, with_locals, Wrong, yielded}
-use Rattle.ss_meaning.specs.Store.{prepended, first_values, taken_by_modes, appended, front}
-use Rattle.ss_meaning.specs.Parts.{tick_from}
-use Rattle.ss_meaning.specs.Meaning.{come_back, enclosed, routine_called}
+use Rattle.ss_code_instructions.proofs.Common.{appended, Calls, calls, come_back, effects, enclosed, Faulted, first_values, front, Left, Mode, mode_of, needed, opened, Outcome, outcome_then, OutOfTicks, Part, prepended, Program, Returned, Routine, routine_called, RunState, same_mode, slice_get, Stopped, taken_by_modes, tick_from, Value, WentOn, with_locals, Wrong, yielded}
 use Rattle.ss_code_instructions.proofs.Keeping.{Where}
 use Rattle.ss_code_instructions.proofs.Parts.{ticked}
 use Rattle.ss_code_instructions.proofs.Following.{IfWentOn}

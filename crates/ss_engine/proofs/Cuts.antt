@@ -1,21 +1,8 @@
 -- Where the runs of a session were cut as memory, its reader or its writer failed.
 use Rattle.std.proofs.Common.{◌≡◌, ℕ, ◌+◌, false, List, [], inl, Option, Some, None, refl, arith}
 use Rattle.std.proofs.KnownBytes.{Appends-nil, Consumes-nil}
-use Rattle.ss_input.specs.Blocks.{IsEndKnown}
-use Rattle.ss_input.specs.declared.source.Source.{Source}
-use Rattle.ss_input.specs.Inputs.{IsFresh, source_block, source_reader}
-use Rattle.ss_program.specs.Program.{Program}
+use Rattle.ss_engine.proofs.Common.{code_of, does_read, does_write, Ended, Failed, Fault, Generated, HasCome, HasComeTo, HasTakenLast, Input, IsAtStart, IsCodeOf, IsEndKnown, IsFresh, IsProgramOf, last_stop, Memory, Output, Paused, Program, Situation, Source, source_block, source_reader, start, Stop}
 use Rattle.ss_meaning.specs.Meaning.{Ended as EndedThere, Fault as FaultThere}
-use Rattle.ss_code.specs.Running.{Generated}
-use Rattle.ss_code_instructions.specs.Running.{start}
-use Rattle.ss_code_instructions.specs.Translation.{code_of}
-use Rattle.ss_machine.specs.Situations.{Situation, IsCodeOf}
-use Rattle.ss_machine.specs.declared.stop.Stop.{Stop}
-use Rattle.ss_machine.specs.declared.stop.Stop.TheVariants.{Ended, Fault, Paused, Memory, Output, Input, Failed}
-use Rattle.ss_machine.specs.Start.{IsAtStart}
-use Rattle.ss_machine.specs.Runs.{HasCome, HasTakenLast, does_read, does_write}
-use Rattle.ss_engine.specs.Accepting.{IsProgramOf}
-use Rattle.ss_engine.specs.Sessions.{HasComeTo, last_stop}
 use Rattle.ss_engine.specs.Cuts.{IsCutBy, HasBeenCut}
 use Rattle.ss_engine.proofs.Inputs.{fresh_gave, reads_find}
 use Rattle.ss_engine.proofs.Pieces.{Saying, EachSays, EachLed, finishing, cutting, cutting_at}

@@ -2,15 +2,13 @@
 use Rattle.std.proofs.Common.{◌≡◌, ◌≢◌, ℕ, ◌≤◌, ◌<◌, List, length, None, Result, refl, sym, subst, arith}
 use Rattle.std.specs.Prelude.{IfErr, IsErrAnd}
 use Rattle.std.proofs.lemmas.Result.{err_from_is_err_and}
-use Rattle.ss_lex.specs.declared.token.Token.{Token}
+use Rattle.ss_engine.proofs.Common.{code_of, Declared, IsProgramOf, IsRefusedWith, IsTreeOf, Lexed, Parsed, ParseError, Program, ProgramTree, Refusal, Token, Used}
 use Rattle.ss_lex.specs.declared.error.LexError.{LexError}
 use Rattle.ss_lex.specs.declared.error.LexError.TheVariants as lexical
 use Rattle.ss_lex.specs.Tokens.{AreTokens}
 use Rattle.ss_lex.specs.Refusals.{IsRefused}
-use Rattle.ss_parse.specs.declared.error.ParseError.{ParseError}
 use Rattle.ss_parse.specs.declared.error.ParseError.TheVariants as parsing
 use Rattle.ss_parse.specs.Promise.{Is_refused, Has_line}
-use Rattle.ss_tree.specs.Tree.{ProgramTree}
 use Rattle.ss_tree.specs.Nodes as tree
 use Rattle.ss_tables_rules.specs.Broken.{refusal_of_declarations as declaration_refusal}
 use Rattle.ss_tables_rules.specs.declared.error.TableError.{TableError}
@@ -19,17 +17,12 @@ use Rattle.ss_tables.specs.Tables.{IsReportedError}
 use Rattle.ss_check_rules.specs.declared.error.CheckError.{CheckError}
 use Rattle.ss_check_rules.specs.declared.error.CheckError.TheVariants as using
 use Rattle.ss_check.specs.Checking.{IsReportedBreach, refusal_of as use_refusal}
-use Rattle.ss_program.specs.Program.{Program}
 use Rattle.ss_program.specs.Nodes as resolved
 use Rattle.ss_code.specs.declared.error.CodeError.{CodeError}
 use Rattle.ss_code.specs.declared.error.CodeError.TheVariants as generating
 use Rattle.ss_code.specs.Limits.{instruction_limit, small_program}
-use Rattle.ss_code_instructions.specs.Translation.{code_of}
 use Rattle.ss_code_instructions.specs.Size.{code_size}
-use Rattle.ss_engine.specs.declared.refusal.Refusal.{Refusal}
-use Rattle.ss_engine.specs.declared.refusal.Refusal.TheVariants.{Lexed, Parsed, Declared, Used}
 use Rattle.ss_engine.specs.Refusals.{coded, table_refusal, lexed, parsed, used}
-use Rattle.ss_engine.specs.Accepting.{IsTreeOf, IsProgramOf, IsRefusedWith}
 
 -- ---- an error other than that for memory is wrapped
 

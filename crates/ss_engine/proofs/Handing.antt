@@ -1,11 +1,9 @@
 -- Ticks that are given piece by piece.
 use Rattle.std.proofs.Common.{◌≡◌, ℕ, suc, ◌+◌, ◌-◌, ◌^◌, ◌≤◌, ◌<◌, List, [], ◌∷◌, ◌++◌, length, take, drop, min, get_or, refl, sym, ap, subst, ◌∙◌, arith}
-use Rattle.std.specs.List.{sum}
+use Rattle.ss_engine.proofs.Common.{handed_out, runs_of, sum}
 use Rattle.std.proofs.lemmas.List.{take_all, take-append-drop}
 use Rattle.std.proofs.Math.Seq.{take-suc}
 use Rattle.std.proofs.lemmas.List.Sums.{sum_by_more, sum_by-append, sum_by-take-le}
-use Rattle.ss_engine.specs.Headline.{handed_out}
-use Rattle.ss_engine.specs.LastRun.{runs_of}
 
 pub next_sum : (pieces : List ℕ) (i : ℕ) → i < length pieces → sum (take (i + 1) pieces) ≡ sum (take i pieces) + get_or pieces i 0
 next_sum pieces i lt = sum_by_more (λ x. x) pieces i 0 lt

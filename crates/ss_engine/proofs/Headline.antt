@@ -1,27 +1,11 @@
 -- A run of the machine is what the text of its code means.
 use Rattle.std.proofs.Common.{◌≡◌, ◌≢◌, ℕ, suc, ◌+◌, ◌-◌, ◌<◌, false, List, [], ◌++◌, ◌⊎◌, inl, inr, Option, refl, sym, ap, ◌∙◌, subst, append_assoc, append-nil, arith}
 use Rattle.std.proofs.KnownBytes.{Appends-nil, Consumes-nil}
-use Rattle.ss_input.specs.Blocks.{IsEndKnown}
-use Rattle.ss_input.specs.declared.source.Source.{Source}
-use Rattle.ss_input.specs.Inputs.{IsFresh, HasFound, source_block, source_reader}
-use Rattle.ss_program.specs.Program.{Program}
-use Rattle.ss_program.specs.WellTyped.{IsWellTyped}
+use Rattle.ss_engine.proofs.Common.{Code, code_of, Compiled, does_read, does_write, Ended, Failed, Fault, Generated, Goes, HasCome, HasFound, HasRunToEnd, HasTakenLast, Input, IsAtStart, IsCodeOf, IsCut, IsEndKnown, IsFor, IsFresh, IsPausing, IsProgramOf, IsRunResult, IsWellTyped, MachineState, Memory, OneProgram, Output, Paused, Program, Situation, Source, source_block, source_reader, step, Stop}
 use Rattle.ss_meaning.specs.Meaning.{Ending, Ended as EndedThere, Fault as FaultThere, Paused as PausedThere, WentWrong, Run, meaning}
-use Rattle.ss_code.specs.Running.{Generated, IsFor}
-use Rattle.ss_code_instructions.specs.States.{MachineState}
-use Rattle.ss_code_instructions.specs.Machine.{Code, Goes, step}
 use Rattle.ss_code_instructions.specs.Running.{Underway, Ends, IsFaithful, start, steps, after_one_step as goes_on}
-use Rattle.ss_code_instructions.specs.Translation.{code_of}
 use Rattle.ss_code_instructions.specs.Laws.{EndingsStay, IsReportPrefix, HasShape, OnTheWay, OneTickFewer, Pauses, Prefixes, StepsGoOn}
-use Rattle.ss_machine_instructions.specs.Doing.{Compiled}
-use Rattle.ss_machine.specs.Situations.{Situation, IsCodeOf}
-use Rattle.ss_machine.specs.declared.stop.Stop.{Stop}
-use Rattle.ss_machine.specs.declared.stop.Stop.TheVariants.{Ended, Fault, Paused, Memory, Output, Input, Failed}
-use Rattle.ss_machine.specs.Start.{IsAtStart}
-use Rattle.ss_machine.specs.Runs.{HasRunToEnd, IsCut, HasTakenLast, HasCome, IsPausing, IsRunResult, does_read, does_write}
-use Rattle.ss_engine.specs.Accepting.{IsProgramOf}
 use Rattle.ss_engine.specs.Headline.{IsMeaning, IsCutShort, IsMeantRun, HasGivenInput, IsSimulated}
-use Rattle.ss_engine.specs.Laws.{OneProgram}
 use Rattle.ss_engine.proofs.Inputs.{fresh_gave, reads_find}
 use Rattle.ss_engine.proofs.Pieces.{Saying, EachSays, EachLed, finishing, cutting, cutting_at}
 use Rattle.ss_engine.proofs.Ticks.{pauses_with_fewer}

@@ -1,12 +1,9 @@
 -- One call of a source after another.
 use Rattle.std.proofs.Common.{◌≡◌, ℕ, Bool, true, false, List, [], ◌++◌, refl, sym, ap, subst, ◌∙◌, append_assoc}
 use Rattle.std.proofs.KnownBytes.{Consumes-trans}
-use Rattle.ss_input.specs.Blocks.{IsEndKnown}
-use Rattle.ss_input.specs.declared.source.Source.{Source}
-use Rattle.std.specs.declared.option.Option.{Option}
+use Rattle.ss_engine.proofs.Common.{HasGivenInput, IsEndKnown, Option, Source}
 use Rattle.std.specs.Io.KnownBytes.{Consumes, IsAtEnd}
 use Rattle.ss_input.specs.Inputs.{source_block, source_reader, IsAhead, HasReadInput, HasFound, IsFresh}
-use Rattle.ss_engine.specs.Headline.{HasGivenInput}
 
 none_more : (xs more : List ℕ) → xs ≡ [] → more ≡ [] → xs ++ more ≡ []
 none_more xs more e f = ap (λ l. l ++ more) e ∙ f

@@ -1,13 +1,7 @@
 -- The last of the runs of a text, from the last call of a session.
 use Rattle.std.proofs.Common.{◌≡◌, ◌≢◌, ℕ, ◌≤◌, List, [], ◌∷◌, ◌++◌, Option, ap, ◌∙◌, subst, append_assoc}
-use Rattle.ss_code.specs.Running.{Generated}
-use Rattle.ss_machine.specs.declared.stop.Stop.{Stop}
-use Rattle.ss_machine.specs.declared.stop.Stop.TheVariants.{Paused}
+use Rattle.ss_engine.proofs.Common.{Generated, handed_out, HasBeenRun, HasLastRun, HasRun, IsSimulated, last_stop, Paused, runs_of, Session, session_machine, session_reader, session_writer, Stop}
 use Rattle.ss_engine.specs.declared.outcome.Outcome.TheVariants.{Stopped}
-use Rattle.ss_engine.specs.declared.session.Session.{Session}
-use Rattle.ss_engine.specs.Headline.{IsSimulated, handed_out}
-use Rattle.ss_engine.specs.LastRun.{HasLastRun, runs_of}
-use Rattle.ss_engine.specs.Sessions.{HasRun, HasBeenRun, session_machine, session_reader, session_writer, last_stop}
 use Rattle.ss_engine.proofs.Handing.{at_least}
 
 module _ {R W : Type 0} (remaining : R → Option (List ℕ)) (read_faults : R → ℕ) (contents : W → Option (List ℕ)) (write_faults : W → ℕ) (text : List ℕ) (code : Generated) (reader : R) (writer : W) where

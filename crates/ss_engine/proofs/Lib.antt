@@ -1,3 +1,4 @@
+mod Common
 mod Fronts
 mod Meanings
 mod Inputs

@@ -1,24 +1,16 @@
 -- A well-formed text has one program, which is well typed, and one meaning.
 use Rattle.std.proofs.Common.{◌≡◌, ◌≢◌, ℕ, ◌+◌, List, Option, Some, None, refl, sym, ap, subst, ◌∙◌}
 use Rattle.ss_lex.specs.Laws.{OneList, OneAnswer}
-use Rattle.ss_lex.specs.declared.token.Token.{Token}
-use Rattle.ss_parse.specs.declared.error.ParseError.{ParseError}
+use Rattle.ss_engine.proofs.Common.{EndingsStay, IsProgramOf, IsRefusedWith, IsReportPrefix, IsTreeOf, IsWellTyped, meaning, ParseError, Prefixes, Program, ProgramTree, Refusal, Run, Token, WentWrong}
 use Rattle.ss_parse.specs.declared.error.ParseError.TheVariants as parsing
 use Rattle.ss_parse.specs.Promise.{One_tree, Is_refused}
 use Rattle.ss_parse.specs.SpelledPrograms.{Is_spelling}
-use Rattle.ss_program.specs.Program.{Program}
-use Rattle.ss_program.specs.WellTyped.{IsWellTyped}
 use Rattle.ss_check.specs.Checking.{resolved_program, refusal_of as use_refusal}
 use Rattle.ss_check.specs.ProgramLaws.{ProgramsResolve}
 use Rattle.ss_meaning.specs.Laws.{NeverWrong}
-use Rattle.ss_meaning.specs.Meaning.{Run, WentWrong, meaning}
-use Rattle.ss_code_instructions.specs.Laws.{EndingsStay, IsReportPrefix, Prefixes}
 use Rattle.ss_parse.specs.Openers.{nesting_limit}
-use Rattle.ss_tree.specs.Tree.{ProgramTree}
 use Rattle.ss_tables_rules.specs.Broken.{refusal_of_declarations as declaration_refusal}
-use Rattle.ss_engine.specs.declared.refusal.Refusal.{Refusal}
 use Rattle.ss_engine.specs.declared.refusal.Refusal.TheVariants.{Lexed, Parsed, Declared, Used, CodeTooLong, Memory}
-use Rattle.ss_engine.specs.Accepting.{IsTreeOf, IsProgramOf, IsRefusedWith}
 use Rattle.ss_engine.specs.Laws.{OneProgram, OneMeaning, EachHasOne, ProgramsAreTyped, NeverGoesWrong, ReportsGrow, TextEndingsStay, RefusedIsIllFormed}
 
 same_program : (p q : Program) → Some p ≡ Some q → p ≡ q

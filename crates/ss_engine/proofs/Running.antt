@@ -3,20 +3,7 @@ use Rattle.std.proofs.Common.{◌≡◌, ◌≢◌, ℕ, ◌+◌, ◌-◌, ◌^�
 use Rattle.std.proofs.KnownBytes.{Appends-nil, Consumes-nil}
 use Rattle.std.specs.Io.KnownBytes.{Appends}
 use Rattle.ss_base.specs.Failures.{HasRisen, HasRisenBy}
-use Rattle.ss_input.specs.Blocks.{IsEndKnown}
-use Rattle.ss_input.specs.declared.source.Source.{Source}
-use Rattle.ss_input.specs.Inputs.{source_block}
-use Rattle.ss_code.specs.Running.{Generated}
-use Rattle.ss_code_instructions.specs.Running.{Underway, steps}
-use Rattle.ss_code_instructions.specs.Reached.{at_core}
-use Rattle.ss_code_instructions.specs.Laws.{StepsGoOn}
-use Rattle.ss_machine.specs.Situations.{Situation}
-use Rattle.ss_machine.specs.declared.stop.Stop.{Stop}
-use Rattle.ss_machine.specs.declared.stop.Stop.TheVariants.{Ended, Fault, Paused, Memory, Output, Input, Failed}
-use Rattle.ss_machine.specs.Held.{kept_after}
-use Rattle.ss_machine.specs.Runs.{HasCome, IsPausing, IsRunResult}
-use Rattle.ss_engine.specs.declared.session.Session.{Session}
-use Rattle.ss_engine.specs.Sessions.{IsNewSession, HasComeTo, CanGoOn, HasRun, HasBeenRun, session_machine, session_reader, session_source, session_writer, last_stop}
+use Rattle.ss_engine.proofs.Common.{at_core, CanGoOn, Ended, Failed, Fault, Generated, HasBeenRun, HasCome, HasComeTo, HasRun, Input, IsEndKnown, IsNewSession, IsPausing, IsRunResult, kept_after, last_stop, Memory, Output, Paused, Session, session_machine, session_reader, session_source, session_writer, Situation, Source, source_block, steps, StepsGoOn, Stop, Underway}
 use Rattle.ss_engine.proofs.Pieces.{ran_then}
 use Rattle.ss_engine.proofs.Handing.{used_more, still_used, used_all, used_since}
 use Rattle.ss_engine.proofs.Inputs.{fresh_knows}

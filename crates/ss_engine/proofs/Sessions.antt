@@ -1,9 +1,8 @@
 -- Sessions with the same parts.
 use Rattle.std.proofs.Common.{◌≡◌, ap, ◌∙◌}
 use Rattle.ss_picture.specs.Sending.{SinkState}
-use Rattle.ss_input.specs.declared.source.Source.{Source}
+use Rattle.ss_engine.proofs.Common.{Session, Source}
 use Rattle.ss_machine.specs.Held.{Held}
-use Rattle.ss_engine.specs.declared.session.Session.{Session}
 
 abbrev built : {R W : Type 0} → Held → Source R → SinkState W → Session R W
 built m s k = record { machine = m; source = s; sink = k }

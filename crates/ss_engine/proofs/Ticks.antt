@@ -1,13 +1,12 @@
 -- No step gives ticks: a run that has none left ends with none.
 use Rattle.std.proofs.Common.{◌≡◌, ◌≢◌, ℕ, zero, suc, ◌+◌, ◌-◌, ◌<◌, ◌≤◌, Bool, true, false, List, Option, Some, None, refl, sym, ap, subst, ◌∙◌, arith}
 use Rattle.std.specs.Prelude.{slice_get}
-use Rattle.ss_program.specs.Program.{Program}
+use Rattle.ss_engine.proofs.Common.{EndingsStay, Program}
 use Rattle.ss_meaning.specs.Meaning.{Ending, Ended, Fault, Paused, WentWrong, Run, meaning}
 use Rattle.ss_code_instructions.specs.Instructions.{Placed}
 use Rattle.ss_code_instructions.specs.States.{MachineState, Moved, To, Sends, Rest, Stuck, Done, Breaks}
 use Rattle.ss_code_instructions.specs.Machine.{Code, Stepped, Goes, Over, NoStep, act, is_due, with_rest, when_due, step_at, step}
 use Rattle.ss_code_instructions.specs.Running.{Underway, Ends, IsFaithful, ended_at, after_one_step, start, steps}
-use Rattle.ss_code_instructions.specs.Laws.{EndingsStay}
 
 -- a step that leaves at most so many ticks
 abbrev Leaves : ℕ → Stepped → Type 0

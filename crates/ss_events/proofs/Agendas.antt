@@ -1,19 +1,12 @@
 -- The entries of a heap are those of an event list, before and after each call.
 use Rattle.std.proofs.Common.{◌≡◌, ℕ, ◌+◌, ◌-◌, ◌<◌, ◌≤◌, ℤ, Bool, true, false, not, cond, ◌||◌, nat_eq, List, [], ◌∷◌, ◌++◌, fold, length, get_or, position, None, Some, refl, sym, ap, subst, ◌∙◌, ◌⊎◌, ⊎_elim, inl, inr, arith}
-use Rattle.std.specs.Ordering.{int_eq}
+use Rattle.ss_events.proofs.Common.{cases_Bool, cases_lt, comes_before, Entry, int_eq, int_eq_equiv, IsHeap, IsLogarithmic, IsPermutation, nat_tests}
 use Rattle.std.specs.List.{list_any, IsDistinct, AllByRecursion, All}
-use Rattle.std.specs.List.Sorted.{IsPermutation}
-use Rattle.std.specs.Cmp.{int_eq_equiv}
 use Rattle.std.proofs.lemmas.List.Sorted.{IsPermutation-map, All-permutation}
 use Rattle.std.proofs.lemmas.List.Elements.{All-cons, All-tail, recursion_from_All}
 use Rattle.std.proofs.lemmas.Map.Keys.{IsDistinct-IsPermutation, IsDistinct-head, IsDistinct-tail, IsDistinct-cons}
-use Rattle.std.proofs.lemmas.Bool.{cases_lt, cases_Bool}
-use Rattle.ss_events_entries.specs.declared.entry.Entry.{Entry}
 use Rattle.ss_events_entries.specs.HeapEntries.{HeapEntries, all_of, notices_of, IsLed, AreAfterHeads}
 use Rattle.ss_events_entries.specs.Slots.{no_entry}
-use Rattle.ss_events.specs.Sifting.{IsLogarithmic}
-use Rattle.ss_events_entries.specs.HeapOrder.{IsHeap}
-use Rattle.ss_world.specs.Order.{comes_before}
 use Rattle.ss_world.specs.PendingList.{PendingList, scheduling_limit, is_pending, without_notice, earlier_notice, least, least_event, after_next}
 use Rattle.ss_events.specs.InOrder.{put_in_order, in_order, numbers_of, IsAgenda}
 use Rattle.ss_events_entries.proofs.EntryOrder.{entries_rank, tied_numbers}
@@ -23,7 +16,6 @@ use Rattle.std.proofs.lemmas.List.{get_or_default, nil_from_length, get_or-map, 
 use Rattle.std.proofs.lemmas.List.Folds.{list_any-append}
 use Rattle.std.proofs.lemmas.List.Quantifiers.{position-Some}
 use Rattle.std.specs.Option.{option_map, option_map_or}
-use Rattle.std.proofs.lemmas.Bool.Decides.{nat_tests}
 use Rattle.ss_events.proofs.InOrders.{Member, Rising, place_of, rising-in_order, apart_from_distinct, numbers-permutation, member_at, member-in_order, in_order-member, put_first, put_later, put_last, in_order-permutation, length-in_order}
 
 -- ---- whether a notice is pending

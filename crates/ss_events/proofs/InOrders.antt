@@ -1,13 +1,9 @@
 -- Entries in the order of scheduling: the same list for every order in which a heap may hold them.
 use Rattle.std.proofs.Common.{◌≡◌, ◌≢◌, ℕ, zero, suc, ◌+◌, ◌<◌, ◌≤◌, true, false, cond, nat_lt, nat_eq, List, [], ◌∷◌, ◌++◌, length, get_or, refl, sym, ap, subst, ◌∙◌, ◌⊎◌, ⊎_elim, inl, inr, arith, Contains}
 use Rattle.std.specs.List.{IsDistinct, AllByRecursion}
-use Rattle.std.specs.List.Sorted.{IsPermutation}
+use Rattle.ss_events.proofs.Common.{cases_lt, Entry, IsDistinct-head, IsDistinct-IsPermutation, IsDistinct-tail, IsPermutation, nat_tests}
 use Rattle.std.proofs.lemmas.List.Sorted.{Contains-permutation, IsPermutation-sym, IsPermutation-map}
-use Rattle.std.proofs.lemmas.Map.Keys.{IsDistinct-IsPermutation, IsDistinct-head, IsDistinct-tail}
 use Rattle.std.specs.Cmp.{nat_eq_equiv}
-use Rattle.std.proofs.lemmas.Bool.{cases_lt}
-use Rattle.std.proofs.lemmas.Bool.Decides.{nat_tests}
-use Rattle.ss_events_entries.specs.declared.entry.Entry.{Entry}
 use Rattle.ss_events.specs.InOrder.{put_in_order, in_order, numbers_of}
 
 -- an entry is among entries

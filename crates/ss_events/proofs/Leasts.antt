@@ -1,12 +1,6 @@
 -- The least of some entries.
 use Rattle.std.proofs.Common.{◌≡◌, false, cond, List, [], ◌∷◌, fold, get_or, Contains, IfSome, refl, sym, ap, subst, ◌⊎◌, ⊎_elim, inl, inr}
-use Rattle.std.specs.List.{All}
-use Rattle.std.proofs.lemmas.Bool.{cases_Bool}
-use Rattle.std.proofs.lemmas.List.{get_or_default}
-use Rattle.ss_events_entries.specs.declared.entry.Entry.{Entry}
-use Rattle.ss_world.specs.Order.{comes_before}
-use Rattle.ss_world.specs.PendingList.{earlier_notice, least}
-use Rattle.ss_events_entries.proofs.EntryOrder.{entries_rank}
+use Rattle.ss_events.proofs.Common.{All, cases_Bool, comes_before, earlier_notice, entries_rank, Entry, get_or_default, least}
 use Rattle.ss_events.proofs.InOrders.{Member, member_at, place_of}
 
 -- what is found starting from e: one of them, and nothing comes before it

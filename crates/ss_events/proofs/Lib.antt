@@ -1,3 +1,4 @@
+mod Common
 pub mod Sifts
 pub mod InOrders
 pub mod Agendas

@@ -1,27 +1,19 @@
 -- Each step of an entry that rises or sinks in a heap.
 use Rattle.std.proofs.Common.{◌≡◌, ◌≢◌, ◌∙◌, ℕ, ◌+◌, ◌-◌, ◌*◌, ◌/◌, ◌<◌, ◌≤◌, ◌^◌, zero, suc, Bool, true, false, List, length, get_or, set, swap, refl, sym, ap, subst, ⊎_elim, arith, [], ◌∷◌, ◌++◌, length-append, pow-suc, pow_mono, pow-add}
-use Rattle.std.specs.List.Sorted.{IsPermutation}
+use Rattle.ss_events.proofs.Common.{all_of, but_one, cases_lt, comes_before, entries_rank, Entry, HeadsAndFollowers, heap_lines, HeapEntries, int_eq, IsPermutation, notices_of, scheduling_limit, Work}
 use Rattle.std.specs.List.{swap_remove, list_any}
-use Rattle.std.specs.Ordering.{int_eq}
 use Rattle.std.proofs.lemmas.List.Sorted.{IsPermutation-append_left, IsPermutation-sym, IsPermutation-to_front, IsPermutation-swap_remove, IsPermutation-refl, IsPermutation-swap, IsPermutation-trans, length_permutation}
 use Rattle.std.proofs.lemmas.List.{length-set}
 use Rattle.std.proofs.lemmas.List.Edits.{length-swap}
 use Rattle.std.proofs.lemmas.Nat.{pow_below}
 use Rattle.std.proofs.lemmas.Grind.{pow_more}
-use Rattle.std.proofs.lemmas.Bool.{cases_lt}
 use Rattle.std.proofs.Math.Nat.{mul-le-mul_right}
-use Rattle.ss_events_entries.specs.declared.entry.Entry.{Entry}
-use Rattle.ss_events_entries.specs.CountedList.{Work}
-use Rattle.ss_events_entries.specs.HeapEntries.{HeapEntries, HeadsAndFollowers, heap_lines, all_of, notices_of, but_one}
 use Rattle.ss_events_entries.specs.HeapOrder.{IsChild, IsHeap, IsUnderParent, IsOverChildren, IsHeapBut, IsFirstChild}
-use Rattle.ss_world.specs.Order.{comes_before}
-use Rattle.ss_world.specs.PendingList.{scheduling_limit}
 use Rattle.ss_events.specs.Sifting.{HasRaised, HasRaisingCost, HasLowered, HasLoweringCost, HasMended, HasMendingCost, IsLogarithmic, IsTried, HasGoneIn, HasStayedOut, IsInsertion}
 use Rattle.ss_events_entries.specs.Digits.{binary_digits}
 use Rattle.std.specs.Int.Digits.{digits_of, number_from_digits}
 use Rattle.std.proofs.lemmas.Int.Digits.{number_lt, number_digits_of, all_below_base_digits_of, length-digits_of-le}
 use Rattle.ss_events_entries.proofs.Heaps.{up_but, up_over, down_but, down_under, rests, leaf, closes, pushed, followed_but, removed_but, removed_last, long-swap_remove}
-use Rattle.ss_events_entries.proofs.EntryOrder.{entries_rank}
 
 -- ---- powers of four
 

@@ -1,10 +1,7 @@
 -- An entry that goes out of its place, where the next of its line comes, or the last head.
 use Rattle.std.proofs.Common.{◌≡◌, ◌<◌, ◌≤◌, [], ◌∷◌, ◌++◌, ℕ, ℤ, zero, suc, ap, get_or, set, length, List, IsPermutation, sym, subst, ⊎_elim, arith}
-use Rattle.std.proofs.lemmas.List.Sorted.{IsPermutation-append_left, IsPermutation-append_right, IsPermutation-middle, IsPermutation-cons, IsPermutation-trans}
-use Rattle.ss_events_entries.specs.declared.entry.Entry.{Entry}
+use Rattle.ss_events.proofs.Common.{comes_before, Entry, IsHeap, IsHeapBut, IsPermutation-append_left, IsPermutation-append_right, IsPermutation-cons, IsPermutation-middle, IsPermutation-trans}
 use Rattle.ss_events_entries.specs.HeapEntries.{HeadsAndFollowers, HasAdvanced, HasRemovedEntry}
-use Rattle.ss_events_entries.specs.HeapOrder.{IsHeap, IsHeapBut}
-use Rattle.ss_world.specs.Order.{comes_before}
 use Rattle.ss_events_entries.proofs.HeadsAndFollowers.{swap_two}
 use Rattle.ss_events.proofs.Sifts.{taken_long, taken_all, taken_last, taken_but, followed_long, followed_heap}
 

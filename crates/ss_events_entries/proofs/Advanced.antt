@@ -1,15 +1,6 @@
 -- The first of a line goes out: the slots once its slot is free.
 use Rattle.std.proofs.Common.{◌≡◌, ◌≢◌, ◌⊎◌, ℕ, ◌+◌, ◌-◌, ◌<◌, ◌≤◌, ℤ, int_eq, false, List, ◌∷◌, length, get_or, take, refl, sym, ap, subst, ◌∙◌, ⊎_elim, inl, inr, arith}
-use Rattle.std.specs.Prelude.{slice_index_or, slice_set}
-use Rattle.std.specs.List.Sorted.{IsPermutation}
-use Rattle.std.proofs.lemmas.Int.{ints}
-use Rattle.std.proofs.lemmas.Bool.{cases_eq}
-use Rattle.std.proofs.lemmas.List.{length-set, length-take-le, same_lists, get_or-take, get_or-set_same, get_or-set_other}
-use Rattle.ss_events_entries.specs.declared.entry.Entry.{Entry}
-use Rattle.ss_events_entries.specs.declared.entry.directory.SlotDirectory.{SlotDirectory}
-use Rattle.ss_events_entries.specs.declared.entry.slots.Slot.{Slot}
-use Rattle.ss_events_entries.specs.declared.entry.slots.HeapNode.{HeapNode}
-use Rattle.ss_events_entries.specs.Slots.{no_entry, no_slot, no_node, following, slot_at, node, entry_in, entry_at, IsTaken, IsBefore, AreHeld, IsGuess, heads, followers, at_put}
+use Rattle.ss_events_entries.proofs.Common.{AreHeld, at_put, cases_eq, Entry, entry_at, entry_in, followers, following, get_or-set_other, get_or-set_same, get_or-take, heads, HeapNode, ints, IsBefore, IsGuess, IsPermutation, IsTaken, length-set, length-take-le, no_entry, no_node, no_slot, node, same_lists, slice_index_or, slice_set, Slot, slot_at, SlotDirectory}
 use Rattle.ss_events_entries.proofs.Marks.{in-plain, plain_differs}
 use Rattle.ss_events_entries.proofs.HeadsAndFollowers.{slot_at-same, slot_at-other, long_heads, head_at, follower, followers-placed, followers-left}
 use Rattle.ss_events_entries.proofs.Released.{freed, freed-same, freed-other, freed-long, room_of_follower, fits-released, distinct-released, led-released}

@@ -1,14 +1,12 @@
 -- The order of entries is a total order.
 use Rattle.std.proofs.Common.{◌≡◌, Bool, true, false, refl, sym, ap}
-use Rattle.std.specs.declared.cmp.Ordering.{Ordering}
-use Rattle.std.specs.declared.cmp.Ordering.TheVariants.{Less, Equal, Greater}
+use Rattle.ss_events_entries.proofs.Common.{Entry, Equal, Greater, Less, Ordering}
 use Rattle.std.specs.Ordering.{nat_cmp, is_lt, ordering_then, ordering_reverse}
 use Rattle.std.specs.Cmp.{IsTotalOrder, IsStrictWeakOrder}
 use Rattle.std.proofs.lemmas.Cmp.{int_cmp_total, nat_cmp_total, lists_total, on_total, then_total, alike_right, ranked}
 use Rattle.std.proofs.lemmas.List.Sorted.{ranks_by}
 use Rattle.ss_base.specs.declared.value.Value.{Value}
 use Rattle.ss_base.specs.Order.{value_cmp_total}
-use Rattle.ss_events_entries.specs.declared.entry.Entry.{Entry}
 use Rattle.ss_world.specs.Order.{directed_order, tie_order, key_order, entry_order, comes_before}
 
 directed_antisymm : (p q : Bool) (v w : Value) → directed_order p q v w ≡ ordering_reverse (directed_order q p w v)

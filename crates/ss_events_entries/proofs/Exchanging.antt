@@ -1,7 +1,6 @@
 -- Two places of a list that are exchanged.
 use Rattle.std.proofs.Common.{◌≡◌, ℕ, ◌<◌, List, length, get_or, swap, sym, refl, ap, ◌∙◌, arith, ◌==◌, if◌then◌else◌}
-use Rattle.std.proofs.lemmas.List.Edits.{swapped_from_swap}
-use Rattle.std.proofs.lemmas.Bool.Decides.{nat_tests}
+use Rattle.ss_events_entries.proofs.Common.{nat_tests, swapped_from_swap}
 use native.Mathlib.Decide.{ℕ_discrete}
 
 -- the index that i is exchanged with, where a and b change places

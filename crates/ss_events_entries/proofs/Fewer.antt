@@ -1,8 +1,7 @@
 -- So many different numbers below another one.
 use Rattle.std.proofs.Common.{◌≡◌, ◌≢◌, ℕ, zero, suc, ◌<◌, ◌≤◌, sym, ◌∙◌, ⊎_elim, arith}
 use Rattle.std.specs.Prelude.{◌==◌, if◌then◌else◌}
-use Rattle.std.proofs.lemmas.Bool.{cases_eq}
-use Rattle.std.proofs.lemmas.Bool.Decides.{nat_tests}
+use Rattle.ss_events_entries.proofs.Common.{cases_eq, nat_tests}
 
 -- s in place of m
 abbrev instead : ℕ → ℕ → ℕ → ℕ

@@ -1,16 +1,7 @@
 -- A head that went out of its place, and whether a follower has a notice.
 use Rattle.std.proofs.Common.{◌≡◌, ◌≢◌, ◌⊎◌, ℕ, ◌+◌, ◌<◌, ◌≤◌, ℤ, pos, int_eq, Bool, true, false, cond, List, length, get_or, set, take, swap, sym, ap, subst, ◌∙◌, ⊎_elim, inl, inr, arith}
 use Rattle.std.specs.Prelude.{◌==◌, slice_index_or}
-use Rattle.std.specs.List.{list_any, swap_remove}
-use Rattle.std.specs.Cmp.{int_eq_equiv}
-use Rattle.std.proofs.lemmas.Bool.{cases_Bool}
-use Rattle.std.proofs.lemmas.Bool.Decides.{nat_tests}
-use Rattle.std.proofs.lemmas.List.{length-map, get_or-map, get_or-set_other, get_or_default}
-use Rattle.ss_events_entries.specs.declared.entry.Entry.{Entry}
-use Rattle.ss_events_entries.specs.declared.entry.directory.SlotDirectory.{SlotDirectory}
-use Rattle.ss_events_entries.specs.declared.entry.slots.Slot.{Slot}
-use Rattle.ss_events_entries.specs.declared.entry.slots.HeapNode.{HeapNode}
-use Rattle.ss_events_entries.specs.Slots.{no_entry, blank_slot, no_slot, no_node, following, slot_at, node, entry_at, AreHeld, IsGuess, heads, followers, exchanged, not_plain}
+use Rattle.ss_events_entries.proofs.Common.{AreHeld, blank_slot, cases_Bool, Entry, entry_at, exchanged, followers, following, get_or-map, get_or-set_other, get_or_default, heads, HeapNode, int_eq_equiv, IsGuess, length-map, list_any, nat_tests, no_entry, no_node, no_slot, node, not_plain, Slot, slot_at, SlotDirectory, swap_remove}
 use Rattle.ss_events_entries.specs.HeapEntries.{HeadsAndFollowers, HasAdvanced, notices_of}
 use Rattle.ss_events_entries.proofs.Marks.{notice_in}
 use Rattle.ss_events_entries.proofs.Lists.{removed_by_swap, each_fails, none_passes}

@@ -1,14 +1,7 @@
 -- One more slot, which is free.
 use Rattle.std.proofs.Common.{◌≡◌, ◌≢◌, ℕ, ◌+◌, ◌-◌, ◌<◌, ◌≤◌, ℤ, true, false, cond, List, [], ◌∷◌, ◌++◌, length, get_or, set, refl, sym, ap, subst, ◌∙◌, ⊎_elim, arith}
 use Rattle.std.specs.Prelude.{◌==◌}
-use Rattle.std.proofs.lemmas.Bool.{cases_eq}
-use Rattle.std.proofs.lemmas.Bool.Decides.{nat_tests}
-use Rattle.std.proofs.lemmas.List.{length-set, length_push, get_or_push, get_or_append_left, get_or-set_same, get_or-set_other}
-use Rattle.ss_events_entries.specs.declared.entry.Entry.{Entry}
-use Rattle.ss_events_entries.specs.declared.entry.directory.SlotDirectory.{SlotDirectory}
-use Rattle.ss_events_entries.specs.declared.entry.slots.Slot.{Slot}
-use Rattle.ss_events_entries.specs.declared.entry.slots.HeapNode.{HeapNode}
-use Rattle.ss_events_entries.specs.Slots.{no_entry, blank_slot, no_slot, no_node, following, slot_at, node, mark_of, entry_in, entry_at, heads, followers, IsTaken, IsBefore, IsGuess, AreDistinct, AreLed, AreHeld}
+use Rattle.ss_events_entries.proofs.Common.{AreDistinct, AreHeld, AreLed, blank_slot, cases_eq, Entry, entry_at, entry_in, followers, following, get_or-set_other, get_or-set_same, get_or_append_left, get_or_push, heads, HeapNode, IsBefore, IsGuess, IsTaken, length-set, length_push, mark_of, nat_tests, no_entry, no_node, no_slot, node, Slot, slot_at, SlotDirectory}
 use Rattle.ss_events_entries.proofs.HeadsAndFollowers.{same_heads, followers-pushed}
 
 -- ---- a directory that leads to one slot more

@@ -1,15 +1,8 @@
 -- What is read of slots, of the entries in places, and of followers.
 use Rattle.std.proofs.Common.{◌≡◌, ℕ, zero, suc, ◌<◌, ◌≤◌, Bool, true, false, cond, List, [], ◌∷◌, ◌++◌, length, get_or, set, take, sym, ap, subst, ◌∙◌, ⊎_elim, arith}
 use Rattle.std.specs.Prelude.{nat_le}
-use Rattle.std.specs.List.Sorted.{IsPermutation}
-use Rattle.std.proofs.lemmas.Bool.{cases_lt}
-use Rattle.std.proofs.lemmas.Bool.Decides.{nat_tests}
-use Rattle.std.proofs.lemmas.List.{length-map, length-take-le, get_or-map, get_or-take, get_or-set_same, get_or-set_other, same_lists}
+use Rattle.ss_events_entries.proofs.Common.{blank_slot, cases_lt, Entry, entry_at, followers, following, get_or-map, get_or-set_other, get_or-set_same, get_or-take, heads, HeapNode, IsPermutation, length-map, length-take-le, nat_tests, no_node, node, plain_entry, same_lists, Slot, slot_at}
 use Rattle.std.proofs.lemmas.List.Sorted.{IsPermutation-refl, IsPermutation-cons, IsPermutation-trans, IsPermutation-middle}
-use Rattle.ss_events_entries.specs.declared.entry.Entry.{Entry}
-use Rattle.ss_events_entries.specs.declared.entry.slots.Slot.{Slot}
-use Rattle.ss_events_entries.specs.declared.entry.slots.HeapNode.{HeapNode}
-use Rattle.ss_events_entries.specs.Slots.{blank_slot, no_node, following, slot_at, node, plain_entry, entry_at, heads, followers}
 
 -- ---- the contents of a slot, once another was written
 

@@ -1,10 +1,8 @@
 -- What a step up or down a heap keeps, and which child comes first.
 use Rattle.std.proofs.Common.{◌≡◌, ◌≢◌, ℕ, zero, suc, ◌+◌, ◌-◌, ◌*◌, ◌/◌, ◌<◌, ◌≤◌, Bool, true, false, List, [], ◌∷◌, ◌++◌, length, get_or, swap, set, refl, sym, ap, subst, ◌∙◌, ◌⊎◌, ⊎_elim, arith, length-append, if◌then◌else◌}
-use Rattle.std.specs.Cmp.{IsStrictWeakOrder}
-use Rattle.std.specs.List.{swap_remove}
+use Rattle.ss_events_entries.proofs.Common.{cases_eq, cases_lt, IsStrictWeakOrder, swap_remove}
 use Rattle.std.proofs.lemmas.List.{get_or-take, get_or-set_other, length-take, length-set, get_or_append_left}
 use Rattle.std.proofs.lemmas.List.Edits.{Swapped, swapped_from_swap, length-swap}
-use Rattle.std.proofs.lemmas.Bool.{cases_eq, cases_lt}
 use Rattle.ss_events_entries.specs.HeapOrder.{IsChild, IsHeap, IsUnderParent, IsOverChildren, IsHeapBut, IsFirstOf, IsFirstAmong, IsFirstChild}
 
 -- by cases

@@ -1,14 +1,6 @@
 -- A plain entry, put after the last of a line.
 use Rattle.std.proofs.Common.{◌≡◌, ◌≢◌, ℕ, ◌+◌, ◌*◌, ◌-◌, ◌<◌, ◌≤◌, ℤ, List, ◌∷◌, length, get_or, set, refl, sym, ap, subst, ◌∙◌, ⊎_elim, inl, inr, arith}
-use Rattle.std.specs.List.Sorted.{IsPermutation}
-use Rattle.std.proofs.lemmas.Bool.{cases_eq, cases_lt}
-use Rattle.std.proofs.lemmas.List.{length-set}
-use Rattle.ss_events_entries.specs.declared.entry.Entry.{Entry}
-use Rattle.ss_events_entries.specs.declared.entry.Mark.{Mark}
-use Rattle.ss_events_entries.specs.declared.entry.directory.SlotDirectory.{SlotDirectory}
-use Rattle.ss_events_entries.specs.declared.entry.slots.Slot.{Slot}
-use Rattle.ss_events_entries.specs.declared.entry.slots.HeapNode.{HeapNode}
-use Rattle.ss_events_entries.specs.Slots.{no_entry, no_slot, following, slot_at, node, plain_ranks, plain_numbers, mark_of, plain_entry, entry_in, entry_at, heads, followers, IsGuess, IsTaken, IsBefore, AreHeld, next_put}
+use Rattle.ss_events_entries.proofs.Common.{AreHeld, cases_eq, cases_lt, Entry, entry_at, entry_in, followers, following, heads, HeapNode, IsBefore, IsGuess, IsPermutation, IsTaken, length-set, Mark, mark_of, next_put, no_entry, no_slot, node, plain_entry, plain_numbers, plain_ranks, Slot, slot_at, SlotDirectory}
 use Rattle.ss_events_entries.proofs.Marks.{in-plain, plain_differs, plain_mark}
 use Rattle.ss_events_entries.proofs.HeadsAndFollowers.{slot_at-same, slot_at-other, same_heads, follower, followers-placed, followers-kept, followers-joined}
 

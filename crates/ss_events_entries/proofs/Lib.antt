@@ -1,3 +1,4 @@
+mod Common
 pub mod EntryOrder
 pub mod Heaps
 pub mod Exchanging

@@ -1,9 +1,7 @@
 -- Lists that calls change.
 use Rattle.std.proofs.Common.{◌≡◌, ℕ, zero, suc, ◌+◌, ◌-◌, ◌<◌, Bool, true, false, cond, ltb, Vec, List, [], ◌∷◌, length, get_or, set, take, swap, position, Some, None, refl, sym, ap, ◌∙◌, arith}
-use Rattle.std.specs.List.{list_any, swap_remove}
-use Rattle.std.specs.Vec.{with_items}
+use Rattle.ss_events_entries.proofs.Common.{list_any, nat_tests, swap_remove, with_items}
 use Rattle.std.proofs.lemmas.Bool.{or_parts, or_from, lt-ltb, le-ltb}
-use Rattle.std.proofs.lemmas.Bool.Decides.{nat_tests}
 use Rattle.std.proofs.lemmas.List.{with_items_is, take-set}
 use Rattle.std.proofs.lemmas.List.Edits.{swap_is}
 use Rattle.std.proofs.lemmas.List.Sums.{position_or_len_is}

@@ -1,11 +1,7 @@
 -- Plain entries, which their marks describe, and entries that are stored whole.
 use Rattle.std.proofs.Common.{◌≡◌, ◌≢◌, ℕ, ◌+◌, ◌*◌, ◌/◌, ◌%◌, ◌<◌, ℤ, Bool, true, false, cond, ltb, [], refl, sym, ap, ◌∙◌, ⊎_elim, arith}
 use Rattle.std.specs.Prelude.{◌==◌}
-use Rattle.std.proofs.lemmas.Bool.{cases_eq, lt-ltb}
-use Rattle.std.proofs.lemmas.Bool.Decides.{nat_tests}
-use Rattle.ss_events_entries.specs.declared.entry.Entry.{Entry}
-use Rattle.ss_events_entries.specs.declared.entry.Mark.{Mark}
-use Rattle.ss_events_entries.specs.Slots.{not_plain, plain_ranks, plain_numbers, is_tied, mark_of, order_of, plain_entry, entry_in}
+use Rattle.ss_events_entries.proofs.Common.{cases_eq, Entry, entry_in, is_tied, lt-ltb, Mark, mark_of, nat_tests, not_plain, order_of, plain_entry, plain_numbers, plain_ranks}
 use Rattle.ss_events_entries.proofs.Times.{by_three, untied, below}
 
 -- ---- one entry

@@ -1,14 +1,7 @@
 -- An entry that is put into the next place.
 use Rattle.std.proofs.Common.{◌≡◌, ◌≢◌, ℕ, ◌+◌, ◌-◌, ◌*◌, ◌<◌, ◌≤◌, ℤ, Bool, true, false, cond, List, [], ◌∷◌, ◌++◌, length, get_or, set, refl, sym, ap, subst, ◌∙◌, ⊎_elim, inl, inr, arith}
 use Rattle.std.specs.Prelude.{◌==◌}
-use Rattle.std.proofs.lemmas.Bool.{cases_eq}
-use Rattle.std.proofs.lemmas.Bool.Decides.{nat_tests}
-use Rattle.std.proofs.lemmas.List.{get_or_default, length-set, length_push, get_or_push, get_or_append_left, get_or-set_same, get_or-set_other, same_lists}
-use Rattle.ss_events_entries.specs.declared.entry.Entry.{Entry}
-use Rattle.ss_events_entries.specs.declared.entry.Mark.{Mark}
-use Rattle.ss_events_entries.specs.declared.entry.directory.SlotDirectory.{SlotDirectory}
-use Rattle.ss_events_entries.specs.declared.entry.slots.Slot.{Slot}
-use Rattle.ss_events_entries.specs.declared.entry.slots.HeapNode.{HeapNode}
+use Rattle.ss_events_entries.proofs.Common.{cases_eq, Entry, get_or-set_other, get_or-set_same, get_or_append_left, get_or_default, get_or_push, HeapNode, length-set, length_push, Mark, nat_tests, same_lists, Slot, SlotDirectory}
 use Rattle.ss_events_entries.specs.Slots.{no_entry, no_slot, no_node, following, not_plain, plain_ranks, plain_numbers, slot_at, node, mark_of, order_of, plain_entry, entry_in, entry_at, heads, followers, first_guess, second_guess, IsTaken, IsBefore, IsGuess, AreDistinct, AreLed, AreHeld}
 use Rattle.ss_events_entries.proofs.HeadsAndFollowers.{slot_at-same, slot_at-other, long_heads, head_at, followers-placed}
 use Rattle.ss_events_entries.proofs.Marks.{in-plain, in_again, plain_mark, plain_differs}

@@ -1,12 +1,6 @@
 -- The other slots, once the entry of one has gone out.
 use Rattle.std.proofs.Common.{◌≡◌, ◌≢◌, ℕ, ◌+◌, ◌-◌, ◌<◌, ◌≤◌, ℤ, List, length, sym, ap, subst, ◌∙◌, arith}
-use Rattle.std.specs.Prelude.{slice_index_or, slice_set}
-use Rattle.std.proofs.lemmas.List.{length-set, get_or-set_same, get_or-set_other}
-use Rattle.ss_events_entries.specs.declared.entry.Entry.{Entry}
-use Rattle.ss_events_entries.specs.declared.entry.directory.SlotDirectory.{SlotDirectory}
-use Rattle.ss_events_entries.specs.declared.entry.slots.Slot.{Slot}
-use Rattle.ss_events_entries.specs.declared.entry.slots.HeapNode.{HeapNode}
-use Rattle.ss_events_entries.specs.Slots.{no_entry, no_node, following, slot_at, node, mark_of, entry_in, entry_at, IsTaken, AreDistinct, AreLed, AreHeld, IsGuess}
+use Rattle.ss_events_entries.proofs.Common.{AreDistinct, AreHeld, AreLed, Entry, entry_at, entry_in, following, get_or-set_other, get_or-set_same, HeapNode, IsGuess, IsTaken, length-set, mark_of, no_entry, no_node, node, slice_index_or, slice_set, Slot, slot_at, SlotDirectory}
 use Rattle.ss_events_entries.proofs.Fewer.{fewer_below}
 
 -- ---- a slot put into a place

@@ -1,15 +1,7 @@
 -- A follower goes out: the slots once its slot is free.
 use Rattle.std.proofs.Common.{◌≡◌, ◌≢◌, ◌⊎◌, ℕ, ◌+◌, ◌-◌, ◌<◌, ◌≤◌, ℤ, true, false, cond, List, ◌∷◌, length, refl, sym, ap, subst, ◌∙◌, ⊎_elim, inl, inr, arith, if◌then◌else◌}
 use Rattle.std.specs.Prelude.{◌==◌, slice_index_or}
-use Rattle.std.specs.List.Sorted.{IsPermutation}
-use Rattle.std.proofs.lemmas.Bool.{cases_eq, cases_lt}
-use Rattle.std.proofs.lemmas.Bool.Decides.{nat_tests}
-use Rattle.std.proofs.lemmas.List.{length-set}
-use Rattle.ss_events_entries.specs.declared.entry.Entry.{Entry}
-use Rattle.ss_events_entries.specs.declared.entry.directory.SlotDirectory.{SlotDirectory}
-use Rattle.ss_events_entries.specs.declared.entry.slots.Slot.{Slot}
-use Rattle.ss_events_entries.specs.declared.entry.slots.HeapNode.{HeapNode}
-use Rattle.ss_events_entries.specs.Slots.{no_entry, no_slot, following, slot_at, node, entry_in, entry_at, IsTaken, IsBefore, AreHeld, IsGuess, heads, followers, at_put, next_put}
+use Rattle.ss_events_entries.proofs.Common.{AreHeld, at_put, cases_eq, cases_lt, Entry, entry_at, entry_in, followers, following, heads, HeapNode, IsBefore, IsGuess, IsPermutation, IsTaken, length-set, nat_tests, next_put, no_entry, no_slot, node, Slot, slot_at, SlotDirectory}
 use Rattle.ss_events_entries.proofs.HeadsAndFollowers.{slot_at-same, slot_at-other, same_heads, follower, followers-placed, followers-kept, followers-left}
 use Rattle.ss_events_entries.proofs.Released.{freed, freed-same, freed-other, freed-long, room_of_follower, fits-released, distinct-released, led-released}
 

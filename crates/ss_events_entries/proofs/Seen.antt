@@ -1,20 +1,10 @@
 -- What is read of entries in lines.
 use Rattle.std.proofs.Common.{◌≡◌, ◌≢◌, ℕ, zero, suc, ◌-◌, ◌*◌, ◌<◌, ◌≤◌, ℤ, pos, true, false, List, length, get_or, ◌||◌, position, is_some, Option, Some, None, sym, ap, subst, ◌∙◌, ⊎_elim, inl, inr, arith}
 use Rattle.std.specs.Ordering.{int_eq}
-use Rattle.std.specs.Cmp.{int_eq_equiv}
-use Rattle.std.specs.List.{list_any}
-use Rattle.std.specs.Option.{MatchOption}
-use Rattle.std.proofs.lemmas.Bool.{cases_Bool, cases_lt, lt-ltb}
+use Rattle.ss_events_entries.proofs.Common.{AreHeld, blank_slot, cases_Bool, cases_lt, comes_before, Entry, entry_at, followers, following, heads, HeapNode, int_eq_equiv, IsBut, IsTaken, list_any, lt-ltb, Mark, mark_of, MatchOption, no_entry, no_node, node, not_plain, order_of, plain_entry, plain_numbers, plain_ranks, Slot, slot_at, SlotDirectory}
 use Rattle.std.proofs.lemmas.Bool.Decides.{Decides-int_eq}
 use Rattle.std.proofs.lemmas.List.{length-map, get_or-map, get_or_default, get_or_past}
-use Rattle.ss_events_entries.specs.declared.entry.Entry.{Entry}
-use Rattle.ss_events_entries.specs.declared.entry.Mark.{Mark}
-use Rattle.ss_events_entries.specs.declared.entry.directory.SlotDirectory.{SlotDirectory}
-use Rattle.ss_events_entries.specs.declared.entry.slots.Slot.{Slot}
-use Rattle.ss_events_entries.specs.declared.entry.slots.HeapNode.{HeapNode}
 use Rattle.ss_events_entries.specs.HeapEntries.{HeadsAndFollowers, notices_of, event_of, IsLed, AreAfterHeads}
-use Rattle.ss_world.specs.Order.{comes_before}
-use Rattle.ss_events_entries.specs.Slots.{no_entry, blank_slot, no_node, following, not_plain, plain_ranks, plain_numbers, slot_at, node, mark_of, order_of, plain_entry, IsBut, entry_at, heads, followers, IsTaken, AreHeld}
 use Rattle.ss_events_entries.proofs.Lists.{each_fails, none_passes, first_at, first_nowhere}
 use Rattle.ss_events_entries.proofs.Marks.{notice_in, in-not_plain, plain_small, plain_again, plain_mark}
 use Rattle.ss_events_entries.proofs.Times.{orders_decide}

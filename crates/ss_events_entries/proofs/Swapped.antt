@@ -1,15 +1,6 @@
 -- Two lines that change places.
 use Rattle.std.proofs.Common.{◌≡◌, ◌≢◌, ℕ, ◌+◌, ◌<◌, ◌≤◌, List, length, get_or, swap, sym, ap, subst, ◌∙◌, ⊎_elim, inl, inr, arith}
-use Rattle.std.proofs.lemmas.Bool.{cases_eq, cases_lt}
-use Rattle.std.proofs.lemmas.Bool.Decides.{nat_tests}
-use Rattle.std.proofs.lemmas.List.{length-set, same_lists}
-use Rattle.std.proofs.lemmas.List.Edits.{length-swap}
-use Rattle.ss_events_entries.specs.declared.entry.Entry.{Entry}
-use Rattle.ss_events_entries.specs.declared.entry.Mark.{Mark}
-use Rattle.ss_events_entries.specs.declared.entry.directory.SlotDirectory.{SlotDirectory}
-use Rattle.ss_events_entries.specs.declared.entry.slots.Slot.{Slot}
-use Rattle.ss_events_entries.specs.declared.entry.slots.HeapNode.{HeapNode}
-use Rattle.ss_events_entries.specs.Slots.{no_entry, no_slot, no_node, following, slot_at, node, mark_of, entry_in, entry_at, heads, followers, IsGuess, IsTaken, IsBefore, AreHeld, at_put, exchanged}
+use Rattle.ss_events_entries.proofs.Common.{AreHeld, at_put, cases_eq, cases_lt, Entry, entry_at, entry_in, exchanged, followers, following, heads, HeapNode, IsBefore, IsGuess, IsTaken, length-set, length-swap, Mark, mark_of, nat_tests, no_entry, no_node, no_slot, node, same_lists, Slot, slot_at, SlotDirectory}
 use Rattle.ss_events_entries.proofs.Exchanging.{exchange, exchange-within, exchange-twice, get_or-swap}
 use Rattle.ss_events_entries.proofs.Lists.{exchange-first, exchange-other}
 use Rattle.ss_events_entries.proofs.HeadsAndFollowers.{slot_at-same, slot_at-other, long_heads, head_at, followers-placed}

@@ -1,18 +1,10 @@
 -- Entries whose order is decided before their ties are compared.
 use Rattle.std.proofs.Common.{◌≡◌, ℕ, ◌+◌, ◌*◌, ◌<◌, ℤ, Bool, true, false, cond, ltb, refl, sym, ap, ◌∙◌, List, [], ◌∷◌, ⊎_elim, arith}
 use Rattle.std.specs.Prelude.{int_lt, nat_lt, ◌==◌}
-use Rattle.std.specs.declared.cmp.Ordering.{Ordering}
-use Rattle.std.specs.declared.cmp.Ordering.TheVariants.{Less, Equal, Greater}
+use Rattle.ss_events_entries.proofs.Common.{cases_eq, cases_lt, Entry, Equal, Greater, ints, is_tied, IsBut, le-ltb, Less, lt-ltb, nat_tests, not_plain, order_of, Ordering, plain_numbers, plain_ranks, slice_cmp, Tie}
 use Rattle.std.specs.Ordering.{int_cmp, nat_cmp, is_lt, ordering_then}
-use Rattle.std.specs.Cmp.Lexicographic.{slice_cmp}
-use Rattle.std.proofs.lemmas.Bool.{cases_eq, cases_lt, lt-ltb, le-ltb}
-use Rattle.std.proofs.lemmas.Bool.Decides.{nat_tests}
 use Rattle.std.proofs.lemmas.Cmp.{tied_itself, nat_cmp_total, int_cmp_total}
-use Rattle.std.proofs.lemmas.Int.{ints}
-use Rattle.ss_world.specs.declared.ties.Tie.{Tie}
-use Rattle.ss_events_entries.specs.declared.entry.Entry.{Entry}
 use Rattle.ss_world.specs.Order.{tie_order, key_order, comes_before}
-use Rattle.ss_events_entries.specs.Slots.{is_tied, not_plain, plain_ranks, plain_numbers, order_of, IsBut}
 
 by_tests : (b c : Bool) (r s : Ordering) → (b ≡ false → c ≡ false → ⊥) → b ≡ is_lt (ordering_then (ordering_then (cond b Less (cond c Greater Equal)) r) s)
 by_tests true c r s h = refl

@@ -1,8 +1,7 @@
 -- When the reader is asked.
 use Rattle.std.proofs.Common.{◌≡◌, ◌≢◌, inl, inr, ℕ, Bool, true, false, not, List, [], ◌∷◌, drop, Some, refl, sym, ap, ◌∙◌}
-use Rattle.ss_input.specs.Blocks.{BlockSeen, first_input_byte}
+use Rattle.ss_input.proofs.Common.{BlockSeen, first_input_byte, is_separator, is_word_byte}
 use Rattle.ss_input.specs.Sources.{after_while, IsEnough, IsUnasked, IsNextWanted, HasWord}
-use Rattle.ss_input.specs.Words.{is_separator, is_word_byte}
 use Rattle.ss_input.proofs.Passages.{some_first}
 
 skips : (passes : ℕ → Bool) (x : ℕ) (l : List ℕ) → passes x ≡ true → after_while passes (x ∷ l) ≡ after_while passes l

@@ -1,16 +1,9 @@
 -- A number whose bytes are buffered.
 use Rattle.std.proofs.Common.{◌≡◌, ℕ, zero, suc, ◌+◌, ◌<◌, ◌≤◌, ◌&&◌, ◌==◌, Bool, true, false, not, nat_le, List, [], ◌∷◌, ◌++◌, length, take, drop, Option, Some, None, Ok, pos, refl, sym, ap, subst, ◌∙◌, arith}
-use Rattle.std.specs.List.{list_all}
-use Rattle.std.specs.Io.KnownBytes.{Consumes}
-use Rattle.std.proofs.lemmas.Bool.{leb-true, lt-ltb}
+use Rattle.ss_input.proofs.Common.{Consumes, first_input_byte, HasPassed, Integer, IsNextWanted, leb-true, list_all, lt-ltb, Source, Whole}
 use Rattle.std.proofs.lemmas.Bool.Decides.{nat_tests}
 use Rattle.std.proofs.lemmas.List.{append-nil, take-append-drop, drop-drop, length-take-le, length-drop}
-use Rattle.ss_base.specs.declared.layout.Mode.TheVariants.{Integer}
-use Rattle.ss_base.specs.declared.value.Value.TheVariants.{Whole}
 use Rattle.ss_base.specs.Arithmetic.{fits_64_bits}
-use Rattle.ss_input.specs.Blocks.{first_input_byte}
-use Rattle.ss_input.specs.declared.source.Source.{Source}
-use Rattle.ss_input.specs.Sources.{HasPassed, IsNextWanted}
 use Rattle.ss_input.specs.Inputs.{source_block, source_gap, IsBuffered, IsBeforeWord, HasReached, HasReadInput}
 use Rattle.ss_input.specs.Words.{is_digit, is_separator, is_word_byte, digits_from, digits_of, number_read, within_64_bits, next_word, value_given, read_word, if_read, as_whole, no_word, is_ended}
 use Rattle.ss_input.proofs.Reached.{word_found, end_found, reads_so, reads_moved}

@@ -1,11 +1,7 @@
 -- Digits that are read one after another.
 use Rattle.std.proofs.Common.{◌≡◌, ◌≤◌, ◌&&◌, Bool, false, nat_le, ℕ, ◌+◌, ◌-◌, ◌*◌, ◌<◌, length, take, min, true, List, [], ◌∷◌, ◌++◌, refl, sym, ap, ◌∙◌, slice_index_or, arith}
-use Rattle.std.specs.List.{list_all}
-use Rattle.std.proofs.lemmas.Bool.{leb-true}
+use Rattle.ss_input.proofs.Common.{cap, digits_from, is_digit, leb-true, list_all, list_all-append}
 use Rattle.std.proofs.lemmas.List.{take_more}
-use Rattle.std.proofs.lemmas.List.Folds.{list_all-append}
-use Rattle.ss_input.specs.Words.{is_digit, digits_from}
-use Rattle.ss_input.specs.Numbers.{cap}
 
 pub one_more : (xs : List ℕ) (i : ℕ) → i < length xs → list_all is_digit (take i xs) ≡ true → is_digit (slice_index_or xs i 0) ≡ true → list_all is_digit (take (i + 1) xs) ≡ true
 one_more xs i lt h d =

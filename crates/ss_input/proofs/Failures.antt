@@ -2,8 +2,7 @@
 use Rattle.std.proofs.Common.{◌≡◌, ◌∙◌, ℕ, Result, Ok, Err, ap, subst, sym, arith}
 use Rattle.ss_base.specs.Failures.{HasRisen, HasRisenBy}
 use Rattle.ss_input.specs.declared.source.Missed.{Missed}
-use Rattle.ss_input.specs.declared.source.Missed.TheVariants.{Fault, Input}
-use Rattle.ss_input.specs.Inputs.{failures_after}
+use Rattle.ss_input.proofs.Common.{failures_after, Fault, Input}
 
 not_less : {A : Type 0} (answer : Result A Missed) (count : ℕ) → HasRisenBy 0 count (failures_after answer count)
 not_less (Ok value) count = omega arith

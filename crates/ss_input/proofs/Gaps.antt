@@ -1,10 +1,9 @@
 -- The words of bytes that were passed.
 use Rattle.std.proofs.Common.{◌≡◌, ℕ, ◌<◌, ◌≤◌, Bool, true, false, ◌&&◌, List, [], ◌∷◌, ◌++◌, length, drop, Ok, Err, refl, sym, ap, subst, ◌∙◌, arith}
 use Rattle.std.specs.Prelude.{take_while}
-use Rattle.std.specs.List.{list_all}
+use Rattle.ss_input.proofs.Common.{BadData, list_all}
 use Rattle.std.proofs.lemmas.Bool.{lt-ltb, le-ltb}
 use Rattle.std.proofs.lemmas.List.Sums.{take_while-cons}
-use Rattle.ss_base.specs.declared.fault.FaultKind.TheVariants.{BadData}
 use Rattle.ss_input.specs.Words.{is_separator, is_word_byte, gap, from_word, first_word, leading_word, separator_limit, word_limit}
 
 -- bytes that begin with none of a kind

@@ -1,3 +1,4 @@
+mod Common
 mod Wanting
 pub mod Asked
 pub mod Digits

@@ -1,12 +1,9 @@
 -- Bytes that are passed one after another.
 use Rattle.std.proofs.Common.{◌≡◌, ℕ, ◌+◌, Bool, true, List, [], ◌∷◌, ◌++◌, length, take, drop, slice_set, ◌<◌, Option, Some, None, false, refl, sym, ap, subst, ◌∙◌, arith}
 use Rattle.std.proofs.lemmas.List.{append_assoc, append-nil, length-append, take_more_set}
-use Rattle.std.proofs.lemmas.List.Folds.{list_all-append}
+use Rattle.ss_input.proofs.Common.{HasGivenBytes, HasPassed, HasPassedSome, is_separator, is_word_byte, IsGapPassed, IsNextWanted, IsWordPassed, list_all, list_all-append, MustAskMore}
 use Rattle.std.specs.Io.KnownBytes.{Consumes, Keeps}
-use Rattle.std.specs.List.{list_all}
 use Rattle.ss_input.specs.Blocks.{BlockSeen, HasPeeked, IsUnread, first_input_byte}
-use Rattle.ss_input.specs.Sources.{HasGivenBytes, HasPassed, HasPassedSome, IsGapPassed, IsWordPassed, IsNextWanted, MustAskMore}
-use Rattle.ss_input.specs.Words.{is_separator, is_word_byte}
 
 pub some_first : (x : ℕ) (l : List ℕ) → Some x ≡ first_input_byte l → l ≡ x ∷ drop 1 l
 some_first x [] e = absurd cc

@@ -1,15 +1,7 @@
 -- From bytes that were passed to the words of the input.
 use Rattle.std.proofs.Common.{◌≡◌, ℕ, ◌≤◌, Bool, true, false, not, List, [], ◌∷◌, ◌++◌, length, Option, None, Ok, Err, refl, sym, ap, subst, ◌∙◌, arith}
-use Rattle.std.specs.List.{list_all}
-use Rattle.std.specs.Io.KnownBytes.{Consumes}
-use Rattle.std.proofs.lemmas.List.{append_assoc, length-append}
-use Rattle.std.proofs.lemmas.List.Folds.{list_all-append}
-use Rattle.ss_base.specs.declared.fault.FaultKind.TheVariants.{BadData}
-use Rattle.ss_input.specs.declared.source.Source.{Source}
-use Rattle.ss_input.specs.Blocks.{BlockSeen, first_input_byte}
-use Rattle.ss_input.specs.Sources.{HasGivenBytes, HasPassed, HasPassedSome, IsGapPassed, IsWordPassed, IsNextWanted}
+use Rattle.ss_input.proofs.Common.{append_assoc, BadData, BlockSeen, Consumes, first_input_byte, from_word, HasGivenBytes, HasPassed, HasPassedSome, is_ended, is_separator, is_word_byte, IsGapPassed, IsNextWanted, IsWordPassed, leading_word, length-append, list_all, list_all-append, next_word, no_word, Source}
 use Rattle.ss_input.specs.Inputs.{source_block, source_gap, HasReached, IsAhead, HasReadInput, HasFound}
-use Rattle.ss_input.specs.Words.{is_separator, is_word_byte, from_word, leading_word, next_word, is_ended, no_word}
 use Rattle.ss_input.proofs.Passages.{consumes_more}
 use Rattle.ss_input.proofs.Gaps.{Stops, word_next, too_many, word_is, too_long}
 

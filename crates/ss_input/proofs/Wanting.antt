@@ -1,10 +1,7 @@
 -- Where the reader failed, more of its bytes were needed.
 use Rattle.std.proofs.Common.{◌≡◌, ℕ, Bool, true, false, not, ◌&&◌, List, [], ◌∷◌, ◌++◌, Option, refl, ap, ◌∙◌}
-use Rattle.std.specs.List.{list_all}
-use Rattle.std.proofs.lemmas.List.{append-nil}
-use Rattle.ss_input.specs.Blocks.{BlockSeen}
+use Rattle.ss_input.proofs.Common.{append-nil, BlockSeen, is_separator, is_word_byte, list_all}
 use Rattle.ss_input.specs.Sources.{IsGapPassed, MustAskMore, IsLackingWord, after_while}
-use Rattle.ss_input.specs.Words.{is_separator, is_word_byte}
 use Rattle.ss_input.proofs.Passages.{passes_then}
 
 and-left : (a b : Bool) → (a && b) ≡ true → a ≡ true

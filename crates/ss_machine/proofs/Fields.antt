@@ -1,10 +1,8 @@
 -- Fields that take items.
 use Rattle.std.proofs.Common.{◌≡◌, ℕ, ◌+◌, ◌<◌, Bool, true, false, ◌&&◌, List, [], ◌∷◌, ◌++◌, length, get_or, take, drop, min, refl, sym, ap, ◌∙◌, subst}
-use Rattle.std.specs.List.{flat_map, AllByRecursion}
-use Rattle.std.proofs.lemmas.List.{drop_more, take_min, drop_min}
+use Rattle.ss_machine.proofs.Common.{AllByRecursion, drop_min, drop_more, flat_map, Is, IsPrintable, Item, Mean, picture_fields, take_min}
 use Rattle.std.proofs.lemmas.Bool.{eqb-true, leb-true}
 use Rattle.ss_picture.specs.declared.field.Field.{Field}
-use Rattle.ss_machine.proofs.Common.{Is, IsPrintable, Item, Mean, picture_fields}
 use Rattle.ss_picture.specs.Suited.{IsSuitedItem, AreSuitedItems}
 use Rattle.ss_meaning.specs.Values.{takes, take_all}
 

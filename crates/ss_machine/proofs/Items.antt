@@ -1,20 +1,11 @@
 -- The items of a PRINT, made one by one.
 use Rattle.std.proofs.Common.{◌≡◌, ℕ, ◌+◌, ◌<◌, ◌^◌, List, [], ◌∷◌, ◌++◌, length, map, get_or, drop, Option, Some, None, Ok, Err, ℤ, pos, refl, sym, ap, ◌∙◌, subst, arith}
-use Rattle.std.specs.Prelude.{Result, slice_get}
-use Rattle.std.specs.List.{AllByRecursion}
-use Rattle.std.proofs.lemmas.List.{append_assoc, append-nil, drop_more, drop_all}
-use Rattle.ss_base.specs.declared.fault.FaultKind.{FaultKind}
-use Rattle.ss_machine.proofs.Common.{AreShown, AreValuesAt, CanShow, Fails, Is, IsPrintable, Item, Mean, Seen, Text, TwoRows, Value, Whole}
-use Rattle.ss_meaning.specs.Values.{Failure, TypeError, due}
-use Rattle.ss_meaning.specs.Store.{Store}
-use Rattle.ss_meaning.specs.Statistics.{mean}
+use Rattle.ss_machine.proofs.Common.{AllByRecursion, append-nil, append_assoc, AreValuesAt, drop_all, drop_more, due, Fails, Failure, FaultKind, Is, Item, item_modes, ItemKind, kind_of_item, Mean, mean, Result, slice_get, Store, Text, TwoRows, TypeError, Value, Whole}
+use Rattle.ss_machine.specs.Shown.{AreShown, CanShow, IsPrintable, IsShown, CanShowOne, cells_of}
+use Rattle.ss_machine_world.specs.Seen.{Seen, with_seen, IsRight}
 use Rattle.ss_meaning.specs.Fitting.{AreOfModes}
-use Rattle.ss_code_instructions.specs.declared.item.ItemKind.{ItemKind}
 use Rattle.ss_code_instructions.specs.declared.item.ItemKind.TheVariants as shows
 use Rattle.ss_code_instructions.specs.Machine.{item_before, mean_item, values_shown}
-use Rattle.ss_code_instructions.specs.Carried.{item_modes, kind_of_item}
-use Rattle.ss_machine_world.specs.Seen.{with_seen, IsRight}
-use Rattle.ss_machine.specs.Shown.{IsShown, CanShowOne, cells_of}
 
 -- ## One item
 

@@ -1,11 +1,8 @@
 -- Values that are laid in the rows one after the other.
 use Rattle.std.proofs.Common.{◌≡◌, ℕ, zero, suc, ◌+◌, ◌<◌, List, [], ◌∷◌, ◌++◌, length, get_or, drop, refl, sym, ap, ◌∙◌, subst, arith, length-append}
 use Rattle.std.specs.Prelude.{slice_get, Some, pos}
-use Rattle.std.proofs.lemmas.List.{drop_more, drop_all}
-use Rattle.ss_machine.proofs.Common.{AreValuesAt, firsts_laid, Mode, Text, TwoRows, Value, values_laid, Whole}
-use Rattle.ss_base.specs.Layout.{first_value}
-use Rattle.ss_meaning.specs.Store.{first_values}
-use Rattle.ss_machine_frames.specs.Rows.{IsValueAt, AreAlike, with_last}
+use Rattle.ss_machine.proofs.Common.{AreValuesAt, drop_all, drop_more, first_value, first_values, firsts_laid, Mode, Text, Value, values_laid, Whole}
+use Rattle.ss_machine_frames.specs.Rows.{TwoRows, IsValueAt, AreAlike, with_last}
 use Rattle.ss_machine_frames.proofs.Places.{agree_on, agree_same, agree_within, value_agrees}
 
 -- ## In a loop

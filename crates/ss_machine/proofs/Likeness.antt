@@ -1,11 +1,9 @@
 -- Kinds of instructions: what a running instruction does, that of the definition does which it carries out.
 use Rattle.std.proofs.Common.{◌≡◌, List, refl, ap, ◌∙◌}
-use Rattle.ss_machine.proofs.Common.{Code, does_read, does_write, Instruction, is_due, reads, Value}
+use Rattle.ss_machine.proofs.Common.{Code, does_read, does_write, Instruction, is_due, Placed, reads, takes_tick, Value, writes}
 use Rattle.ss_code_instructions.specs.declared.instruction.Instruction.{Instruction as Running}
 use Rattle.ss_code_instructions.specs.declared.instruction.Instruction.TheVariants as r
-use Rattle.ss_code_instructions.specs.Instructions.{Placed}
 use Rattle.ss_code_instructions.specs.Carried.{IsCarriedOut}
-use Rattle.ss_machine.specs.Counts.{takes_tick, writes}
 
 pub record IsLike (x : Instruction) (i : Running) : Type 0 where
   pub due : is_due x ≡ takes_tick i

@@ -1,13 +1,8 @@
 -- A machine before its first step, and one that goes on.
 use Rattle.std.proofs.Common.{◌≡◌, ℕ, ◌+◌, ◌-◌, ◌*◌, ◌≤◌, Bool, true, false, [], length, None, refl, sym, ap, subst, arith}
-use Rattle.std.specs.Prelude.{slice_get}
-use Rattle.ss_machine.proofs.Common.{Generated, Input, IsAtStart, IsFirstState, IsGenerated, Memory, Output, situated, State, Stop}
-use Rattle.ss_code_instructions.specs.Laws.{HasShape}
+use Rattle.ss_machine.proofs.Common.{first_here, Generated, HasShape, IsAtStart, IsFirstState, IsGenerated, left_from, left_in_calls, situated, slice_get, State, Stop, takes_tick_at}
+use Rattle.ss_machine.specs.declared.stop.Stop.TheVariants.{Input, Memory, Output, Ended, Fault, Paused, Failed}
 use Rattle.ss_code_instructions.specs.Running.{start}
-use Rattle.ss_code_instructions.specs.Measure.{left_from}
-use Rattle.ss_machine.specs.declared.stop.Stop.TheVariants.{Ended, Fault, Paused, Failed}
-use Rattle.ss_machine.specs.Beginning.{first_here}
-use Rattle.ss_machine.specs.Counts.{takes_tick_at, left_in_calls}
 use Rattle.ss_machine.proofs.Reaching.{made_of}
 use Rattle.ss_machine.specs.Held.{IsReady, kept_after}
 

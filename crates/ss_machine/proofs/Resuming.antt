@@ -1,8 +1,7 @@
 -- A run that goes on with other ticks.
 use Rattle.std.proofs.Common.{◌≡◌, ℕ, ◌-◌, ◌≤◌, List, Option, arith}
-use Rattle.ss_machine.proofs.Common.{Compiled, Core, Generated, HasCome, Here, Input, IsRepresented, IsRunResult, IsSituated, Memory, Output, situated, Situation, Source, State, Stop}
-use Rattle.ss_machine.specs.declared.stop.Stop.TheVariants.{Ended, Fault, Paused, Failed}
-use Rattle.ss_machine.specs.Runs.{IsFinished}
+use Rattle.ss_machine.proofs.Common.{Compiled, Core, Generated, HasCome, Here, IsFinished, IsRepresented, IsRunResult, IsSituated, situated, Situation, Source, State, Stop}
+use Rattle.ss_machine.specs.declared.stop.Stop.TheVariants.{Input, Memory, Output, Ended, Fault, Paused, Failed}
 use Rattle.ss_meaning.specs.Meaning as endings
 use Rattle.ss_machine.proofs.Inputs.{reads_so, finds_so}
 

@@ -1,11 +1,8 @@
 -- What was sent of the lines of a PRINT.
 use Rattle.std.proofs.Common.{◌≡◌, ℕ, ◌+◌, List, [], ◌++◌, Option, Some, Result, Ok, Err, OnOk, OnErr, sym, ◌∙◌, subst, inl, inr, ◌⊎◌}
-use Rattle.std.specs.Prelude.{slice_get}
-use Rattle.std.specs.Io.KnownBytes.{Appends}
-use Rattle.ss_machine.proofs.Common.{AreShown, Compiled, Core, Ending, HasTakenPart, HasWrittenPart, Here, IsReadyFor, IsSending, Item, lines_with, RunningLines, Seen, State, TwoRows}
+use Rattle.ss_machine.proofs.Common.{Appends, AreShown, Compiled, Core, Ending, HasSentAll, HasSentPart, HasTakenPart, Here, IsReadyFor, Item, lines_with, RunningLines, Seen, slice_get, State, TwoRows}
+use Rattle.ss_machine.specs.Writing.{HasWrittenPart, IsSending, HasWrittenAll}
 use Rattle.ss_code_instructions.specs.declared.instruction.Instruction.TheVariants as r
-use Rattle.ss_machine.specs.Shown.{HasSentAll, HasSentPart}
-use Rattle.ss_machine.specs.Writing.{HasWrittenAll}
 use Rattle.ss_machine.proofs.Written.{sends_shown, goes_on}
 
 module _ (e : Seen) (rows : TwoRows) (at : ℕ) (l : RunningLines) (items : List Item) (shown : AreShown e rows at l.items items) (before after : Option (List ℕ)) where

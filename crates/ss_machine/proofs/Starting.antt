@@ -2,29 +2,26 @@
 use Rattle.std.proofs.Common.{◌≡◌, ℕ, ◌+◌, ◌<◌, ◌≤◌, ◌^◌, List, [], ◌∷◌, length, refl, sym, ap, ◌∙◌, subst, pos, arith}
 use Rattle.std.specs.Ordering.{int_eq}
 use Rattle.std.specs.Prelude.{Result, Ok, Err, IfOk}
-use Rattle.ss_machine.proofs.Common.{AreValuesAt, Code, Compiled, firsts_laid, Generated, IsAtStart, IsCodeOf, IsFirstState, IsGenerated, Mode, RunningCode, Seen, situated, State, TwoRows, values_laid}
+use Rattle.ss_machine.proofs.Common.{AreCallsAt, AreValuesAt, Code, first_value, IsAtStart, IsCodeOf, Mode, Seen, situated, State}
+use Rattle.ss_code.specs.Running.{Generated, IsGenerated, Said}
+use Rattle.ss_code_instructions.specs.Carried.{RunningCode, IsEntry, IsSized, main_entry}
+use Rattle.ss_machine.specs.Beginning.{firsts_laid, IsFirstState, values_laid, IsLaidOut, IsFirstWorld, first_here, none_laid}
+use Rattle.ss_machine_frames.specs.Rows.{TwoRows, AreAlike, AreGrown, with_value, cleared}
+use Rattle.ss_machine_instructions.specs.Doing.{Compiled, world_of}
 use Rattle.ss_base.specs.declared.layout.Owner.TheVariants.{System}
-use Rattle.ss_base.specs.Layout.{first_value}
 use Rattle.ss_world.specs.State.{first_state}
 use Rattle.ss_world.specs.PendingList.{none_pending}
 use Rattle.ss_meaning.specs.Histories.{starting, no_histories}
-use Rattle.ss_meaning.specs.Store.{first_values}
-use Rattle.ss_code.specs.Running.{Said}
+use Rattle.ss_meaning.specs.Store.{first_values, Notices}
 use Rattle.ss_code_instructions.specs.Running.{begin_store}
-use Rattle.ss_code_instructions.specs.Carried.{IsEntry, IsSized, main_entry}
 use Rattle.ss_machine_time.specs.Records.{columns_of}
 use Rattle.ss_base.specs.Plain.{PlainLayout}
 use Rattle.ss_base.specs.declared.layout.Discipline.{Discipline}
 use Rattle.ss_program.specs.declared.sections.Statistic.{Statistic}
-use Rattle.ss_meaning.specs.Store.{Notices}
 use Rattle.ss_world.specs.declared.ties.TieShape.{TieShape}
 use Rattle.std.specs.declared.alloc.AllocError.{AllocError}
-use Rattle.ss_machine_frames.specs.Rows.{AreAlike, AreGrown, with_value, cleared}
-use Rattle.ss_machine_frames.specs.Holding.{AreCallsAt}
 use Rattle.ss_machine_frames.proofs.Entering.{cleared_all, cleared_below, cleared_long, value_texts}
 use Rattle.ss_machine_frames.proofs.Places.{agree_on, agree_within, all_agree}
-use Rattle.ss_machine_instructions.specs.Doing.{world_of}
-use Rattle.ss_machine.specs.Beginning.{IsLaidOut, IsFirstWorld, first_here, none_laid}
 use Rattle.ss_machine.proofs.Laying.{laid_at, laid_agrees, laid_even, laid_long, firsts_long}
 
 -- ## Rows

@@ -1,32 +1,26 @@
 -- Instructions that write.
 use Rattle.std.proofs.Common.{◌≡◌, ℕ, zero, suc, ◌+◌, ◌<◌, ◌≤◌, Bool, true, false, List, [], ◌∷◌, length, map, replicate, Option, Some, None, Ok, Err, ℤ, pos, negsuc, refl, sym, ap, ◌∙◌, subst, arith}
 use Rattle.std.specs.Prelude.{slice_get, if◌then◌else◌, nat_lt, int_lt, ◌==◌, ◌||◌}
-use Rattle.std.specs.List.{flat_map}
+use Rattle.ss_machine.proofs.Common.{Address, AreShown, AreValuesAt, BadCount, CanShow, CanTakeAll, cells_held, Compiled, Ended, Ending, Faulted, flat_map, Here, Integer, IsHeld, IsReadyFor, Item, ItemKind, Mode, NoInput, NoMemory, NoOutput, Paused, picture_fields, place_at, State, Value, Whole}
 use Rattle.std.proofs.lemmas.Bool.{eqb-true, le-ltb}
-use Rattle.ss_base.specs.declared.fault.FaultKind.TheVariants.{BadCount}
-use Rattle.ss_machine.proofs.Common.{act, Address, AreShown, AreValuesAt, Breaks, CanShow, Compiled, Core, Ended, Ending, Fails, Faulted, HasWritten, HasWrittenPart, Here, IsHeld, IsReadyFor, IsSending, IsSuited, Item, line_end, lines_of_running, lines_with, Mode, Moved, NoInput, NoMemory, NoOutput, Paused, picture_fields, place_at, Rest, RunningLines, State, suits, Value, Whole}
-use Rattle.ss_base.specs.declared.layout.Mode.TheVariants.{Integer}
-use Rattle.ss_meaning.specs.Values.{unless_fault, printed, take_all, empty_lines}
-use Rattle.ss_code_instructions.specs.declared.item.ItemKind.{ItemKind}
+use Rattle.ss_code_instructions.specs.Carried.{lines_of_running, RunningLines, kind_of_item, item_modes, onto, HasCell, HasOperand, Is}
+use Rattle.ss_code_instructions.specs.Machine.{act, values_shown, print_lines, cells_of_kinds}
+use Rattle.ss_code_instructions.specs.Shape.{IsSuited, AreFitForItems, modes_onto}
+use Rattle.ss_code_instructions.specs.States.{Breaks, Core, Moved, Rest, Sends, Stuck, did, fit, core_at, with_block, at_height}
+use Rattle.ss_machine.specs.Writing.{HasWritten, HasWrittenPart, IsSending, IsUnsent, IsSendingOn, HasStoppedWriting}
+use Rattle.ss_machine_instructions.proofs.Placing.{suits, site, located, deep_here, goes_with}
+use Rattle.ss_meaning.specs.Values.{Fails, line_end, lines_with, unless_fault, printed, take_all, empty_lines}
 use Rattle.ss_code_instructions.specs.declared.item.ItemKind.TheVariants as shows
 use Rattle.ss_code_instructions.specs.declared.instruction.Instruction.{Instruction as Running}
 use Rattle.ss_code_instructions.specs.declared.instruction.Instruction.TheVariants as r
 use Rattle.ss_code_instructions.specs.Instructions as d
 use Rattle.ss_code_instructions.specs.Instructions.{Lines}
-use Rattle.ss_code_instructions.specs.States.{Sends, Stuck, did, fit, core_at, with_block, at_height}
-use Rattle.ss_code_instructions.specs.Machine.{values_shown, print_lines, cells_of_kinds}
-use Rattle.ss_code_instructions.specs.Shape.{AreFitForItems, modes_onto}
-use Rattle.ss_code_instructions.specs.Carried.{kind_of_item, item_modes, onto, HasCell, HasOperand, Is}
 use Rattle.ss_machine_frames.proofs.Entering.{Cut, cut}
 use Rattle.ss_machine_frames.proofs.Reading.{Reads, reads, read_within, only_number, own_is, hold_length}
-use Rattle.ss_machine_frames.proofs.Writing.{cells_held}
 use Rattle.ss_machine_instructions.specs.Ways.{stopped}
 use Rattle.ss_machine_instructions.proofs.Calling.{Blocked, blocked, cells_long}
 use Rattle.ss_machine_instructions.proofs.Seeing.{seen_is}
 use Rattle.ss_machine_instructions.proofs.Figuring.{has_subject, refers_to}
-use Rattle.ss_machine_instructions.proofs.Placing.{site, located, deep_here, goes_with}
-use Rattle.ss_machine.specs.Shown.{CanTakeAll}
-use Rattle.ss_machine.specs.Writing.{IsUnsent, IsSendingOn, HasStoppedWriting}
 
 -- ## What a PRINT finds
 

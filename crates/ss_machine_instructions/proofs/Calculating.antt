@@ -1,13 +1,12 @@
 -- Moves and calculations: the operands are read, and the answer is to go to the target.
 use Rattle.std.proofs.Common.{◌≡◌, ◌+◌, ◌<◌, length, Some, Ok, sym, ap, ◌∙◌, subst}
 use Rattle.std.specs.Prelude.{ℤ, slice_get, Result as OkOr}
-use Rattle.ss_machine_instructions.proofs.Common.{act, Address, as_value, both_within, BothWithin, Compiled, computed, Core, deliver, due, FaultKind, HasOperand, HasTarget, Here, Instruction, Integer, Is, IsDelivering, IsReadyFor, IsSuited, Mode, mode_of, Only, only_number, place_at, read_within, reads, reads_both, State, turned, Value, Whole}
-use Rattle.ss_base.specs.declared.words.Operator.{Operator}
+use Rattle.ss_machine_instructions.proofs.Common.{act, Address, as_value, both_within, BothWithin, Compiled, Core, deliver, FaultKind, Here, Instruction, Integer, IsDelivering, IsReadyFor, IsSuited, Mode, mode_of, Only, only_number, Operator, place_at, read_within, reads, reads_both, State, Value, Whole}
+use Rattle.ss_code_instructions.specs.Carried.{HasOperand, HasTarget, Is, IsMovingValue, IsCalculating}
+use Rattle.ss_meaning.specs.Values.{computed, due, turned, calculated, computed_alone, applied}
 use Rattle.ss_base.specs.declared.words.UnaryOperator.{UnaryOperator}
-use Rattle.ss_meaning.specs.Values.{calculated, computed_alone, applied}
 use Rattle.ss_code_instructions.specs.declared.instruction.Instruction.{Instruction as Running}
 use Rattle.ss_code_instructions.specs.Instructions as i
-use Rattle.ss_code_instructions.specs.Carried.{IsMovingValue, IsCalculating}
 use Rattle.ss_machine_instructions.proofs.Placing.{site, located, suits, deep_at, deep_here, gives_mode}
 use Rattle.ss_machine_instructions.proofs.Delivering.{delivers, deliver_is, number_right}
 

@@ -1,21 +1,14 @@
 -- Entities that come and go.
 use Rattle.std.proofs.Common.{◌≡◌, ℕ, ◌+◌, ◌<◌, true, length, Option, Some, None, Ok, Err, refl, ap, ◌∙◌, subst}
-use Rattle.std.proofs.lemmas.Option.{slice_get_within}
+use Rattle.ss_machine_instructions.proofs.Common.{act, Address, ClassKind, ClassLayout, Compiled, Core, created_all_known, deliver_with, did, done_unless_fault, faulted_by, FaultKind, Fine, HasChanged, HasChangedWithMemory, HasMade, HasOperand, HasPerformed, HasTarget, Here, Instruction, Integer, Is, is_due, IsDelivered, IsDelivering, IsFittingStore, IsReadyFor, IsSuited, Layout, mode_of, Moved, on_after, on_at, only_number, onward, Permanent, place_at, read_within, reads, Refused, refused_by, Seen, slice_get_within, State, Store, Value, Whole, with_seen}
 use Rattle.std.specs.Prelude.{ℤ, not, slice_get, Result as OkOr}
-use Rattle.ss_machine_instructions.proofs.Common.{act, Address, ClassLayout, Compiled, Core, deliver_with, did, done_unless_fault, faulted_by, FaultKind, Fine, HasChanged, HasChangedWithMemory, HasMade, HasOperand, HasPerformed, HasTarget, Here, if_ok, Instruction, Integer, Is, is_due, IsDelivering, IsFittingStore, IsReadyFor, IsSuited, Layout, mode_of, Moved, on_after, on_at, only_number, onward, place_at, read_within, reads, Seen, State, Store, Value, Whole, with_seen}
-use Rattle.ss_base.specs.declared.fault.Refused.{Refused}
-use Rattle.ss_base.specs.declared.layout.ClassKind.{ClassKind}
-use Rattle.ss_base.specs.declared.layout.ClassKind.TheVariants.{Permanent}
+use Rattle.ss_meaning.specs.Values.{if_ok, sure, number_of}
 use Rattle.ss_program.specs.declared.statement.CountedClass.{CountedClass}
 use Rattle.ss_program.specs.WellTyped.{kind_of_class, is_created_singly, IsTypedCount}
-use Rattle.ss_meaning.specs.Values.{sure, number_of}
 use Rattle.ss_meaning.specs.Entities.{comes_singly, is_single, is_permanent, made_one, without}
 use Rattle.ss_meaning.proofs.Entities.{class_said, single_said, count_said, made_one_fine}
 use Rattle.ss_code_instructions.specs.declared.instruction.Instruction.{Instruction as Running}
 use Rattle.ss_code_instructions.specs.Instructions as i
-use Rattle.ss_machine_world.specs.Numbers.{created_all_known}
-use Rattle.ss_machine_instructions.specs.Doing.{IsDelivered}
-use Rattle.ss_machine_instructions.specs.Ways.{refused_by}
 use Rattle.ss_machine_instructions.proofs.Placing.{site, located, suits, small, deep_at, deep_here, calm}
 use Rattle.ss_machine_instructions.proofs.Seeing.{makes_not, changes_not, seen_is, layout_is, goes_seeing, changes, refuses}
 use Rattle.ss_machine_instructions.proofs.Figuring.{global_within, global_is}

@@ -1,38 +1,22 @@
 -- Statistics: of whom one is asked, what it says, RESET, and a variable that one watches.
 use Rattle.std.proofs.Common.{◌≡◌, ℕ, ◌+◌, ◌<◌, Bool, true, false, List, [], ◌∷◌, length, Option, Some, None, Ok, Err, refl, sym, ap, ◌∙◌, subst}
-use Rattle.std.proofs.lemmas.Option.{slice_get_within}
+use Rattle.ss_machine_instructions.proofs.Common.{act, Address, as_value, assigned_variable, at_place, Bearer, Class, Compiled, Core, core_at, deliver, did, done_unless_fault, due, every_get, Failure, faulted_by, FaultKind, figure, Global, HasAnswer, HasBearer, HasChanged, HasChangedWhere, HasNoTick, HasOperand, HasPerformed, HasTarget, Here, if_ok, Instruction, Integer, Is, is_due, IsCoreHeld, IsDelivering, IsHeld, IsNotedAfter, IsNotedIf, IsReadyFor, IsRight, IsValueAt, Layout, mean, Mode, modes_of, Moved, OfAttribute, OfCount, OfVariable, on_after, onward, option_map, Owner, owner_as, owner_in, place_at, Program, reset, Seen, set_length, SetLayout, slice_get_within, State, Statistic, Subject, System, unwatched, Value, value_in, value_once, watch, Whole, with_number, with_seen, without_value}
 use Rattle.std.specs.Prelude.{ℤ, pos, ◌||◌, is_some, slice_get, if◌then◌else◌, Result as OkOr}
 use Rattle.std.specs.List.{list_any}
-use Rattle.std.specs.Option.{option_map}
-use Rattle.ss_machine_instructions.proofs.Common.{act, Address, as_value, at_place, attribute_noted, Bearer, bearer_within, Class, Compiled, Core, core_at, deliver, did, done_unless_fault, due, Failure, faulted_by, FaultKind, HasAnswer, HasBearer, HasChanged, HasChangedWhere, HasNoTick, HasOperand, HasPerformed, HasTarget, HasValidSubject, Here, if_ok, Instruction, Integer, Is, is_due, IsCoreHeld, IsDelivering, IsHeld, IsReadyFor, IsReferenceToSubject, IsRight, IsSuited, Layout, Mode, modes_of, Moved, noted, OfCount, on_after, only_number, onward, Owner, owner_as, place_at, Program, read_within, reads, reads_bearer, Refers, Seen, SetLayout, State, Store, System, Value, value_in, watch, Whole, with_number, with_seen}
-use Rattle.ss_world.specs.Sets.{owner_in}
+use Rattle.ss_code_instructions.specs.Shape.{IsSuited, IsStatisticBearer}
+use Rattle.ss_machine_frames.proofs.Reading.{bearer_within, only_number, read_within, reads, reads_bearer, Refers, lies_at, variable_within}
+use Rattle.ss_machine_world.specs.Numbers.{attribute_noted, HasValidSubject, IsReferenceToSubject, IsReferenceTo, IsSubject, IsHeldBySubject as VariableHolds}
+use Rattle.ss_meaning.specs.Histories.{noted, home, same_subject}
+use Rattle.ss_meaning.specs.Store.{Store, put}
 use Rattle.ss_program.specs.declared.expression.Fold.{Fold}
-use Rattle.ss_program.specs.declared.expression.Variable.TheVariants.{Global}
-use Rattle.ss_program.specs.declared.sections.Subject.{Subject}
-use Rattle.ss_program.specs.declared.sections.Subject.TheVariants.{OfVariable, OfAttribute}
-use Rattle.ss_program.specs.declared.sections.Statistic.{Statistic}
 use Rattle.ss_program.specs.WellTyped.{IsAlone, IsOfEntities, IsTypedSubject}
-use Rattle.ss_meaning.specs.Store.{put}
-use Rattle.ss_meaning.specs.Histories.{home, same_subject}
-use Rattle.ss_meaning.specs.Places.{assigned_variable}
-use Rattle.ss_meaning.specs.Statistics.{figure, mean, reset}
-use Rattle.ss_meaning.proofs.Lists.{every_get}
 use Rattle.ss_code_instructions.specs.declared.instruction.Instruction.{Instruction as Running}
 use Rattle.ss_code_instructions.specs.Instructions as i
-use Rattle.ss_code_instructions.specs.Shape.{IsStatisticBearer}
 use Rattle.ss_machine_time.specs.Figures.{subject_in, variable_in, statistic_variable, held_in}
 use Rattle.ss_machine_time.specs.Places.{is_about}
-use Rattle.ss_machine_world.specs.Seen.{without_value}
 use Rattle.ss_machine_world.specs.Seen as seen
-use Rattle.ss_machine_world.specs.Numbers.{IsReferenceTo, IsSubject, IsHeldBySubject as VariableHolds}
-use Rattle.ss_machine_world.proofs.Composing.{unwatched}
-use Rattle.ss_machine_world.proofs.Reading.{value_once}
-use Rattle.ss_machine_frames.specs.Rows.{IsValueAt}
 use Rattle.ss_machine_frames.proofs.Places.{Elsewhere, elsewhere_value, value_same, number_is, place_fixed}
-use Rattle.ss_machine_frames.proofs.Reading.{lies_at, variable_within}
-use Rattle.ss_machine_frames.proofs.Lists.{set_length}
 use Rattle.ss_machine_frames.proofs.Writing.{with_variable, put_is, variable_held}
-use Rattle.ss_machine_instructions.specs.Noted.{IsNotedIf, IsNotedAfter}
 use Rattle.ss_machine_instructions.proofs.Placing.{site, located, suits, deep_at, deep_here, calm}
 use Rattle.ss_machine_instructions.proofs.Delivering.{faults, number_right}
 use Rattle.ss_machine_instructions.proofs.Seeing.{did_quiet, field_is, class_within, seen_is, layout_is, statistics_are, code_statistics_are, right_where, asked, looked, answers, changes_where}

@@ -1,22 +1,17 @@
 -- Filing and removing in the world: the entities change, and then N. of the set is noted where a statistic watches it.
 use Rattle.std.proofs.Common.{◌≡◌, inl, inr, ℕ, zero, suc, ◌<◌, ℤ, Bool, true, false, List, [], ◌∷◌, ◌++◌, length, Option, Some, Ok, Err, refl, sym, ap, ◌∙◌, subst, arith}
 use Rattle.std.specs.Prelude.{pos, negsuc, is_some, slice_get, MatchResult, Result as OkOr}
-use Rattle.ss_machine_instructions.proofs.Common.{and_then, ByRule, Class, count_in, count_noted, Discipline, due, Failure, FaultKind, Foremost, HasChangedIf, HasFiled, HasRemoved, HasTaken, Hindmost, if_ok, IsCounted, IsCountedOut, IsRight, joiner, JustAfter, JustBefore, noted, OfCount, Owner, owner, Seen, Store, System, turned, Value, watch, Whole, with_seen}
-use Rattle.ss_base.specs.declared.layout.ClassKind.{ClassKind}
+use Rattle.ss_machine_instructions.proofs.Common.{Class, ClassKind, count_noted, Discipline, due, End, Failure, FaultKind, Fifo, HasChangedIf, HasFiled, HasRearranged, HasRemoved, HasTaken, if_ok, IsCounted, IsCountedOut, IsNotedRight, IsOwner, IsRight, IsSettled, IsSettledGiving, Lifo, noted, number_if, OfCount, Owner, Ranked, Seen, Store, System, turned, Value, watch, Whole, with_seen}
+use Rattle.ss_meaning.specs.Sets.{ByRule, Foremost, Hindmost, JustAfter, JustBefore, is_fit, end_removed, recounted, filed_in, removed_from, removed_at}
+use Rattle.ss_world.specs.Sets.{count_in, joiner, owner, owner_by, owner_kind, member_class, first_in, last_in, put_in, put_beside, put_before, put_after, taken_out, filed_first, filed_last, filed_before, filed_after, removed}
+use Rattle.ss_world.specs.State.{and_then, State, Members, members_of, number_in, entity_of_kind, entity_in, kind_of}
 use Rattle.ss_base.specs.declared.layout.ClassKind.TheVariants.{Permanent, Temporary, Notice}
-use Rattle.ss_base.specs.declared.layout.Discipline.TheVariants.{Fifo, Lifo, Ranked}
 use Rattle.ss_world.specs.Lists.{head0, last_or}
-use Rattle.ss_world.specs.State.{State, Members, members_of, number_in, entity_of_kind, entity_in, kind_of}
-use Rattle.ss_world.specs.Sets.{owner_by, owner_kind, member_class, first_in, last_in, put_in, put_beside, put_before, put_after, taken_out, filed_first, filed_last, filed_before, filed_after, removed}
 use Rattle.ss_world.specs.Disciplines.{put_ranked, filed, take, first_removed, last_removed}
-use Rattle.ss_base.specs.declared.words.End.{End}
 use Rattle.ss_base.specs.declared.words.End.TheVariants as ends
-use Rattle.ss_meaning.specs.Sets.{is_fit, end_removed, recounted, filed_in, removed_from, removed_at}
 use Rattle.ss_code_instructions.proofs.Noting.{Quiet, noted_quiet}
 use Rattle.ss_machine_entities.proofs.Refiled.{first_refiled, last_refiled, before_refiled, after_refiled, filed_refiled, out_refiled, first_out_refiled, last_out_refiled}
-use Rattle.ss_machine_world.specs.Seen.{HasRearranged, number_if}
 use Rattle.ss_machine_world.proofs.Composing.{filed_first_is, filed_last_is, filed_ruled_is, filed_before_is, filed_after_is, removed_is, end_removed_is}
-use Rattle.ss_machine_instructions.specs.Worldly.{IsSettled, IsSettledGiving, IsNotedRight, IsOwner}
 
 -- ## The owner is there afterwards
 

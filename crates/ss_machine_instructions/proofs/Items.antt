@@ -5,8 +5,7 @@ use Rattle.std.specs.Prelude.{ℤ, pos, negsuc, ◌+ℤ◌, ◌<ℤ◌, ◌≤�
 use Rattle.std.specs.Int.{int_min}
 use mir.ValLaws as laws
 use Rattle.ss_meaning.specs.Loops.{greatest}
-use Rattle.ss_code_instructions.specs.Machine.{unsigned, has_item}
-use Rattle.ss_machine_instructions.specs.Ways.{item_after}
+use Rattle.ss_machine_instructions.proofs.Common.{has_item, item_after, unsigned}
 
 -- how far a number is below another, and their sum, as the machine reckons them
 abbrev pub far : (high low : ℤ) → ℕ

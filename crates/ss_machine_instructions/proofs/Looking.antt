@@ -1,16 +1,13 @@
 -- Looks at references: what the machine asks of its world is what the definition asks.
 use Rattle.std.proofs.Common.{◌≡◌, ℕ, ◌<◌, true, List, length, Option, Some, None, Ok, Err, refl, sym, ap, ◌∙◌, subst}
-use Rattle.std.proofs.lemmas.Option.{slice_get_within}
+use Rattle.ss_machine_instructions.proofs.Common.{act, Address, assignable_count, bearer_within, ClassLayout, Compiled, Core, did, done_unless_fault, due, faulted_by, FaultKind, HasAnswer, HasBearer, HasOperand, HasPerformed, Here, if_ok, Instruction, Integer, Is, is_due, IsReadyFor, IsSuited, joiner, Layout, Line, Mode, Moved, on_after, only_number, onward, option_map, owner, place_at, Program, read_within, reads, reads_bearer, slice_get_within, State, turned, where_fit, Whole}
 use Rattle.std.specs.Prelude.{ℤ, slice_get, is_some, Result as OkOr}
-use Rattle.std.specs.Option.{option_map}
-use Rattle.ss_machine_instructions.proofs.Common.{act, Address, bearer_within, ClassLayout, Compiled, Core, did, done_unless_fault, due, faulted_by, FaultKind, HasAnswer, HasBearer, HasOperand, HasPerformed, Here, if_ok, Instruction, Integer, Is, is_due, IsReadyFor, IsSuited, joiner, Layout, Line, member, Mode, Moved, no_value, on_after, only_number, onward, owner, place_at, Program, read_within, reads, reads_bearer, State, turned, where_fit, Whole}
-use Rattle.ss_world.specs.State.{State as Heap, known_in}
+use Rattle.ss_meaning.specs.Sets.{member, known_owner}
+use Rattle.ss_world.specs.State.{no_value, State as Heap, known_in}
 use Rattle.ss_program.specs.WellTyped.{fields_of, IsSet}
 use Rattle.ss_meaning.specs.Entities.{entity}
-use Rattle.ss_meaning.specs.Sets.{known_owner}
 use Rattle.ss_code_instructions.specs.declared.instruction.Instruction.{Instruction as Running}
 use Rattle.ss_code_instructions.specs.Instructions as i
-use Rattle.ss_code_instructions.specs.Machine.{assignable_count}
 use Rattle.ss_machine_instructions.proofs.Placing.{site, located, suits, deep_here}
 use Rattle.ss_machine_instructions.proofs.Asking.{owner_is, set_within}
 use Rattle.ss_machine_instructions.proofs.Seeing.{heap_is, layout_is, asked, looked}

@@ -2,25 +2,19 @@
 use Rattle.std.proofs.Common.{◌≡◌, ℕ, zero, suc, ◌<◌, true, List, [], ◌∷◌, length, Option, Some, None, refl, sym, ap, ◌∙◌, subst}
 use Rattle.std.proofs.lemmas.Bool.{lt-ltb}
 use Rattle.std.proofs.lemmas.List.Elements.{All-nil, All-cons}
-use Rattle.std.proofs.lemmas.Option.{slice_get_within}
+use Rattle.ss_machine_instructions.proofs.Common.{Discipline, every_get, Fifo, HasMemberKeys, IsFittingStore, IsRuled, Layout, Lifo, Mode, modes_of, Notice, Program, Ranked, Seen, SetLayout, slice_get_within}
 use Rattle.std.specs.Prelude.{◌&&◌, slice_get}
 use Rattle.std.specs.List.{All, AllZip, list_all}
-use Rattle.ss_base.specs.declared.layout.ClassKind.TheVariants.{Notice}
-use Rattle.ss_machine_instructions.proofs.Common.{Discipline, IsFittingStore, Layout, Mode, modes_of, Program, Seen, SetLayout, Store}
-use Rattle.ss_base.specs.declared.layout.Discipline.TheVariants.{Fifo, Lifo, Ranked}
+use Rattle.ss_meaning.specs.Store.{Store, Notices}
 use Rattle.ss_base.specs.declared.layout.RankKey.{RankKey}
-use Rattle.ss_world.specs.Disciplines.{HasMemberKeys}
 use Rattle.ss_world.specs.Sets.{member_in}
 use Rattle.ss_program.specs.WellTyped.{IsWellTyped, kind_of_class, AreTypedKeys, IsTypedDiscipline, IsTypedEvent}
 use Rattle.ss_meaning.specs.Events.{Ranked as RankedClass, ranked_from, ranked}
 use Rattle.ss_meaning.specs.Sets.{is_field, is_fit}
-use Rattle.ss_meaning.specs.Store.{Notices}
 use Rattle.ss_meaning.proofs.Entities.{HasField, field_said, class_said}
 use Rattle.ss_meaning.proofs.Events.{RankedAs, ranked_there}
 use Rattle.ss_meaning.proofs.Fine.{There}
-use Rattle.ss_meaning.proofs.Lists.{every_get}
 use Rattle.ss_machine_events.specs.Scheduled.{IsNoticeClass, HasKeyField as HasKey}
-use Rattle.ss_machine_instructions.specs.Worldly.{IsRuled}
 
 -- ## Keys
 

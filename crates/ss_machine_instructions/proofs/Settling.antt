@@ -1,12 +1,8 @@
 -- An operation of the world is done, and the machine goes on, or there is a fault.
 use Rattle.std.proofs.Common.{◌≡◌, ℕ, ◌+◌, Bool, false, List, length, Option, None, Ok, Err, refl, sym, ap, ◌∙◌, subst}
 use Rattle.std.specs.Prelude.{Result as OkOr}
-use Rattle.ss_machine_instructions.proofs.Common.{act, AreCellsAt, Breaks, cells_held, Code, Compiled, Core, core_at, did, done_unless_fault, Failure, faulted, faulted_by, FaultKind, Fine, HasChanged, HasNoTick, HasPerformed, Here, is_due, IsCoreHeld, IsHeld, IsReadyFor, IsRight, on_after, on_at, onward, Rest, Seen, State, Store, To, Value, watch, with_seen, World}
-use Rattle.ss_program.specs.declared.sections.Statistic.{Statistic}
-use Rattle.ss_program.specs.declared.sections.Subject.{Subject}
-use Rattle.ss_meaning.specs.Store.{Setting}
+use Rattle.ss_machine_instructions.proofs.Common.{act, AreCellsAt, Breaks, cells_held, Code, Compiled, Core, core_at, did, done_unless_fault, Failure, faulted, faulted_by, FaultKind, Fine, HasChanged, HasNoTick, HasPerformed, Here, is_due, IsCoreHeld, IsHeld, IsNotedRight, IsReadyFor, IsRight, IsSettled, IsSettling, on_after, on_at, onward, Rest, Seen, Setting, State, Statistic, Store, Subject, To, Value, watch, with_seen, World}
 use Rattle.ss_code_instructions.specs.declared.instruction.Instruction.{Instruction as Running}
-use Rattle.ss_machine_instructions.specs.Worldly.{IsSettled, IsSettling, IsNotedRight}
 use Rattle.ss_machine_instructions.proofs.Placing.{site, located, calm}
 use Rattle.ss_machine_instructions.proofs.Delivering.{faults}
 

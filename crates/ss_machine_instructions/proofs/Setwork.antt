@@ -1,25 +1,19 @@
 -- What is asked of sets, filing and removing: what the running instructions do is what the definition does.
 use Rattle.std.proofs.Common.{◌≡◌, ℕ, ◌+◌, ◌<◌, ◌≤◌, Bool, false, List, length, Option, Some, None, Ok, Err, refl, sym, ap, ◌∙◌, subst, arith}
-use Rattle.std.proofs.lemmas.Option.{slice_get_within}
+use Rattle.ss_machine_instructions.proofs.Common.{act, Address, AreCellsAt, AreOfModes, as_value, bearer_within, Compiled, done_unless_fault, due, End, Fails, Failure, faulted, faulted_by, FaultKind, Fine, HasNoTick, HasPerformed, Here, if_ok, Integer, is_due, IsDelivering, IsFittingStore, IsReadyFor, IsRight, IsWellTyped, MemberQuery, Mode, mode_of, OfCount, on_after, only_number, place_at, Program, read_within, reads, reads_bearer, Refers, Seen, SetLayout, SetQuery, shorter, slice_get_within, State, Store, turned, Value, watch, where_fit, Whole, with_seen, World}
 use Rattle.std.specs.Prelude.{ℤ, pos, is_some, slice_get, Result as OkOr}
-use Rattle.ss_machine_instructions.proofs.Common.{act, Address, and_then, AreCellsAt, AreOfModes, as_value, Bearer, bearer_within, ByRule, Compiled, Core, deliver, deliver_with, did, done_unless_fault, due, Fails, Failure, faulted, faulted_by, FaultKind, Fine, Foremost, HasBearer, HasFiled, HasNoTick, HasOperand, HasPerformed, HasRemoved, HasTaken, HasTarget, Here, Hindmost, if_ok, Instruction, Integer, Is, is_due, IsDelivering, IsFittingStore, IsReadyFor, IsRight, IsSuited, joiner, JustAfter, JustBefore, member, Mode, mode_of, Moved, OfCount, on_after, only_number, onward, Operand, owner_as, place_at, Program, read_within, reads, reads_bearer, Refers, Seen, SetLayout, State, Store, Target, turned, typed_scope, Value, watch, where_fit, Whole, with_seen, World}
-use Rattle.ss_world.specs.State.{owner_of}
-use Rattle.ss_world.specs.Sets.{owner_in, companions, precursor, follower, as_number, previous_in, next_in, owner_of_member}
-use Rattle.ss_program.specs.declared.expression.SetQuery.{SetQuery}
-use Rattle.ss_program.specs.declared.expression.MemberQuery.{MemberQuery}
+use Rattle.ss_code_instructions.specs.Carried.{HasBearer, HasOperand, HasTarget, Is, IsOperandAt, IsBearerAt}
+use Rattle.ss_code_instructions.specs.Instructions.{Bearer, Instruction, Operand, Target, FilingPlace, First, Last, Ranked, Before, After}
+use Rattle.ss_code_instructions.specs.Shape.{IsSuited, typed_scope, IsSetBearer, IsGivingMode, IsGivingBearer, IsGivingPosition}
+use Rattle.ss_code_instructions.specs.States.{Core, deliver, deliver_with, did, Moved, onward, with_operand_value, with_position}
+use Rattle.ss_machine_instructions.specs.Worldly.{HasFiled, HasRemoved, HasTaken, IsSettledGiving, IsSettling, IsOwner, IsRuled, one_of, member_answer}
+use Rattle.ss_meaning.specs.Sets.{ByRule, Foremost, Hindmost, JustAfter, JustBefore, member, owner_as, set_at, owner_by_layout, set_answer, of_set, is_one, of_member, Filing as Position, filed_in, removed_from, removed_at}
+use Rattle.ss_world.specs.Sets.{joiner, owner_in, companions, precursor, follower, as_number, previous_in, next_in, owner_of_member}
+use Rattle.ss_world.specs.State.{and_then, owner_of}
 use Rattle.ss_program.specs.declared.expression.MemberQuery.TheVariants.{Predecessor, Successor, Membership}
-use Rattle.ss_base.specs.declared.words.End.{End}
-use Rattle.ss_program.specs.WellTyped.{IsWellTyped}
-use Rattle.ss_meaning.specs.Sets.{set_at, owner_by_layout, set_answer, of_set, is_one, of_member, Filing as Position, filed_in, removed_from, removed_at}
 use Rattle.ss_meaning.proofs.Sets.{OwnerOk, FilingOk, filed_in_fine, removed_from_fine, removed_at_fine}
 use Rattle.ss_code_instructions.specs.declared.instruction.Instruction.{Instruction as Running}
 use Rattle.ss_code_instructions.specs.Instructions as i
-use Rattle.ss_code_instructions.specs.Instructions.{FilingPlace, First, Last, Ranked, Before, After}
-use Rattle.ss_code_instructions.specs.States.{with_operand_value, with_position}
-use Rattle.ss_code_instructions.specs.Shape.{IsSetBearer, IsGivingMode, IsGivingBearer, IsGivingPosition}
-use Rattle.ss_code_instructions.specs.Carried.{IsOperandAt, IsBearerAt}
-use Rattle.ss_machine_frames.proofs.Reading.{shorter}
-use Rattle.ss_machine_instructions.specs.Worldly.{IsSettledGiving, IsSettling, IsOwner, IsRuled, one_of, member_answer}
 use Rattle.ss_machine_instructions.proofs.Placing.{site, located, suits, small, deep_at, deep_here, calm}
 use Rattle.ss_machine_instructions.proofs.Delivering.{delivers, deliver_is, number_right}
 use Rattle.ss_machine_instructions.proofs.Asking.{owner_is, set_there}

@@ -2,11 +2,11 @@
 use Rattle.std.proofs.Common.{◌≡◌, ℕ, zero, suc, Bool, true, false, List, Option, Some, None, refl, sym, ap, ◌∙◌, subst}
 use Rattle.ss_meaning.specs.Meaning as endings
 use Rattle.ss_code_instructions.specs.declared.instruction.Instruction.{Instruction as Running}
-use Rattle.ss_machine_instructions.proofs.Common.{act, Compiled, Core, HasPerformed, Here, is_due, IsReadyFor, Moved, NoMemory, State}
-use Rattle.ss_code_instructions.specs.Machine.{Goes, Over, with_rest, when_due, step_at, step}
+use Rattle.ss_code_instructions.specs.Machine.{act, is_due, Goes, Over, with_rest, when_due, step_at, step}
+use Rattle.ss_machine_instructions.proofs.Common.{Core, Here, Moved, State}
+use Rattle.ss_machine_instructions.specs.Doing.{Compiled, HasPerformed, IsReadyFor, IsAsDefined, HasStopped, AreTicksLeft, AreLeftBy, IsDoneIfDue, IsOver, IsStep, line_or, definition_state}
+use Rattle.ss_machine_instructions.specs.declared.flow.Ending.TheVariants.{NoMemory, Ended, Paused, Faulted, NoOutput, NoInput}
 use Rattle.ss_machine_instructions.specs.declared.flow.Ending.{Ending}
-use Rattle.ss_machine_instructions.specs.declared.flow.Ending.TheVariants.{Ended, Paused, Faulted, NoOutput, NoInput}
-use Rattle.ss_machine_instructions.specs.Doing.{IsAsDefined, HasStopped, AreTicksLeft, AreLeftBy, IsDoneIfDue, IsOver, IsStep, line_or, definition_state}
 
 module _ (w : Compiled) (c : Core) (here : Here) (s : State) (run : Running) (r : IsReadyFor w c here s run) (report : List ℕ) where
   abbrev Does : Moved

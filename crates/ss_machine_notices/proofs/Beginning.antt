@@ -1,24 +1,15 @@
 -- An event begins: the notice that comes next is taken out, and let go.
 use Rattle.std.proofs.Common.{◌≡◌, ℕ, zero, suc, ◌+◌, ◌<◌, ◌≤◌, ◌^◌, ℤ, Bool, true, false, List, [], ◌∷◌, Option, Some, None, Ok, Err, refl, sym, ap, ◌∙◌, subst, arith}
-use Rattle.std.proofs.lemmas.Bool.{eqb-true}
+use Rattle.ss_machine_notices.proofs.Common.{act, class_of_record, ComingAs, eqb-true, FaultKind, HasLetGo, HasLetGoThen, HasReceived, Here, IsNextEvent, IsNextNotice, least_event, living, Mode, next_event_there, notices_seen, Seen, State, store_is, take_next, TakeEvent, There, Whole, with_seen, WrongClass}
 use Rattle.std.specs.Prelude.{◌==◌, if◌then◌else◌, pos, negsuc, IfSome, is_some, slice_get, Result as OkOr}
-use Rattle.ss_machine_notices.proofs.Common.{act, and_then, Compiled, Core, FaultKind, HasLetGo, HasOneTick, HasReceived, Here, IsNextEvent, IsReadyFor, kind_of, least_event, living, located, Mode, Notices, Seen, site, State, Store, store_is, TakeEvent, Whole, with_seen}
-use Rattle.ss_base.specs.declared.fault.FaultKind.TheVariants.{WrongClass}
-use Rattle.ss_world.specs.State.{Record, State as Heap, issued_record, is_notice, of_notice, notice}
+use Rattle.ss_code_instructions.specs.States.{Core, To, core_at}
+use Rattle.ss_machine_instructions.proofs.Placing.{located, site, goes_with}
+use Rattle.ss_machine_instructions.specs.Doing.{Compiled, HasOneTick, IsReadyFor, IsHeld}
+use Rattle.ss_meaning.specs.Store.{Notices, Store, World}
+use Rattle.ss_world.specs.State.{and_then, kind_of, Record, State as Heap, issued_record, is_notice, of_notice, notice}
 use Rattle.ss_meaning.specs.Events.{Ranked, ranked_from, ranked, Coming, at_event, ranked_as, coming_as, coming_with, is_awaited, next_event}
-use Rattle.ss_meaning.specs.Fitting.{class_of_record}
-use Rattle.ss_meaning.specs.Store.{World}
-use Rattle.ss_meaning.proofs.Events.{ComingAs, next_event_there}
-use Rattle.ss_meaning.proofs.Fine.{There}
-use Rattle.ss_code_instructions.specs.States.{To, core_at}
-use Rattle.ss_code_instructions.specs.Machine.{take_next}
-use Rattle.ss_machine_events.specs.Events.{IsNextNotice}
 use Rattle.ss_machine_frames.proofs.Writing.{cells_held}
-use Rattle.ss_machine_instructions.specs.Doing.{IsHeld}
 use Rattle.ss_machine_instructions.specs.Ways.{at_place, on_at}
-use Rattle.ss_machine_notices.specs.Beginning.{HasLetGoThen}
-use Rattle.ss_machine_instructions.proofs.Placing.{goes_with}
-use Rattle.ss_machine_instructions.proofs.Settling.{notices_seen}
 
 -- ## Letting a notice go
 

@@ -1,24 +1,17 @@
 -- What is known where an event begins: its rank, its entry, and its notice.
 use Rattle.std.proofs.Common.{◌≡◌, ℕ, zero, suc, ◌+◌, ◌<◌, ◌≤◌, ◌^◌, ℤ, true, List, [], ◌∷◌, length, Option, Some, None, refl, sym, ap, ◌∙◌, subst, arith}
-use Rattle.std.proofs.lemmas.Option.{slice_get_within}
-use Rattle.std.specs.Prelude.{IfSome, is_some, slice_get}
-use Rattle.ss_machine_notices.proofs.Common.{Compiled, Core, field_mode, frame_small, Here, hold_length, Integer, is_single, IsFittingStore, IsNextEvent, kind_of, least_event, located, Mode, mode_of, modes_of, Notice, Notices, Program, site, State, Store, TakeEvent, Value, with_seen}
-use Rattle.ss_world.specs.State.{kind_in}
-use Rattle.ss_program.specs.Program.{Event}
-use Rattle.ss_program.specs.WellTyped.{kind_of_class, IsTypedEvent, IsPlain}
+use Rattle.ss_machine_notices.proofs.Common.{class_said, comes_singly, Coming, coming_with, Compiled, Core, EntryPoint, field_said, frame_small, HasField, Here, IfSome, Integer, is_single, is_some, IsFittingStore, IsNextEvent, least_event, located, Mode, mode_of, Notice, Notices, site, slice_get, slice_get_within, State, Store, TakeEvent, There, Value, with_seen}
+use Rattle.ss_machine_frames.proofs.Reading.{hold_length, above_constants, found_in}
+use Rattle.ss_program.specs.Program.{Program, Event}
+use Rattle.ss_program.specs.WellTyped.{field_mode, kind_of_class, IsTypedEvent, IsPlain}
+use Rattle.ss_world.specs.State.{kind_of, modes_of, kind_in}
 use Rattle.ss_program.specs.declared.expression.Variable.TheVariants.{Global}
-use Rattle.ss_meaning.specs.Entities.{comes_singly}
-use Rattle.ss_meaning.specs.Events.{Coming, coming_with}
 use Rattle.ss_meaning.specs.Meaning.{said_of}
-use Rattle.ss_meaning.proofs.Entities.{HasField, field_said, class_said}
 use Rattle.ss_meaning.proofs.Events.{ComingAs, fields_are, next_event_there}
-use Rattle.ss_meaning.proofs.Fine.{There}
 use Rattle.ss_meaning.proofs.Lists.{every_get}
-use Rattle.ss_code_instructions.specs.Instructions.{EntryPoint}
 use Rattle.ss_code_instructions.specs.Machine.{Code}
 use Rattle.ss_code_instructions.specs.Translation.{main_code, all_routines, prints_before_events, event_entry, event_entries, event_code, block_prints}
 use Rattle.ss_machine_events.proofs.Filing.{said_there}
-use Rattle.ss_machine_frames.proofs.Reading.{above_constants, found_in}
 use Rattle.ss_machine_instructions.proofs.Calling.{HasEntry, has_entry}
 
 -- an event has its entry

@@ -1,19 +1,14 @@
 -- The frame of an event: what the machine holds once it has begun.
 use Rattle.std.proofs.Common.{◌≡◌, inl, inr, ℕ, suc, ◌+◌, ◌<◌, ◌≤◌, ℤ, List, [], ◌∷◌, ◌++◌, length, Some, refl, sym, ap, ◌∙◌, subst, arith, length-append}
-use Rattle.std.specs.Prelude.{slice_get, slice_set}
-use Rattle.ss_machine_notices.proofs.Common.{agree_out, all_agree, AnEvent, AreReceived, AreValuesAt, Compiled, Core, elsewhere_value, HasEntered, Here, hold_length, IsNextEvent, located, Mode, SectionEntry, Seen, site, State, Store, TakeEvent, TwoRows, Value, Whole, with_number, with_seen}
-use Rattle.ss_meaning.specs.Store.{first_values}
-use Rattle.ss_code_instructions.specs.Carried.{IsEntry}
-use Rattle.ss_code_instructions.specs.Instructions.{EntryPoint}
+use Rattle.ss_machine_notices.proofs.Common.{AnEvent, AreAlike, AreReceived, cleared, Compiled, Core, EntryPoint, Here, hold_length, IsEntry, IsNextEvent, located, Mode, own_is, SectionEntry, Seen, site, slice_get, slice_set, State, TakeEvent, TwoRows, Value, Whole, with_number, with_seen}
+use Rattle.ss_machine_frames.proofs.Places.{agree_out, all_agree, elsewhere_value, agree_on, agree_within, all_set, calls_agree, low_under}
+use Rattle.ss_machine_frames.specs.Holding.{AreValuesAt, AreCallsAt, IsCoreHeld}
+use Rattle.ss_machine_instructions.specs.Entered.{HasEntered, call_of}
+use Rattle.ss_meaning.specs.Store.{Store, first_values}
 use Rattle.ss_machine_frames.specs.declared.frames.Frame.{Frame as Call}
-use Rattle.ss_machine_frames.specs.Rows.{cleared, AreAlike}
-use Rattle.ss_machine_frames.specs.Holding.{AreCallsAt, IsCoreHeld}
 use Rattle.ss_machine_frames.proofs.Entering.{all_append, cleared_all, cleared_below, cleared_long, entered}
 use Rattle.ss_machine_frames.proofs.Lists.{set_length, set_same}
-use Rattle.ss_machine_frames.proofs.Places.{agree_on, agree_within, all_set, calls_agree, low_under}
-use Rattle.ss_machine_instructions.specs.Entered.{call_of}
 use Rattle.ss_machine_notices.proofs.Opening.{left_store}
-use Rattle.ss_machine_frames.proofs.Reading.{own_is}
 
 -- a global variable is another number, in a frame without cells
 pub global_held : (constants : List Value) (depth frame : ℕ) (r : TwoRows) (calls : List Call) (c : Core) (k : ℕ) (z : ℤ) → c.cells ≡ [] → IsCoreHeld constants depth frame r calls c → k < length c.store.globals → k < length r.numbers → IsCoreHeld constants depth frame (with_number r k z) calls (record c { cells = []; store = record c.store { globals = slice_set c.store.globals k (Whole z) } })

@@ -1,40 +1,31 @@
 -- A notice gets its first attributes and its time.
 use Rattle.std.proofs.Common.{◌≡◌, inl, inr, ℕ, zero, suc, ◌+◌, ◌<◌, ℤ, Bool, true, false, List, [], ◌∷◌, length, map, drop, Some, Ok, Err, refl, sym, ap, ◌∙◌, subst, arith}
-use Rattle.std.proofs.lemmas.Bool.{eqb-true}
-use Rattle.std.proofs.lemmas.Option.{slice_get_within}
+use Rattle.ss_machine_notices.proofs.Common.{Alpha, AlreadyScheduled, attribute_noted, eqb-true, Fault, FaultKind, fine_is, fine_right, HasChangedIf, Integer, is_pending, IsFittingStore, IsNoticeClass, Memory, Mode, mode_of, Notice, noticed_in, Program, Refused, slice_get_within, TwoRows, Value, watch, Whole}
 use Rattle.std.specs.Prelude.{◌&&◌, ◌==◌, IsOk, is_some, slice_get, MatchResult, Result as OkOr, if◌then◌else◌}
 use Rattle.std.specs.List.{AllByRecursion as Every}
-use Rattle.ss_machine_notices.proofs.Common.{and_then, attribute_noted, due, Fails, Failure, Fault, FaultKind, field_mode, filed_notice, fine_right, HasChanged, HasChangedIf, HasChangedWithMemory, HasGivenValues, HasRearranged, HasSetField, if_ok, Integer, is_single, IsFittingStore, IsNoticeMade, IsRight, IsSettledIn, IsSettledWithMemory, Memory, Mode, mode_of, modes_of, noted, Notice, OfVariable, prepared, Program, Refused, rescheduled, Seen, Store, timed, turned, TwoRows, Value, Whole, with_seen}
-use Rattle.ss_base.specs.declared.fault.FaultKind.TheVariants.{AlreadyScheduled}
-use Rattle.ss_base.specs.declared.layout.Mode.TheVariants.{Alpha}
-use Rattle.ss_world.specs.State.{State, assigned, known_in}
-use Rattle.ss_world.specs.PendingList.{is_pending}
+use Rattle.ss_machine_notices.specs.Giving.{HasGivenValues, HasSetField, IsNoticeMade, IsSettledIn, IsSettledWithMemory, number_or, unpended, refiled, IsReadBack, IsSuitable, HasGivenOne}
+use Rattle.ss_machine_world.specs.Seen.{HasChanged, HasChangedWithMemory, HasRearranged, IsRight, Seen, with_seen, HasMade}
+use Rattle.ss_meaning.specs.Entities.{is_single, comes_singly, made_one}
+use Rattle.ss_meaning.specs.Events.{filed_notice, prepared, rescheduled, endowed, with_notice_time}
+use Rattle.ss_meaning.specs.Histories.{noted, same_subject}
+use Rattle.ss_meaning.specs.Store.{Store, Setting, with_heap}
+use Rattle.ss_meaning.specs.Values.{due, Fails, Failure, if_ok, turned, same_mode, where_fit, unless_fault}
+use Rattle.ss_program.specs.WellTyped.{field_mode, is_created_singly, IsTypedSubject}
+use Rattle.ss_program.specs.declared.sections.Subject.TheVariants.{OfVariable, OfAttribute, OfCount}
+use Rattle.ss_world.specs.State.{and_then, modes_of, timed, State, assigned, known_in}
 use Rattle.ss_records.specs.Attributes.{IsAssigned}
 use Rattle.ss_program.specs.declared.sections.Statistic.{Statistic}
 use Rattle.ss_program.specs.declared.sections.Subject.{Subject}
-use Rattle.ss_program.specs.declared.sections.Subject.TheVariants.{OfAttribute, OfCount}
-use Rattle.ss_program.specs.WellTyped.{is_created_singly, IsTypedSubject}
-use Rattle.ss_meaning.specs.Values.{same_mode, where_fit, unless_fault}
-use Rattle.ss_meaning.specs.Store.{Setting, with_heap}
-use Rattle.ss_meaning.specs.Entities.{comes_singly, made_one}
-use Rattle.ss_meaning.specs.Histories.{same_subject}
 use Rattle.ss_meaning.specs.Places.{is_of_mode, assigned_attribute}
-use Rattle.ss_meaning.specs.Events.{endowed, with_notice_time}
 use Rattle.ss_meaning.proofs.Fine.{Fine, fine_then, fine_turned, due_fine}
 use Rattle.ss_meaning.proofs.Heaps.{Changed, timed_sane}
 use Rattle.ss_meaning.proofs.Stores.{heap_fits}
 use Rattle.ss_meaning.proofs.Entities.{HasField, field_said, class_said, attribute_assigned_fine, made_one_fine}
 use Rattle.ss_meaning.proofs.Events.{endowed_fine}
-use Rattle.ss_code_instructions.specs.Facts.{watch}
 use Rattle.ss_code_instructions.proofs.Noting.{Quiet, noted_quiet}
 use Rattle.ss_machine_frames.proofs.Places.{all_get}
-use Rattle.ss_machine_events.specs.Scheduled.{IsNoticeClass}
-use Rattle.ss_machine_world.specs.Seen.{HasMade}
 use Rattle.ss_machine_world.proofs.Composing.{assigned_noted}
 use Rattle.ss_machine_world.proofs.Reading.{set_once}
-use Rattle.ss_machine_notices.specs.Giving.{number_or, unpended, refiled, IsReadBack, IsSuitable, HasGivenOne}
-use Rattle.ss_machine_instructions.proofs.Programs.{noticed_in}
-use Rattle.ss_machine_instructions.proofs.Settling.{fine_is}
 use Rattle.ss_machine_instructions.proofs.Filing.{within_there}
 
 -- ## Modes

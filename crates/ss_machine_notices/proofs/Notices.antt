@@ -1,33 +1,24 @@
 -- MakeNotice and Reschedule: what a notice is given lies in cells, and its time in the cell above them.
 use Rattle.std.proofs.Common.{◌≡◌, inr, ℕ, zero, suc, ◌+◌, ◌<◌, ◌≤◌, Bool, false, List, [], ◌∷◌, length, map, take, Option, Some, None, Ok, Err, refl, sym, ap, ◌∙◌, subst, arith, if◌then◌else◌}
-use Rattle.std.proofs.lemmas.Bool.{eq-eqb}
+use Rattle.ss_machine_notices.proofs.Common.{act, Address, as_value, calm, Compiled, deep_at, deep_here, eq-eqb, Failure, Fault, field_mode, Fine, HasGivenValues, HasNoTick, HasPerformed, Here, Instruction, Integer, is_due, IsDelivering, IsNoticeMade, IsReadyFor, IsSettledWithMemory, IsSettling, located, Memory, Mode, mode_of, NoMemory, OfAttribute, Program, Refused, refused_where, Seen, site, small, State, Store, suits, Text, unless_refused, Value, watch, Whole, with_seen}
 use Rattle.std.specs.Prelude.{ℤ, slice_get, Result as OkOr}
 use Rattle.std.specs.Option.{option_and_then}
-use Rattle.ss_machine_notices.proofs.Common.{act, agree_out, all_agree, AreValuesAt, as_value, at_height, calm, Compiled, Core, did, elsewhere_value, Failure, Fault, field_mode, fine_right, fit, HasGivenValues, Here, hold_length, Integer, is_due, IsDelivering, IsFittingStore, IsNoticeMade, IsReadyFor, IsSettledWithMemory, IsSuited, located, Memory, Mode, mode_of, NoMemory, on_after, Program, Refused, rescheduled, Seen, site, State, Store, store_is, suits, Text, TwoRows, Value, Whole, with_seen}
-use Rattle.ss_program.specs.declared.sections.Subject.TheVariants.{OfAttribute}
-use Rattle.ss_meaning.specs.Events.{made_notice}
-use Rattle.ss_meaning.specs.Fitting.{AreOfModes}
-use Rattle.ss_meaning.proofs.Fine.{Fine}
+use Rattle.ss_code_instructions.specs.Shape.{IsSuited, HasOnTop, AreGivenModes}
+use Rattle.ss_code_instructions.specs.States.{at_height, Core, did, fit, Moved, Stuck, onward, TakenOff, take_off, with_top_number, with_block, with_operand_value, deliver_with}
+use Rattle.ss_machine_frames.proofs.Places.{agree_out, all_agree, elsewhere_value, Elsewhere, value_same, cells_agree, calls_agree}
+use Rattle.ss_machine_frames.proofs.Reading.{hold_length, own_is, above_constants, place_within, only_number, reads, read_within}
+use Rattle.ss_machine_frames.specs.Holding.{AreValuesAt, AreCellsAt}
+use Rattle.ss_machine_frames.specs.Rows.{TwoRows, with_number as with_number_at, place_at}
+use Rattle.ss_machine_instructions.proofs.Settling.{fine_right, store_is, fine_is, statistics_seen, fails_on}
+use Rattle.ss_machine_instructions.specs.Ways.{on_after, stopped, refused_by}
+use Rattle.ss_meaning.specs.Events.{rescheduled, made_notice}
+use Rattle.ss_meaning.specs.Fitting.{IsFittingStore, AreOfModes}
 use Rattle.ss_meaning.proofs.Events.{made_notice_fine, rescheduled_fine}
-use Rattle.ss_code_instructions.specs.declared.address.Address.{Address}
 use Rattle.ss_code_instructions.specs.declared.instruction.Instruction.{Instruction as Running}
-use Rattle.ss_code_instructions.specs.Facts.{watch}
 use Rattle.ss_code_instructions.specs.Instructions as i
-use Rattle.ss_code_instructions.specs.Instructions.{Instruction}
-use Rattle.ss_code_instructions.specs.States.{Moved, Stuck, onward, TakenOff, take_off, with_top_number, with_block, with_operand_value, deliver_with}
-use Rattle.ss_code_instructions.specs.Shape.{HasOnTop, AreGivenModes}
 use Rattle.ss_code_instructions.specs.Carried.{HasCell, HasOperand, HasTarget, Is}
-use Rattle.ss_machine_frames.specs.Rows.{with_number as with_number_at, place_at}
-use Rattle.ss_machine_frames.specs.Holding.{AreCellsAt}
 use Rattle.ss_machine_frames.proofs.Entering.{cut}
-use Rattle.ss_machine_frames.proofs.Places.{Elsewhere, value_same, cells_agree, calls_agree}
-use Rattle.ss_machine_frames.proofs.Reading.{own_is, above_constants, place_within, only_number, reads, read_within}
-use Rattle.ss_machine_instructions.specs.Doing.{HasNoTick, HasPerformed}
-use Rattle.ss_machine_instructions.specs.Ways.{stopped, refused_by}
-use Rattle.ss_machine_instructions.specs.Worldly.{IsSettling, unless_refused, refused_where}
-use Rattle.ss_machine_instructions.proofs.Placing.{small, deep_at, deep_here}
 use Rattle.ss_machine_instructions.proofs.Calling.{blocked}
-use Rattle.ss_machine_instructions.proofs.Settling.{fine_is, statistics_seen, fails_on}
 use Rattle.ss_machine_notices.proofs.Times.{refuses}
 
 -- a number on top of other cells

@@ -1,20 +1,15 @@
 -- An event begins in the definition as it does in the machine.
 use Rattle.std.proofs.Common.{◌≡◌, ℕ, zero, suc, ◌+◌, ◌<◌, ℤ, Bool, true, false, List, [], ◌∷◌, length, Option, Some, None, Ok, Err, refl, sym, ap, ◌∙◌, subst, arith, if◌then◌else◌}
-use Rattle.std.proofs.lemmas.Bool.{eq-eqb}
+use Rattle.ss_machine_notices.proofs.Common.{AnEvent, AreRead, at_height, Breaks, class_of_record, Compiled, Core, did, eq-eqb, FaultKind, fine_right, fit, gone, HasChanged, HasLetGo, Here, Integer, IsNextEvent, IsRight, living, mode_of, noted, OfVariable, Rest, Seen, State, Value, Whole, with_seen, WrongClass}
 use Rattle.std.specs.Prelude.{◌==◌, pos, negsuc, IfSome, is_some, slice_get, slice_set, slice_index_or, Result as OkOr}
-use Rattle.ss_machine_notices.proofs.Common.{act, and_then, AnEvent, AreRead, at_height, Compiled, Core, did, due, Fails, Failure, FaultKind, fine_right, fit, HasChanged, HasLetGo, Here, if_ok, Integer, IsNextEvent, IsRight, kind_of, living, mode_of, modes_of, noted, Notice, Notices, OfVariable, Seen, State, Store, turned, Value, value_in, Whole, with_seen}
-use Rattle.ss_base.specs.declared.fault.FaultKind.TheVariants.{WrongClass}
+use Rattle.ss_base.specs.declared.layout.ClassKind.TheVariants.{Notice, Permanent, Temporary}
+use Rattle.ss_code_instructions.specs.Machine.{act, enter, take_event, take_next}
+use Rattle.ss_meaning.specs.Store.{Notices, Store, put_at}
+use Rattle.ss_meaning.specs.Values.{due, Fails, Failure, if_ok, turned, TypeError, same_mode}
+use Rattle.ss_world.specs.State.{and_then, kind_of, modes_of, value_in, State as Heap, Record, numbered_record, of_class, issued_record, entity_of_kind, entity_in}
 use Rattle.ss_base.specs.declared.layout.ClassKind.{ClassKind}
-use Rattle.ss_base.specs.declared.layout.ClassKind.TheVariants.{Permanent, Temporary}
-use Rattle.ss_world.specs.State.{State as Heap, Record, numbered_record, of_class, issued_record, entity_of_kind, entity_in}
-use Rattle.ss_meaning.specs.Values.{TypeError, same_mode}
-use Rattle.ss_meaning.specs.Store.{put_at}
-use Rattle.ss_meaning.specs.Entities.{gone}
 use Rattle.ss_meaning.specs.Events.{Beginning, attributes_given, saved_or_gone, event_begun}
-use Rattle.ss_meaning.specs.Fitting.{class_of_record}
 use Rattle.ss_meaning.proofs.Events.{BegunAs, begun_fine}
-use Rattle.ss_code_instructions.specs.States.{Rest, Breaks}
-use Rattle.ss_code_instructions.specs.Machine.{enter, take_event, take_next}
 use Rattle.ss_machine_world.proofs.Reading.{value_once}
 use Rattle.ss_machine_notices.proofs.Begun.{known, event, said_is}
 

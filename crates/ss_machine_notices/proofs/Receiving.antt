@@ -1,12 +1,10 @@
 -- The attributes of a notice go where the frame of its event begins.
 use Rattle.std.proofs.Common.{◌≡◌, inl, inr, ℕ, zero, suc, ◌+◌, ◌<◌, ℤ, List, [], ◌∷◌, ◌++◌, length, map, take, Some, Ok, refl, sym, ap, ◌∙◌, subst, arith}
 use Rattle.std.proofs.lemmas.List.{take_all}
-use Rattle.std.specs.Prelude.{slice_get}
-use Rattle.ss_machine_notices.proofs.Common.{agree_out, all_agree, AreRead, AreReceived, AreValuesAt, elsewhere_value, Mode, mode_of, TwoRows, Value, value_in}
-use Rattle.ss_world.specs.State.{State}
-use Rattle.ss_machine_frames.specs.Rows.{IsValueAt, with_value, AreAlike}
-use Rattle.ss_machine_frames.proofs.Entering.{value_long, value_texts}
-use Rattle.ss_machine_frames.proofs.Places.{agree_within, agree_on, agree_same, value_same}
+use Rattle.ss_machine_notices.proofs.Common.{AreRead, AreReceived, AreValuesAt, Mode, mode_of, slice_get, Value, value_long, value_texts}
+use Rattle.ss_machine_frames.proofs.Places.{agree_out, all_agree, elsewhere_value, agree_within, agree_on, agree_same, value_same}
+use Rattle.ss_machine_frames.specs.Rows.{TwoRows, IsValueAt, with_value, AreAlike}
+use Rattle.ss_world.specs.State.{value_in, State}
 
 -- ## One value more
 

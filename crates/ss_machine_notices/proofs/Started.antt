@@ -1,25 +1,15 @@
 -- What the machine does as an event begins is what the definition does.
 use Rattle.std.proofs.Common.{◌≡◌, ℕ, ◌+◌, ◌<◌, ◌≤◌, ℤ, true, List, [], ◌∷◌, length, map, Option, Some, None, Ok, Err, refl, sym, ap, ◌∙◌, subst, arith, if◌then◌else◌}
-use Rattle.std.proofs.lemmas.Bool.{eq-eqb}
+use Rattle.ss_machine_notices.proofs.Common.{act, AnEvent, at_height, attributes_given, Beginning, Breaks, cleared, Compiled, Core, did, enter, eq-eqb, faulted, FaultKind, fit, HasEntered, HasOneTick, Here, hold_length, IsEntry, IsOutOfMemory, IsSuited, Mode, modes_of, NoMemory, one, Rest, SectionEntry, Seen, set_length, slice_get_within, State, Stuck, suits, TakeEvent, To, turned, TwoRows, Value, value_in, Whole, with_number, with_seen, with_value}
 use Rattle.std.specs.Prelude.{IfSome, is_some, slice_get, Result as OkOr}
-use Rattle.ss_machine_notices.proofs.Common.{act, AnEvent, AreRead, AreReceived, at_height, Compiled, Core, did, FaultKind, fit, HasEntered, HasLetGo, HasOneTick, HasReceived, Here, hold_length, IsNextEvent, IsSuited, Mode, mode_of, modes_of, NoMemory, one, SectionEntry, Seen, State, suits, TakeEvent, turned, TwoRows, Value, value_in, Whole, with_number, with_seen}
-use Rattle.ss_base.specs.Layout.{first_value}
-use Rattle.ss_meaning.specs.Events.{Beginning, attributes_given}
-use Rattle.ss_code_instructions.specs.Carried.{IsEntry}
-use Rattle.ss_code_instructions.specs.States.{To, Rest, Breaks, Stuck}
-use Rattle.ss_code_instructions.specs.Machine.{enter}
-use Rattle.ss_machine_frames.specs.Rows.{with_value, cleared}
+use Rattle.ss_base.specs.Layout.{mode_of, first_value}
+use Rattle.ss_machine_notices.specs.Beginning.{AreRead, AreReceived, HasLetGo, HasReceived, IsNextEvent, HasLetGoThen, AreReceivedIf, IsUnbegunAfter, IsUnbegun}
 use Rattle.ss_machine_frames.proofs.Entering.{value_long, value_texts, opened_is}
-use Rattle.ss_machine_frames.proofs.Lists.{set_length}
-use Rattle.ss_machine_instructions.specs.Ways.{faulted}
-use Rattle.ss_machine_instructions.specs.Entered.{IsOutOfMemory}
-use Rattle.ss_machine_notices.specs.Beginning.{HasLetGoThen, AreReceivedIf, IsUnbegunAfter, IsUnbegun}
 use Rattle.ss_machine_notices.proofs.Begun.{event, entry_point, code_entry, begun_entry, begun_modes, begun_kind, begun_saved, begun_saving}
 use Rattle.ss_machine_notices.proofs.Giving.{got_at}
 use Rattle.ss_machine_notices.proofs.Opening.{value_lives, all_lives, begins_not, left_store, GoesAs, IsSaving, read_is, goes_as, goes_right, begun_then, take_is}
 use Rattle.ss_machine_notices.proofs.Framing.{begun_core, held_gone, held_saved}
 use Rattle.ss_machine_notices.proofs.Beginning.{lets_go_ticks, lets_go_steps}
-use Rattle.std.proofs.lemmas.Option.{slice_get_within}
 
 cleared_even : (r : TwoRows) (i : ℕ) (ms : List Mode) → length r.texts ≡ length r.numbers → length (cleared r i ms).texts ≡ length (cleared r i ms).numbers
 cleared_even r i [] e = e

@@ -1,29 +1,21 @@
 -- Times to schedule for, filing a notice, and cancelling.
 use Rattle.std.proofs.Common.{◌≡◌, ℕ, ◌+◌, ◌<◌, ◌≤◌, false, List, length, Option, Some, None, Ok, Err, refl, sym, ap, ◌∙◌, subst}
 use Rattle.std.specs.Prelude.{ℤ, IsOk, slice_get, Result as OkOr}
-use Rattle.ss_machine_notices.proofs.Common.{act, as_value, calm, Compiled, Core, did, due, Fails, Failure, Fault, FaultKind, filed_notice, fine_right, HasAnswer, HasChanged, HasChangedWithMemory, Here, if_ok, Integer, is_due, IsDelivering, IsFittingStore, IsReadyFor, IsRight, IsSettledWithMemory, IsSuited, located, Memory, Mode, NoMemory, Notice, on_after, Refused, Seen, site, State, Store, store_is, suits, turned, Value, Whole, with_seen}
-use Rattle.ss_program.specs.WellTyped.{kind_of_class}
-use Rattle.ss_meaning.specs.Values.{number_of}
-use Rattle.ss_meaning.specs.Events.{Moment, AtTime, Later, not_past, time_at, unscheduled}
+use Rattle.ss_machine_notices.proofs.Common.{act, Address, as_value, calm, Compiled, deep_at, deep_here, Fault, FaultKind, HasAnswer, HasChanged, HasChangedWithMemory, HasNoTick, HasPerformed, Here, Integer, is_due, IsDelivering, IsFittingStore, IsNoticeClass, IsReadyFor, IsRight, IsSettledWithMemory, IsSettling, kind_of_class, located, Memory, Mode, NoMemory, Notice, noticed_in, place_at, Refused, refused_where, Seen, site, State, Store, suits, time_after, unless_refused, Value, Whole, with_seen}
+use Rattle.ss_code_instructions.specs.Shape.{IsSuited, IsGivingMode, IsAccepting, typed_scope}
+use Rattle.ss_code_instructions.specs.States.{Core, did, onward, with_operand_value, deliver}
+use Rattle.ss_machine_instructions.proofs.Settling.{fine_right, store_is, layout_seen, notices_seen, changes_settle, settles, went_on, fails_on}
+use Rattle.ss_machine_instructions.specs.Ways.{on_after, stopped, faulted_by, done_unless_fault}
+use Rattle.ss_meaning.specs.Events.{filed_notice, Moment, AtTime, Later, not_past, time_at, unscheduled}
+use Rattle.ss_meaning.specs.Values.{due, Fails, Failure, if_ok, turned, number_of}
 use Rattle.ss_meaning.proofs.Fine.{Any}
 use Rattle.ss_meaning.proofs.Events.{time_at_fine, filed_notice_fine, unscheduled_fine}
-use Rattle.ss_code_instructions.specs.declared.address.Address.{Address}
 use Rattle.ss_code_instructions.specs.declared.instruction.Instruction.{Instruction as Running}
 use Rattle.ss_code_instructions.specs.Instructions as i
 use Rattle.ss_code_instructions.specs.Instructions.{Instruction, Operand, Target}
-use Rattle.ss_code_instructions.specs.States.{onward, with_operand_value, deliver}
-use Rattle.ss_code_instructions.specs.Shape.{IsGivingMode, IsAccepting, typed_scope}
 use Rattle.ss_code_instructions.specs.Carried.{HasOperand, HasTarget, Is, IsOperandAt, IsTargetAt}
-use Rattle.ss_machine_frames.specs.Rows.{place_at}
 use Rattle.ss_machine_frames.proofs.Reading.{only_number, reads, read_within, reads_both, BothWithin, both_within}
-use Rattle.ss_machine_events.specs.Scheduled.{time_after, IsNoticeClass}
-use Rattle.ss_machine_instructions.specs.Doing.{HasNoTick, HasPerformed}
-use Rattle.ss_machine_instructions.specs.Ways.{stopped, faulted_by, done_unless_fault}
-use Rattle.ss_machine_instructions.specs.Worldly.{IsSettling, unless_refused, refused_where}
-use Rattle.ss_machine_instructions.proofs.Placing.{deep_at, deep_here}
 use Rattle.ss_machine_instructions.proofs.Delivering.{delivers, deliver_is, number_right}
-use Rattle.ss_machine_instructions.proofs.Programs.{noticed_in}
-use Rattle.ss_machine_instructions.proofs.Settling.{layout_seen, notices_seen, changes_settle, settles, went_on, fails_on}
 
 module _ (w : Compiled) (c : Core) (here : Here) (s : State) (run : Running) (r : IsReadyFor w c here s run) where
   abbrev SuitsHere : Instruction → Type 0

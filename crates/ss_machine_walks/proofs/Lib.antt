@@ -1,3 +1,4 @@
+mod Common
 pub mod Walking
 pub mod Inside
 pub mod Turns

@@ -2,23 +2,18 @@
 -- one after the other; where no statistic watches, the change alone is all.
 use Rattle.std.proofs.Common.{◌≡◌, ℕ, ℤ, Bool, true, false, List, [], ◌∷◌, ◌++◌, Option, Some, None, Ok, Err, refl, ap, ◌∙◌, sym}
 use Rattle.std.specs.Prelude.{◌||◌, is_some, slice_get, if◌then◌else◌, Result as OkOr}
-use Rattle.std.specs.List.{list_any}
-use Rattle.ss_machine_world.proofs.Common.{attribute, attribute_noted, Column, columns_of, Discipline, due, Fails, Failure, FaultKind, filed, if_ok, Integer, IsRight, Layout, modes_of, noted, OfAttribute, owner, Seen, State, Statistic, Store, Subject, sure, turned, Value, value_in, where_fit, Whole, with_heap, with_histories, with_seen}
+use Rattle.ss_machine_world.proofs.Common.{assigned_attribute, attribute, attribute_noted, Column, columns_of, Discipline, FaultKind, Integer, is_of_mode, IsReferenceTo, IsRight, Layout, list_any, OfAttribute, Seen, SetLayout, Statistic, Store, Subject, Text, Value, Whole, with_heap, with_histories, with_seen}
+use Rattle.ss_meaning.specs.Histories.{noted, same_subject, noting, all_noting}
+use Rattle.ss_meaning.specs.Values.{due, Fails, Failure, if_ok, sure, turned, where_fit, computed, calculated}
+use Rattle.ss_world.specs.Disciplines.{filed, put_ranked}
+use Rattle.ss_world.specs.Sets.{owner, joiner, owner_in, member_class, put_in, put_beside, put_before, put_after, taken_out, filed_first, filed_last, filed_before, filed_after, removed}
+use Rattle.ss_world.specs.State.{modes_of, State, value_in, and_then, assigned}
 use Rattle.ss_base.specs.declared.layout.Discipline.TheVariants.{Fifo, Lifo, Ranked}
-use Rattle.ss_base.specs.declared.layout.SetLayout.{SetLayout}
-use Rattle.ss_base.specs.declared.value.Value.TheVariants.{Text}
 use Rattle.ss_base.specs.declared.words.Operator.{Operator}
 use Rattle.ss_base.specs.declared.words.End.{End}
-use Rattle.ss_world.specs.State.{and_then, assigned}
-use Rattle.ss_world.specs.Sets.{joiner, owner_in, member_class, put_in, put_beside, put_before, put_after, taken_out, filed_first, filed_last, filed_before, filed_after, removed}
-use Rattle.ss_world.specs.Disciplines.{put_ranked}
 use Rattle.ss_records.specs.Attributes.{changed_number, IsChanged}
 use Rattle.ss_machine_time.specs.Places.{is_about}
-use Rattle.ss_meaning.specs.Histories.{same_subject, noting, all_noting}
-use Rattle.ss_meaning.specs.Places.{is_of_mode, assigned_attribute}
 use Rattle.ss_meaning.specs.Sets.{Filing, ByRule, Foremost, Hindmost, JustBefore, JustAfter, owner_by_layout, owner_number, member, is_fit, filed_by, filed_in, removed_from, end_removed, removed_at, recounted}
-use Rattle.ss_meaning.specs.Values.{computed, calculated}
-use Rattle.ss_machine_world.specs.Numbers.{IsReferenceTo}
 use Rattle.ss_machine_world.proofs.Reading.{value_once, set_once}
 
 -- ## An attribute

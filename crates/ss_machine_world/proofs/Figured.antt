@@ -2,25 +2,18 @@
 use Rattle.std.proofs.Common.{◌≡◌, ℕ, ℤ, Bool, true, false, List, length, Option, Some, None, Ok, Err, refl, ap, ◌∙◌, sym}
 use Rattle.std.specs.Prelude.{is_some, pos, slice_get, slice_index_or, MatchResult, Result as OkOr}
 use Rattle.std.specs.Option.{option_map}
-use Rattle.ss_machine_world.proofs.Common.{attribute, Column, columns, columns_of, count_in, Discipline, due, Failure, FaultKind, HasChanged, if_ok, IsRight, known_in, looked_in, no_value, NoEntity, Notices, OfAttribute, OfCount, owner, present_in, renewed_known, Seen, State, Statistic, Store, Subject, subject_in, sure, Times, turned, Value, value_in, where_fit, Whole, with_histories, with_seen}
-use Rattle.ss_base.specs.declared.layout.SetLayout.{SetLayout}
+use Rattle.ss_machine_world.proofs.Common.{attribute, columns_of, count_in, Discipline, due, entity, Failure, FaultKind, figured, if_ok, NoEntity, number_of, OfAttribute, OfCount, OfVariable, owner, owner_by_layout, owner_in, renewed_where, SetLayout, Statistic, Subject, sure, turned, Value, where_fit, Whole}
+use Rattle.ss_machine_time.specs.Figures.{renewed_known, subject_in, variable_in, held_in}
+use Rattle.ss_machine_time.specs.Times.{columns, Times, IsAt}
+use Rattle.ss_machine_world.specs.Numbers.{looked_in, present_in, IsReferenceTo, IsReferenceToSubject, HasValidSubject, IsHeldBySubject}
+use Rattle.ss_machine_world.specs.Seen.{HasChanged, IsRight, Seen, with_seen, HasAnswer, HasChangedWhere, as_value, number_if, without_value}
+use Rattle.ss_meaning.specs.Store.{Column, Notices, Store, with_histories, fetched}
+use Rattle.ss_world.specs.State.{known_in, no_value, State, value_in, Record, and_then, entity_in, members_of}
 use Rattle.ss_program.specs.declared.expression.Fold.{Fold}
 use Rattle.ss_program.specs.declared.expression.Variable.TheVariants.{Global}
-use Rattle.ss_program.specs.declared.sections.Subject.TheVariants.{OfVariable}
 use Rattle.ss_stats.specs.History.{History}
-use Rattle.ss_world.specs.State.{Record, and_then, entity_in, members_of}
-use Rattle.ss_world.specs.Sets.{owner_in}
-use Rattle.ss_machine_time.specs.Figures.{variable_in, held_in}
-use Rattle.ss_machine_time.specs.Records.{figured, renewed_where}
-use Rattle.ss_machine_time.specs.Times.{IsAt}
-use Rattle.ss_meaning.specs.Entities.{entity}
 use Rattle.ss_meaning.specs.Histories.{home, history_in, figure_kept, mean_kept, renewed}
-use Rattle.ss_meaning.specs.Sets.{owner_by_layout}
 use Rattle.ss_meaning.specs.Statistics.{subject_of_statistic, bearer_number, present, figure, mean, reset}
-use Rattle.ss_meaning.specs.Store.{fetched}
-use Rattle.ss_meaning.specs.Values.{number_of}
-use Rattle.ss_machine_world.specs.Numbers.{IsReferenceTo, IsReferenceToSubject, HasValidSubject, IsHeldBySubject}
-use Rattle.ss_machine_world.specs.Seen.{HasAnswer, HasChangedWhere, as_value, number_if, without_value}
 use Rattle.ss_machine_world.proofs.Reading.{whole_is, value_once}
 use Rattle.ss_machine_world.proofs.Starting.{seen_of, seen_moved}
 

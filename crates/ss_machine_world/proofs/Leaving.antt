@@ -1,16 +1,11 @@
 -- Entities that go, with their histories, and notices that are pending no longer.
 use Rattle.std.proofs.Common.{arith, ◌≡◌, ℕ, zero, suc, ◌-◌, ◌<◌, ℤ, Bool, true, false, List, [], ◌∷◌, length, Option, Some, None, Ok, Err, refl, ap, sym, ◌∙◌}
 use Rattle.std.specs.Prelude.{is_some, slice_get, slice_set, MatchResult, if◌then◌else◌, Result as OkOr}
-use Rattle.ss_machine_world.proofs.Common.{columns_of, Discipline, due, ending, Fails, Failure, FaultKind, gone, HasChanged, if_ok, is_single, known_in, Layout, no_value, Notices, Seen, State, Store, Times, turned, where_fit, Whole, with_seen}
+use Rattle.ss_machine_world.proofs.Common.{cancelled, ClassLayout, columns_of, destroyed, Discipline, due, ending, Fails, Failure, FaultKind, HasChanged, if_ok, is_pending, known_in, Layout, no_value, Seen, State, Times, turned, unless_fault, unscheduled, where_fit, Whole, with_seen}
+use Rattle.ss_meaning.specs.Entities.{gone, is_single, entity, without, with_none}
+use Rattle.ss_meaning.specs.Store.{Notices, Store, with_pending}
 use Rattle.ss_base.specs.declared.fault.FaultKind.TheVariants.{Scheduled, InASet, OwnsMembers}
-use Rattle.ss_base.specs.declared.layout.ClassLayout.{ClassLayout}
-use Rattle.ss_world.specs.PendingList.{is_pending, cancelled}
 use Rattle.ss_world.specs.State as S
-use Rattle.ss_world.specs.State.{destroyed}
-use Rattle.ss_meaning.specs.Values.{unless_fault}
-use Rattle.ss_meaning.specs.Store.{with_pending}
-use Rattle.ss_meaning.specs.Entities.{entity, without, with_none}
-use Rattle.ss_meaning.specs.Events.{unscheduled}
 use Rattle.ss_machine_world.proofs.Changing.{changes_alike}
 use Rattle.ss_machine_world.proofs.Starting.{joined, seen_of}
 

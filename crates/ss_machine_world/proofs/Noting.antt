@@ -1,11 +1,9 @@
 -- What histories note of what is so now.
 use Rattle.std.proofs.Common.{◌≡◌, ℕ, ℤ, List, Some, Ok, Err, refl, ap, ◌∙◌, sym}
 use Rattle.std.specs.Prelude.{is_some, slice_get, Result as OkOr}
-use Rattle.ss_machine_world.proofs.Common.{attribute_noted, count_in, Discipline, due, FaultKind, HasChanged, if_ok, Integer, modes_of, noted, Notices, OfAttribute, OfCount, or_full, Seen, State, Store, Subject, Times, turned, Value, value_in, Whole, with_histories, with_seen}
-use Rattle.ss_machine_time.specs.Times.{IsNoted}
+use Rattle.ss_machine_world.proofs.Common.{attribute_noted, count_in, count_noted, Discipline, due, FaultKind, HasChanged, if_ok, Integer, IsNoted, modes_of, noted, Notices, OfAttribute, OfCount, or_full, Seen, State, Store, Subject, Times, turned, Value, value_in, Whole, with_histories, with_seen}
 use Rattle.ss_machine_time.specs.Unnoted.{Unnoted}
 use Rattle.ss_machine_time.specs.Unnoted.TheVariants.{Full, TypeError}
-use Rattle.ss_machine_world.specs.Numbers.{count_noted}
 use Rattle.ss_machine_world.proofs.Changing.{changes_alike}
 use Rattle.ss_machine_world.proofs.Reading.{value_once}
 use Rattle.ss_machine_world.proofs.Starting.{seen_of, seen_moved}

@@ -1,13 +1,9 @@
 -- Attributes of entities: a look at the entity is part of what is done with one.
 use Rattle.std.proofs.Common.{◌≡◌, ℕ, zero, suc, ℤ, Bool, true, Option, Some, None, Ok, refl, ap, ◌∙◌}
 use Rattle.std.specs.Prelude.{is_some, slice_get, slice_index_or, pos, Result as OkOr}
-use Rattle.ss_machine_world.proofs.Common.{attribute, due, Failure, FaultKind, if_ok, noted, OfAttribute, Seen, Store, Value, where_fit, Whole, with_heap, with_seen}
-use Rattle.ss_base.specs.declared.layout.ClassLayout.{ClassLayout}
+use Rattle.ss_machine_world.proofs.Common.{assigned_attribute, attribute, ClassLayout, due, Failure, FaultKind, if_ok, is_of_mode, noted, number_of, OfAttribute, Seen, Store, Text, Value, where_fit, Whole, with_heap, with_seen}
 use Rattle.ss_base.specs.declared.layout.Mode.{Mode}
-use Rattle.ss_base.specs.declared.value.Value.TheVariants.{Text}
 use Rattle.ss_world.specs.State as S
-use Rattle.ss_meaning.specs.Values.{number_of}
-use Rattle.ss_meaning.specs.Places.{is_of_mode, assigned_attribute}
 use Rattle.ss_machine_world.proofs.Leaving.{one_look}
 
 -- a value that is a number

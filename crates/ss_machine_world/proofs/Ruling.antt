@@ -1,8 +1,7 @@
 -- Filing by the discipline of a set.
 use Rattle.std.proofs.Common.{◌≡◌, ℕ, ℤ, Some, Ok, Err, refl, ap, sym, ◌∙◌, subst}
 use Rattle.std.specs.Prelude.{slice_get, MatchResult, Result as OkOr}
-use Rattle.ss_machine_world.proofs.Common.{Discipline, FaultKind, filed, Seen, State}
-use Rattle.ss_machine_world.specs.Seen.{HasRearranged}
+use Rattle.ss_machine_world.proofs.Common.{Discipline, FaultKind, filed, HasRearranged, Seen, State}
 
 got : {A : Type 0} {x y : A} → Some x ≡ Some y → x ≡ y
 got e = cc

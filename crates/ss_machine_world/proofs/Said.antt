@@ -2,15 +2,12 @@
 use Rattle.std.proofs.Common.{arith, ◌≡◌, ℕ, zero, suc, ◌+◌, ◌==◌, Bool, true, false, List, [], ◌∷◌, ◌++◌, length, drop, Option, Some, None, refl, ap, sym, ◌∙◌, subst, eqb→eq, T}
 use Rattle.std.proofs.lemmas.Bool.{eqb-false}
 use Rattle.std.specs.Prelude.{ℤ, ◌||◌, slice_get, slice_set, IfSome, if◌then◌else◌}
-use Rattle.std.specs.List.{list_any}
-use Rattle.ss_base.specs.Plain.{PlainLayout}
+use Rattle.ss_machine_world.proofs.Common.{Class, ClassEntry, Column, is_home, list_any, Notices, Owner, PlainLayout, Statistic}
 use Rattle.ss_base.specs.Layout.{same_owner}
-use Rattle.ss_base.specs.declared.layout.Owner.{Owner}
-use Rattle.ss_machine_world.proofs.Common.{AreSaid, AreSaidFrom, Class, ClassEntry, Column, ending, is_home, Notices, ranked_from, starting, Statistic}
-use Rattle.ss_meaning.specs.Events.{Ranked}
-use Rattle.ss_meaning.specs.Histories.{home, at_start, begun_in, ended_in}
+use Rattle.ss_machine_world.specs.Classes.{AreSaid, AreSaidFrom, IsSaid, has_keys, with_rank}
+use Rattle.ss_meaning.specs.Events.{ranked_from, Ranked}
+use Rattle.ss_meaning.specs.Histories.{ending, starting, home, at_start, begun_in, ended_in}
 use Rattle.ss_machine_entities.proofs.Counting.{length_set}
-use Rattle.ss_machine_world.specs.Classes.{IsSaid, has_keys, with_rank}
 
 -- ## Where no statistic is kept of what an owner has, no history starts and none ends
 

@@ -2,19 +2,14 @@
 use Rattle.std.proofs.Common.{arith, ◌≡◌, ℕ, zero, suc, ◌+◌, ◌≤◌, ℤ, Bool, true, false, List, [], ◌∷◌, length, Option, Some, Ok, Err, int_eq, refl, ap, ◌∙◌, sym, subst}
 use Rattle.std.specs.Prelude.{pos, negsuc, IsOk, nat_le, nat_lt, ◌≤ℤ◌, slice_get, slice_set, replicate, MatchResult, Result as OkOr, if◌then◌else◌}
 use Rattle.std.proofs.lemmas.Int.{ints}
-use Rattle.ss_machine_world.proofs.Common.{Class, Column, columns_of, created_all, created_all_known, Discipline, due, Fails, Failure, FaultKind, HasChangedWithMemory, HasMade, HasRooms, is_single, IsRight, Layout, made_one, no_value, Notices, Seen, starting, State, Statistic, Store, Times, turned, where_fit, Whole, with_heap, with_histories, with_seen}
+use Rattle.ss_machine_world.proofs.Common.{Class, Column, columns_of, Discipline, due, Fails, Failure, Fault, FaultKind, HasAnswer, HasChangedWithMemory, HasMade, HasRooms, is_up_to, IsAlwaysOk, IsRight, Layout, Memory, Notices, Owner, Seen, starting, Statistic, Store, Times, turned, unless_fault, where_fit, Whole, with_heap, with_histories, with_seen}
+use Rattle.ss_machine_world.specs.Numbers.{created_all_known, count_open}
+use Rattle.ss_meaning.specs.Entities.{is_single, made_one, is_permanent, with_new, with_all}
+use Rattle.ss_world.specs.State.{created_all, no_value, State, Record, LAST_NUMBER, MOST_ENTITIES, IsRefusalOf, first_record, with_created, created, is_made, with_made, made_many, records_in}
 use Rattle.ss_base.specs.declared.fault.FaultKind.TheVariants.{CreatedTwice, BadCount, Overflow}
 use Rattle.ss_base.specs.declared.fault.Refused.{Refused}
-use Rattle.ss_base.specs.declared.fault.Refused.TheVariants.{Fault, Memory}
-use Rattle.ss_base.specs.declared.layout.Owner.{Owner}
-use Rattle.ss_world.specs.State.{Record, LAST_NUMBER, MOST_ENTITIES, IsRefusalOf, first_record, with_created, created, is_made, with_made, made_many, records_in}
 use Rattle.ss_world.specs.PendingList.{PendingList}
-use Rattle.ss_machine_time.specs.Records.{is_up_to}
-use Rattle.ss_meaning.specs.Values.{unless_fault}
-use Rattle.ss_meaning.specs.Entities.{is_permanent, with_new, with_all}
 use Rattle.ss_machine_entities.proofs.Counting.{length_replicate}
-use Rattle.ss_machine_world.specs.Numbers.{count_open}
-use Rattle.ss_machine_world.specs.Seen.{HasAnswer, IsAlwaysOk}
 
 -- ## Which fault is due
 

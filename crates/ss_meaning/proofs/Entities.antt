@@ -1,38 +1,16 @@
 -- The operations on entities, places and statistics, for a well-typed program.
 use Rattle.std.proofs.Common.{◌≡◌, ℕ, Bool, true, false, List, [], ◌∷◌, Option, Some, None, Ok, Err, ℤ, pos, refl, sym, ap, ◌∙◌, subst}
-use Rattle.std.proofs.lemmas.Bool.Decides.{Decides-int_eq}
+use Rattle.ss_meaning.proofs.Common.{AreOfModes, ClassKind, ClassLayout, CountedClass, Decides-int_eq, due, ending, FaultKind, HasAllHistories, if_ok, int_eq, Integer, is_pending, IsFittingStore, IsLiving, IsNotice, Mode, mode_of, noted, Notice, number_of, OfAttribute, OfVariable, option_and_then, option_map, PendingNotice, Permanent, Program, same_mode, Statistic, Subject, sure, Temporary, Text, turned, unless_fault, Value, Variable, where_fit, Whole}
 use Rattle.std.proofs.lemmas.Option.{slice_get-get_or}
 use Rattle.std.specs.Prelude.{slice_get, ◌||◌, Result, is_some, Contains, not}
-use Rattle.std.specs.Ordering.{int_eq}
 use Rattle.std.specs.List.{AllByRecursion as Every}
-use Rattle.std.specs.Option.{option_map, option_and_then}
-use Rattle.ss_base.specs.declared.fault.FaultKind.{FaultKind}
 use Rattle.ss_base.specs.declared.fault.FaultKind.TheVariants.{Scheduled, CreatedTwice}
-use Rattle.ss_base.specs.declared.layout.ClassKind.{ClassKind}
-use Rattle.ss_base.specs.declared.layout.ClassKind.TheVariants.{Permanent, Temporary, Notice}
-use Rattle.ss_base.specs.declared.layout.Mode.{Mode}
-use Rattle.ss_base.specs.declared.layout.Mode.TheVariants.{Integer}
-use Rattle.ss_base.specs.declared.layout.ClassLayout.{ClassLayout}
-use Rattle.ss_base.specs.declared.value.Value.{Value}
-use Rattle.ss_base.specs.declared.value.Value.TheVariants.{Whole, Text}
-use Rattle.ss_base.specs.Layout.{mode_of}
 use Rattle.ss_world.specs.State.{Record, State, kind_of, modes_of, known_in, no_value, entity_in, time_in, assigned, created, created_all, destroyed, is_made, value_in}
-use Rattle.ss_world.specs.PendingNotice.{PendingNotice}
-use Rattle.ss_world.specs.PendingList.{is_pending}
-use Rattle.ss_program.specs.declared.expression.Variable.{Variable}
 use Rattle.ss_program.specs.declared.expression.Variable.TheVariants.{Global, Local}
-use Rattle.ss_program.specs.declared.sections.Subject.{Subject}
-use Rattle.ss_program.specs.declared.sections.Subject.TheVariants.{OfVariable, OfAttribute}
-use Rattle.ss_program.specs.declared.sections.Statistic.{Statistic}
-use Rattle.ss_program.specs.declared.statement.CountedClass.{CountedClass}
-use Rattle.ss_program.specs.Program.{Program}
 use Rattle.ss_program.specs.WellTyped.{IsWellTyped, mode_at, field_mode, kind_of_class as kind_said, is_created_singly, IsTypedSubject, IsTypedCount}
-use Rattle.ss_meaning.specs.Values.{if_ok, turned, due, sure, where_fit, unless_fault, number_of, same_mode}
 use Rattle.ss_meaning.specs.Store.{Store, with_heap, fetched, put_at, put}
-use Rattle.ss_meaning.specs.Histories.{noted, ending}
 use Rattle.ss_meaning.specs.Entities.{class_at, field_at, entity, attribute, time_of, comes_singly, is_single, is_permanent, with_new, made_one, with_all, made_all, with_none, gone, without}
 use Rattle.ss_meaning.specs.Places.{Spot, InVariable, InAttribute, InCount, held, is_of_mode, assigned_variable, assigned_attribute, assigned_count, written}
-use Rattle.ss_meaning.specs.Fitting.{AreOfModes, IsLiving, IsNotice, HasAllHistories, IsFittingStore}
 use Rattle.ss_meaning.proofs.Fine.{Fine, Sane, There, fine_then, fine_turned, due_fine, any_due, sure_fine, fit_fine, unless_fine}
 use Rattle.ss_meaning.proofs.Lists.{every_get}
 use Rattle.ss_meaning.proofs.Heaps.{Changed, Created, Filled, Gone, IsEntityAs, entity_known, entity_lives, value_sane, assigned_sane, created_sane, created_all_sane, destroyed_sane}

@@ -1,38 +1,19 @@
 -- The operations on time and notices, for a well-typed program.
 use Rattle.std.proofs.Common.{arith, ◌≡◌, ℕ, zero, suc, ◌+◌, Bool, true, false, List, [], ◌∷◌, length, Option, Some, None, Ok, Err, ℤ, pos, negsuc, refl, sym, ap, ◌∙◌, subst}
-use Rattle.std.proofs.lemmas.Bool.{eqb-true, eqb-false}
-use Rattle.std.proofs.lemmas.Bool.Decides.{Decides-int_eq}
+use Rattle.ss_meaning.proofs.Common.{AreOfModes, assigned_attribute, attribute, class_of_record, ClassKind, ClassLayout, Decides-int_eq, due, entity, eqb-false, eqb-true, Event, FaultKind, Global, if_ok, int_eq, Integer, IsFittingStore, IsLiving, IsLivingAs, IsNotice, made_one, Mode, mode_of, Notice, number_of, PendingNotice, Permanent, Program, RankKey, sure, Temporary, turned, unless_fault, Value, Whole}
 use Rattle.std.specs.Prelude.{slice_get, map, take, fold, not, ◌==◌, int_lt, Result, is_some, if◌then◌else◌}
-use Rattle.std.specs.Ordering.{int_eq}
 use Rattle.std.specs.List.{AllByRecursion as Every}
 use Rattle.std.specs.Option.{option_map, option_map_or, option_and_then, IfSome}
-use Rattle.ss_base.specs.declared.fault.FaultKind.{FaultKind}
 use Rattle.ss_base.specs.declared.fault.FaultKind.TheVariants as faults
-use Rattle.ss_base.specs.declared.layout.ClassKind.{ClassKind}
-use Rattle.ss_base.specs.declared.layout.ClassKind.TheVariants.{Permanent, Temporary, Notice}
-use Rattle.ss_base.specs.declared.layout.Mode.{Mode}
-use Rattle.ss_base.specs.declared.layout.Mode.TheVariants.{Integer}
-use Rattle.ss_base.specs.declared.layout.RankKey.{RankKey}
-use Rattle.ss_base.specs.declared.layout.ClassLayout.{ClassLayout}
-use Rattle.ss_base.specs.declared.value.Value.{Value}
-use Rattle.ss_base.specs.declared.value.Value.TheVariants.{Whole}
-use Rattle.ss_base.specs.Layout.{mode_of}
 use Rattle.ss_base.specs.Arithmetic.{plus_of}
 use Rattle.ss_world.specs.State.{Record, State, kind_of, kind_in, and_then, issued_record, of_notice, is_notice, notice, timed}
-use Rattle.ss_world.specs.PendingNotice.{PendingNotice}
 use Rattle.ss_world.specs.SortKey.{SortKey}
 use Rattle.ss_world.specs.Order.{comes_before}
 use Rattle.ss_world.specs.PendingList.{PendingList, scheduling_limit, is_pending, without_notice, earlier_notice, least, with_entry, scheduled, cancelled}
-use Rattle.ss_program.specs.declared.expression.Variable.TheVariants.{Global}
-use Rattle.ss_program.specs.Program.{Event, Program}
 use Rattle.ss_program.specs.WellTyped.{IsWellTyped, field_mode, fields_of, kind_of_class as kind_said, is_created_singly, AreTypedKeys, IsTypedEvent, IsPlain}
-use Rattle.ss_meaning.specs.Values.{if_ok, turned, due, sure, unless_fault, number_of}
 use Rattle.ss_meaning.specs.Store.{Notices, Store, with_heap, with_pending}
-use Rattle.ss_meaning.specs.Entities.{entity, attribute, made_one}
-use Rattle.ss_meaning.specs.Places.{assigned_attribute}
 use Rattle.ss_meaning.specs.Events.{Moment, AtTime, Later, AtOnce, not_past, time_at, endowed, with_notice_time, prepared, made_notice, Ranked, ranked_from, ranked, ties_of, filed_notice, rescheduled, unscheduled, is_awaited, Beginning, attributes_given, saved_or_gone, Coming, at_event, ranked_as, coming_as, coming_with, next_event, event_begun}
 use Rattle.ss_meaning.specs.Meaning.{said_of}
-use Rattle.ss_meaning.specs.Fitting.{AreOfModes, class_of_record, IsLivingAs, IsLiving, IsNotice, IsFittingStore}
 use Rattle.ss_meaning.proofs.Fine.{Fine, Sane, There, Any, fine_then, fine_turned, due_fine, any_due, sure_fine, unless_fine}
 use Rattle.ss_meaning.proofs.Lists.{every_get, every_both, every_filter}
 use Rattle.ss_meaning.proofs.Heaps.{Changed, timed_sane}

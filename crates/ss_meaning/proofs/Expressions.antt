@@ -1,34 +1,18 @@
 -- Expressions, places and conditions of a well-typed program have their values.
 use Rattle.std.proofs.Common.{◌≡◌, ℕ, ◌≤◌, Bool, true, false, List, [], ◌∷◌, Option, Some, None, ℤ, pos, refl, sym, subst}
-use Rattle.std.proofs.lemmas.Bool.{eq-eqb, le-leb}
+use Rattle.ss_meaning.proofs.Common.{AreOfModes, AtOnce, AtTime, attribute, ClassLayout, entity, eq-eqb, fetched, figure, IfSome, InAttribute, Integer, is_empty, is_in, IsFittingStore, Item, JustAfter, JustBefore, known_owner, Later, le-leb, mean, member, Mode, mode_of, of_member, of_set, Sign, Store, Text, time_at, time_of, Value, Whole}
 use Rattle.std.specs.Prelude.{Result, int_lt, ◌&&◌}
 use Rattle.std.specs.List.{AllByRecursion as Every, AllZip}
-use Rattle.std.specs.Option.{IfSome}
-use Rattle.ss_base.specs.declared.layout.Mode.{Mode}
-use Rattle.ss_base.specs.declared.layout.Mode.TheVariants.{Integer}
-use Rattle.ss_base.specs.declared.layout.ClassLayout.{ClassLayout}
-use Rattle.ss_base.specs.declared.value.Value.{Value}
-use Rattle.ss_base.specs.declared.value.Value.TheVariants.{Whole, Text}
-use Rattle.ss_base.specs.Layout.{mode_of}
 use Rattle.ss_input.specs.Words.{is_ended}
 use Rattle.ss_picture.specs.declared.field.Field.{Field}
-use Rattle.ss_picture.specs.declared.items.Item.{Item}
 use Rattle.ss_picture.specs.declared.items.Item.TheVariants.{Is, Mean}
-use Rattle.ss_base.specs.declared.words.Sign.{Sign}
 use Rattle.ss_base.specs.declared.words.Operator.{Operator}
 use Rattle.ss_base.specs.declared.words.UnaryOperator.{UnaryOperator}
 use Rattle.ss_base.specs.declared.words.Relation.{Relation}
 use Rattle.ss_program.specs.Program.{Expression, Constant, Fetch, Attribute, OfSystemSet, OfSet, OfMember, Clock, TimeOf, Figure, FigureOf, Signed, Unary, Calculate, SetOwner, TheSystem, Entity, Test, Compare, DataEnded, Empty, Member, Condition, Guard, Place, ToVariable, ToAttribute, ToCount, Position, ByDiscipline, AsFirst, AsLast, BeforeMember, AfterMember, When, At, In, Now, PrintItem, AValue, AMean, AMeanOf, Program}
 use Rattle.ss_program.specs.WellTyped.{TypedScope, IsWellTyped, HasMode, HaveModes, IsSet, IsTypedOwner, IsTypedTest, IsTypedCondition, CanTakeMode, IsTypedPosition, IsTypedWhen, HasSubject, IsAlone, IsOfEntities, CanTakeItem}
 use Rattle.ss_meaning.specs.Values.{Failure, if_ok, turned, due, sure, computed, calculated, operator_of, signed, computed_alone, applied, related, takes, take_all}
-use Rattle.ss_meaning.specs.Store.{Store, fetched}
-use Rattle.ss_meaning.specs.Entities.{entity, attribute, time_of}
-use Rattle.ss_meaning.specs.Places.{InAttribute}
-use Rattle.ss_meaning.specs.Sets.{member, known_owner, of_set, of_member, is_empty, is_in, JustBefore, JustAfter}
-use Rattle.ss_meaning.specs.Events.{AtTime, Later, AtOnce, time_at}
-use Rattle.ss_meaning.specs.Statistics.{figure, mean}
 use Rattle.ss_meaning.specs.Expressions.{value, values, mean_shown, shown_item, shown_items, value_if_any, looked_at, entity_value, member_value, owner_value, owner_looked_at, spot, filing, time_value, not_if, passed, both, either, all_hold, holds, passes, all_pass}
-use Rattle.ss_meaning.specs.Fitting.{AreOfModes, IsFittingStore}
 use Rattle.ss_meaning.proofs.Fine.{Fine, There, Any, fine_then, fine_turned, any_due, sure_fine}
 use Rattle.ss_meaning.proofs.Entities.{HasField as FieldThere, field_said, entity_fine, attribute_fine, time_of_fine, fetched_there, SpotTakes}
 use Rattle.ss_meaning.proofs.Sets.{OwnerOk, set_of, member_fine, known_owner_fine, of_set_fine, of_member_fine, is_empty_fine, is_in_fine, FilingOk, AskedStatistic, figure_fine, mean_fine}

@@ -1,14 +1,11 @@
 -- Filing and removing change nothing but the members of sets.
 use Rattle.std.proofs.Common.{◌≡◌, ℕ, Bool, true, false, List, [], ◌∷◌, ◌++◌, Ok, Err, ℤ, pos, negsuc, zero, suc, refl}
 use Rattle.std.specs.Prelude.{Result, if◌then◌else◌}
-use Rattle.ss_base.specs.declared.fault.FaultKind.{FaultKind}
+use Rattle.ss_meaning.proofs.Common.{Discipline, FaultKind, Fifo, IsFittingHeap, Lifo, living, Ranked}
 use Rattle.ss_base.specs.declared.fault.FaultKind.TheVariants as faults
-use Rattle.ss_base.specs.declared.layout.Discipline.{Discipline}
-use Rattle.ss_base.specs.declared.layout.Discipline.TheVariants.{Fifo, Lifo, Ranked}
 use Rattle.ss_world.specs.State.{State, Members, and_then, is_filed, contains, members_of}
 use Rattle.ss_world.specs.Sets.{joiner, owner, put_in, put_beside, put_before, put_after, taken_out, with_list_of, filed_first, filed_last, filed_before, filed_after, removed, first_in, last_in, member_class, less}
 use Rattle.ss_world.specs.Disciplines.{take, first_removed, last_removed, filed, put_ranked}
-use Rattle.ss_meaning.specs.Fitting.{IsFittingHeap, living}
 use Rattle.ss_meaning.proofs.Fine.{Sane, Any, sane_then}
 use Rattle.ss_meaning.proofs.Heaps.{Changed}
 

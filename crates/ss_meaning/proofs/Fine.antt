@@ -1,9 +1,6 @@
 -- Operations that give a value, which is so, or a fault of the run.
 use Rattle.std.proofs.Common.{◌≡◌, Bool, true, false, Option, Some, None, Ok, Err, refl}
-use Rattle.std.specs.Prelude.{Result}
-use Rattle.ss_base.specs.declared.fault.FaultKind.{FaultKind}
-use Rattle.ss_meaning.specs.Values.{Failure, Fails, TypeError, if_ok, turned, due, sure, where_fit, unless_fault}
-use Rattle.ss_world.specs.State.{and_then}
+use Rattle.ss_meaning.proofs.Common.{and_then, due, Fails, Failure, FaultKind, if_ok, Result, sure, turned, TypeError, unless_fault, where_fit}
 
 -- there is a value, which is so, or a fault of the run
 abbrev pub Fine : {A : Type 0} → (A → Type 0) → Result A Failure → Type 0

@@ -1,16 +1,8 @@
 -- The operations on entities: the entities that live, and the modes of their attributes.
 use Rattle.std.proofs.Common.{arith, inl, inr, ◌⊎◌, ◌≡◌, ℕ, zero, suc, ◌+◌, ◌-◌, ◌<◌, Bool, true, false, List, [], ◌∷◌, ◌++◌, length, Option, Some, None, Ok, Err, ℤ, pos, negsuc, refl, sym, ap, ◌∙◌, subst}
-use Rattle.std.proofs.lemmas.Bool.{eqb-true}
+use Rattle.ss_meaning.proofs.Common.{Alpha, ClassKind, eqb-true, FaultKind, first_value, Integer, Layout, Mode, mode_of, Notice, Permanent, Temporary, Value}
 use Rattle.std.specs.Prelude.{slice_get, slice_set, slice_index_or, replicate, map, ◌==◌, nat_lt, nat_le, Result, if◌then◌else◌}
 use Rattle.std.specs.List.{AllByRecursion as Every}
-use Rattle.ss_base.specs.declared.fault.FaultKind.{FaultKind}
-use Rattle.ss_base.specs.declared.layout.ClassKind.{ClassKind}
-use Rattle.ss_base.specs.declared.layout.ClassKind.TheVariants.{Permanent, Temporary, Notice}
-use Rattle.ss_base.specs.declared.layout.Mode.{Mode}
-use Rattle.ss_base.specs.declared.layout.Mode.TheVariants.{Integer, Alpha}
-use Rattle.ss_base.specs.declared.layout.Layout.{Layout}
-use Rattle.ss_base.specs.declared.value.Value.{Value}
-use Rattle.ss_base.specs.Layout.{mode_of, first_value}
 use Rattle.ss_world.specs.State.{Record, State, kind_of, modes_of, and_then, issued_record, numbered_record, indexed_record, indexed, records_in, of_class, of_notice, is_notice, entity_in, entity_of_kind, notice, number_in, record_with_value, with_time, with_entity, with_entity_of_kind, with_indexed, value_in, assigned, timed, created, with_created, first_record, created_all, is_made, with_made, made_many, destroyed, let_go, in_a_set, owns_members, LAST_NUMBER, MOST_ENTITIES}
 use Rattle.ss_meaning.specs.Fitting.{AreOfModes, IsFittingRecord, IsFittingHeap, class_of_record, living, made, IsIndex, IsLivingAs, IsLiving}
 use Rattle.ss_meaning.proofs.Fine.{Sane, sane_then}

@@ -1,29 +1,11 @@
 -- Histories: which are there, and that they stay.
 use Rattle.std.proofs.Common.{arith, ◌≡◌, ℕ, zero, suc, ◌+◌, Bool, true, false, List, [], ◌∷◌, ◌++◌, Option, Some, None, Ok, ℤ, refl, sym, ap, ◌∙◌, subst}
-use Rattle.std.proofs.lemmas.Bool.{eqb-true, eq-eqb}
-use Rattle.std.proofs.lemmas.Bool.Decides.{Decides-int_eq}
+use Rattle.ss_meaning.proofs.Common.{Class, ClassKind, Column, Decides-int_eq, eq-eqb, eqb-true, Has, HasAllHistories, HasHistories, int_eq, Integer, IsIndex, IsLiving, IsLivingAs, IsLivingOwner, IsSubjectOwner, kind_of, Layout, living, made, Notice, number_of, OfAttribute, OfCount, OfVariable, Owner, Permanent, State, Statistic, Subject, sure, System, Temporary, Text, turned, unless_fault, Value, Whole}
 use Rattle.std.specs.Prelude.{slice_get, ◌==◌, ◌&&◌, if◌then◌else◌}
-use Rattle.std.specs.Ordering.{int_eq}
-use Rattle.ss_base.specs.declared.layout.ClassKind.{ClassKind}
-use Rattle.ss_base.specs.declared.layout.ClassKind.TheVariants.{Permanent, Temporary, Notice}
-use Rattle.ss_base.specs.declared.layout.Mode.TheVariants.{Integer}
-use Rattle.ss_base.specs.declared.layout.Owner.{Owner}
-use Rattle.ss_base.specs.declared.layout.Owner.TheVariants.{System, Class}
-use Rattle.ss_base.specs.declared.layout.Layout.{Layout}
-use Rattle.ss_base.specs.declared.value.Value.{Value}
-use Rattle.ss_base.specs.declared.value.Value.TheVariants.{Whole, Text}
 use Rattle.ss_base.specs.declared.fault.FaultKind.TheVariants.{Overflow}
-use Rattle.ss_base.specs.Layout.{mode_of}
-use Rattle.ss_world.specs.State.{State, kind_of}
+use Rattle.ss_base.specs.Layout.{mode_of, same_owner}
 use Rattle.ss_stats.specs.History.{History, is_full, with_noted_value, restarted}
-use Rattle.ss_program.specs.declared.sections.Subject.{Subject}
-use Rattle.ss_program.specs.declared.sections.Subject.TheVariants.{OfVariable, OfAttribute, OfCount}
-use Rattle.ss_program.specs.declared.sections.Statistic.{Statistic}
-use Rattle.ss_meaning.specs.Values.{sure, turned, unless_fault, number_of}
-use Rattle.ss_meaning.specs.Store.{Column}
-use Rattle.ss_base.specs.Layout.{same_owner}
 use Rattle.ss_meaning.specs.Histories.{same_subject, home, at_start, begun_in, starting, ended_in, ending, with_history, noting_in, noting, all_noting, history_in, history_of_subject, renewed}
-use Rattle.ss_meaning.specs.Fitting.{made, IsIndex, living, IsLivingAs, IsLiving, IsLivingOwner, IsSubjectOwner, Has, HasHistories, HasAllHistories}
 use Rattle.ss_meaning.proofs.Fine.{Fine, Any, fine_then, fine_turned, unless_fine}
 use Rattle.ss_meaning.proofs.Heaps.{Same, Gone}
 

@@ -1,3 +1,4 @@
+mod Common
 pub mod Fine
 pub mod Lists
 pub mod Heaps

@@ -1,16 +1,7 @@
 -- Parts of a well-typed program: they don't go wrong, and keep stores that fit.
 use Rattle.std.proofs.Common.{ℕ, zero, suc, Bool, true, false, List, Ok, Err}
-use Rattle.std.specs.Prelude.{Result}
-use Rattle.ss_base.specs.declared.line.Line.{Line}
-use Rattle.ss_base.specs.declared.layout.Mode.{Mode}
-use Rattle.ss_base.specs.declared.value.Value.{Value}
-use Rattle.ss_program.specs.Program.{Program}
-use Rattle.ss_program.specs.WellTyped.{IsWellTyped}
-use Rattle.ss_meaning.specs.Values.{Failure, Fails, TypeError}
-use Rattle.ss_meaning.specs.Store.{Store}
-use Rattle.ss_meaning.specs.Places.{Spot, written}
+use Rattle.ss_meaning.proofs.Common.{Fails, Failure, IsFittingStore, IsSoundStore, IsWellTyped, Line, Mode, Program, Result, Spot, Store, TypeError, Value, written}
 use Rattle.ss_meaning.specs.Parts.{RunState, Returned, Stopped, Faulted, OutOfTicks, Wrong, Outcome, WentOn, Left, Part, outcome_then, choose, looked, look, change, get, write, send, tick_from, take_tick, Next, Again, Over, go_on, loop}
-use Rattle.ss_meaning.specs.Fitting.{IsSoundStore, IsFittingStore}
 use Rattle.ss_meaning.proofs.Fine.{Fine, Any}
 use Rattle.ss_meaning.proofs.Entities.{SpotTakes, written_fine}
 use Rattle.ss_meaning.proofs.Expressions.{HasMode_is}

@@ -3,20 +3,9 @@ use Rattle.std.proofs.Common.{◌≡◌, ℕ, zero, suc, ◌<◌, Bool, true, fa
 use Rattle.std.specs.Prelude.{slice_get, ◌&&◌, Result, is_some, not, if◌then◌else◌}
 use Rattle.std.proofs.lemmas.Bool.{lt-ltb}
 use Rattle.std.specs.List.{AllZip, list_all}
-use Rattle.std.specs.Option.{option_map}
+use Rattle.ss_meaning.proofs.Common.{Class, Discipline, due, End, entity, entity_in, Fails, Failure, fetched, Fifo, Global, if_ok, Integer, IsFittingHeap, IsFittingStore, IsLiving, IsLivingOwner, IsSubjectOwner, Lifo, members_of, Mode, mode_of, modes_of, number_in, number_of, OfAttribute, OfCount, OfVariable, option_map, Owner, Program, Ranked, RankKey, State, Statistic, Store, Subject, sure, System, Text, turned, TypeError, unless_fault, Value, where_fit, Whole, with_heap, with_histories}
 use Rattle.ss_base.specs.declared.fault.FaultKind.TheVariants.{NotFiled}
-use Rattle.ss_base.specs.declared.layout.Mode.{Mode}
-use Rattle.ss_base.specs.declared.layout.Mode.TheVariants.{Integer}
-use Rattle.ss_base.specs.declared.layout.Owner.{Owner}
-use Rattle.ss_base.specs.declared.layout.Owner.TheVariants.{System, Class}
-use Rattle.ss_base.specs.declared.layout.RankKey.{RankKey}
 use Rattle.ss_base.specs.declared.layout.SetLayout.{SetLayout}
-use Rattle.ss_base.specs.declared.layout.Discipline.{Discipline}
-use Rattle.ss_base.specs.declared.layout.Discipline.TheVariants.{Fifo, Lifo, Ranked}
-use Rattle.ss_base.specs.declared.value.Value.{Value}
-use Rattle.ss_base.specs.declared.value.Value.TheVariants.{Whole, Text}
-use Rattle.ss_base.specs.Layout.{mode_of}
-use Rattle.ss_world.specs.State.{State, modes_of, members_of, entity_in, number_in}
 use Rattle.ss_world.specs.Sets.{member_class, owner_kind, owner_by as owner_of_kind, joiner, owner, first_in, last_in, count_in, next_in, previous_in, owner_of_member, filed_first, filed_last, filed_before, filed_after, removed}
 use Rattle.ss_world.specs.Disciplines.{member_test, filed}
 use Rattle.ss_program.specs.declared.expression.Fold.{Fold}
@@ -25,22 +14,12 @@ use Rattle.ss_program.specs.declared.expression.SetQuery.{SetQuery}
 use Rattle.ss_program.specs.declared.expression.SetQuery.TheVariants.{MemberCount}
 use Rattle.ss_program.specs.declared.expression.MemberQuery.{MemberQuery}
 use Rattle.ss_program.specs.declared.expression.MemberQuery.TheVariants.{Predecessor, Successor, Membership}
-use Rattle.ss_program.specs.declared.expression.Variable.TheVariants.{Global}
-use Rattle.ss_program.specs.declared.sections.Subject.{Subject}
-use Rattle.ss_program.specs.declared.sections.Subject.TheVariants.{OfVariable, OfAttribute, OfCount}
-use Rattle.ss_program.specs.declared.sections.Statistic.{Statistic}
-use Rattle.ss_base.specs.declared.words.End.{End}
 use Rattle.ss_base.specs.declared.words.End.TheVariants as ends
-use Rattle.ss_program.specs.Program.{Program}
 use Rattle.ss_program.specs.WellTyped.{IsWellTyped, IsSet, IsOwned, owner_of_set, IsTypedDiscipline, AreTypedKeys, IsTypedSubject, IsAlone, IsOfEntities}
 use Rattle.ss_stats.specs.History.{History, sum_of, mean_of}
-use Rattle.ss_meaning.specs.Values.{Failure, TypeError, Fails, if_ok, turned, due, sure, where_fit, unless_fault, number_of}
-use Rattle.ss_meaning.specs.Store.{Store, with_heap, with_histories, fetched}
 use Rattle.ss_meaning.specs.Histories.{noted, history_of_subject, folded, figure_kept, mean_kept, renewed}
-use Rattle.ss_meaning.specs.Entities.{entity}
 use Rattle.ss_meaning.specs.Sets.{set_at, member, owner_as, owner_by_layout, owner_number, known_owner, set_answer, of_set, is_one, of_member, is_none, is_empty, is_in, recounted, is_field, is_fit, Filing, ByRule, Foremost, Hindmost, JustBefore, JustAfter, filed_by, filed_in, removed_from, end_removed, removed_at, outset, beside, begun, coming, from_or_after, begun_at, or_gone, goes_on}
 use Rattle.ss_meaning.specs.Statistics.{subject_of_statistic, bearer_number, present, figure, mean, reset}
-use Rattle.ss_meaning.specs.Fitting.{IsFittingHeap, IsLiving, IsLivingOwner, IsSubjectOwner, IsFittingStore}
 use Rattle.ss_meaning.proofs.Fine.{Fine, Sane, There, Any, fine_then, fine_turned, fine_weaker, due_fine, any_due, sure_fine, fit_fine, unless_fine, sane_then}
 use Rattle.ss_meaning.proofs.Lists.{every_get}
 use Rattle.ss_meaning.proofs.Heaps.{Changed, entity_known, entity_lives, get_within}

@@ -2,39 +2,20 @@
 use Rattle.std.proofs.Common.{◌≡◌, ℕ, zero, suc, ◌+◌, Bool, true, false, List, [], ◌∷◌, length, Option, Some, None, Ok, Err, ℤ, pos, refl, sym, ap, ◌∙◌}
 use Rattle.std.specs.Prelude.{Result, slice_get, map, sum, take, ◌==◌, int_lt, Contains, if◌then◌else◌}
 use Rattle.std.specs.List.{AllByRecursion as Every, AllZip, flat_map}
-use Rattle.std.specs.Option.{IfSome}
-use Rattle.ss_base.specs.declared.line.Line.{Line}
+use Rattle.ss_meaning.proofs.Common.{Again, Alpha, AreOfModes, begun, begun_at, choose, coming, CountedClass, End, Faulted, filed_in, filed_notice, get, go_on, goes_on, held, IfSome, Integer, InVariable, is_awaited, is_none, IsFittingStore, Item, Left, Line, look, loop, made_notice, Mode, mode_of, Notice, Outcome, outcome_then, OutOfTicks, Over, Part, Permanent, removed_at, removed_from, rescheduled, reset, Returned, RunState, Sign, Stopped, Store, Text, tick_from, unscheduled, Value, Variable, WentOn, Whole, Wrong}
 use Rattle.ss_base.specs.declared.fault.FaultKind.TheVariants.{LoopStep, BadCount}
-use Rattle.ss_base.specs.declared.layout.ClassKind.TheVariants.{Permanent, Notice}
-use Rattle.ss_base.specs.declared.layout.Mode.{Mode}
-use Rattle.ss_base.specs.declared.layout.Mode.TheVariants.{Integer, Alpha}
-use Rattle.ss_base.specs.declared.value.Value.{Value}
-use Rattle.ss_base.specs.declared.value.Value.TheVariants.{Whole, Text}
-use Rattle.ss_base.specs.Layout.{mode_of}
-use Rattle.ss_picture.specs.declared.items.Item.{Item}
 use Rattle.ss_picture.specs.Pictures.{picture_fields}
 use Rattle.ss_input.specs.Words.{Given, value_given, next_word, read_word, word_value, if_read, as_whole, optional_text, number_read}
 use Rattle.ss_base.specs.Values.{text_of}
-use Rattle.ss_base.specs.declared.words.Sign.{Sign}
-use Rattle.ss_program.specs.declared.expression.Variable.{Variable}
 use Rattle.ss_base.specs.declared.words.PhraseKind.{PhraseKind}
 use Rattle.ss_base.specs.declared.words.PhraseKind.TheVariants as kinds
-use Rattle.ss_base.specs.declared.words.End.{End}
-use Rattle.ss_program.specs.declared.statement.CountedClass.{CountedClass}
 use Rattle.ss_program.specs.Program.{Expression, SetOwner, Head, Numbers, Members, Each, Start, AtEnd, From, After, Phrase, Guard, Place, ToVariable, InputTarget, Position, When, Restart, PrintItem, Statement, Let, Change, Call, Return, Stop, Read, Simulate, If, Loop, For, Find, Create, CreateEvery, Destroy, File, RemoveEnd, Remove, ScheduleNew, Schedule, Cancel, Reset, Print, Skip, Block, Done, Then, Routine, Program}
 use Rattle.ss_program.specs.WellTyped.{TypedScope, IsWellTyped, HasMode, IsTypedOwner, IsTypedCondition, CanTakeMode, IsTypedStart, IsTypedHead, IsTypedPhrase, IsTypedPosition, IsTypedWhen, AreTypedGiven, IsTypedRestart, IsTypedPrint, IsTypedStatement, IsTypedBlock, kind_of_class as kind_said}
 use Rattle.ss_meaning.specs.Values.{if_ok, turned, due, sure, unless_fault, number_of, calculated, operator_of, take_all, lines_with, printed, empty_lines}
-use Rattle.ss_meaning.specs.Store.{Store}
 use Rattle.ss_meaning.specs.Entities.{class_at, is_permanent, made_count, made_one, made_all, without}
-use Rattle.ss_meaning.specs.Places.{InVariable, held}
-use Rattle.ss_meaning.specs.Sets.{is_none, begun, begun_at, coming, goes_on, filed_in, removed_from, removed_at}
-use Rattle.ss_meaning.specs.Events.{made_notice, filed_notice, rescheduled, unscheduled, is_awaited}
-use Rattle.ss_meaning.specs.Statistics.{reset}
 use Rattle.ss_meaning.specs.Expressions.{value, values, shown_items as items_meant, value_if_any, entity_value, member_value, owner_value, owner_looked_at, spot, filing, time_value, holds, all_pass}
-use Rattle.ss_meaning.specs.Parts.{RunState, Returned, Stopped, Faulted, OutOfTicks, Wrong, Outcome, WentOn, Left, Part, outcome_then, choose, look, get, tick_from, Again, Over, go_on, loop}
 use Rattle.ss_meaning.specs.Loops.{Turn, GoesOn, EndsLoop, IsFound, phrase, phrases, visit, range_items, after_turn, over_items, step_number, range_of, range, indices, Outset, from_member, loop_outset, next_member, member_turn, over, guarded}
 use Rattle.ss_meaning.specs.Statements.{give_to, give_each, change_by, with_input, read_value, read_each, print, create_every, file, remove, remove_end, schedule_new, schedule, next_due, event_turn, simulate, restart_each, Calls, effect, effects}
-use Rattle.ss_meaning.specs.Fitting.{AreOfModes, IsFittingStore}
 use Rattle.ss_meaning.proofs.Fine.{Fine, There, Any, fine_then, fine_turned, sure_fine, fit_fine, unless_fine}
 use Rattle.ss_meaning.proofs.Kept.{number_fine}
 use Rattle.ss_meaning.proofs.Entities.{SpotTakes, permanent_here, made_one_fine, made_all_fine, without_fine, held_fine}

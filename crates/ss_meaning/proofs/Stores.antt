@@ -1,26 +1,9 @@
 -- Stores that fit a program: their variables, and what becomes of the world.
 use Rattle.std.proofs.Common.{arith, inl, inr, ◌⊎◌, ◌≡◌, ℕ, zero, suc, ◌+◌, ◌<◌, Bool, true, false, List, [], ◌∷◌, ◌++◌, Some, Ok, Err, ℤ, pos, negsuc, refl, sym, ap, ◌∙◌, subst}
-use Rattle.std.proofs.lemmas.Bool.{eqb-true, eqb-false, le-leb}
-use Rattle.std.proofs.lemmas.Bool.Decides.{Decides-int_eq}
+use Rattle.ss_meaning.proofs.Common.{Alpha, AreOfModes, Class, ClassKind, Column, Decides-int_eq, eqb-false, eqb-true, Has, HasAllHistories, HasHistories, int_eq, Integer, IsFittingHeap, IsFittingStore, IsIndex, IsLiving, IsLivingAs, IsLivingOwner, IsNotice, IsSubjectOwner, kind_of, le-leb, made, Mode, mode_of, Notice, Owner, Permanent, Program, put_at, same_mode, State, Statistic, Store, Subject, System, Temporary, TypeError, Value, with_heap, with_histories}
 use Rattle.std.proofs.Math.Dec.{leb}
-use Rattle.std.specs.Ordering.{int_eq}
 use Rattle.std.specs.Prelude.{slice_get, ◌==◌, ◌&&◌, int_le, if◌then◌else◌}
-use Rattle.ss_base.specs.declared.layout.ClassKind.{ClassKind}
-use Rattle.ss_base.specs.declared.layout.ClassKind.TheVariants.{Permanent, Temporary, Notice}
-use Rattle.ss_base.specs.declared.layout.Mode.{Mode}
-use Rattle.ss_base.specs.declared.layout.Mode.TheVariants.{Integer, Alpha}
-use Rattle.ss_base.specs.declared.layout.Owner.{Owner}
-use Rattle.ss_base.specs.declared.layout.Owner.TheVariants.{System, Class}
-use Rattle.ss_base.specs.declared.value.Value.{Value}
-use Rattle.ss_base.specs.Layout.{mode_of}
-use Rattle.ss_world.specs.State.{State, kind_of}
-use Rattle.ss_program.specs.declared.sections.Subject.{Subject}
-use Rattle.ss_program.specs.declared.sections.Statistic.{Statistic}
-use Rattle.ss_program.specs.Program.{Program}
-use Rattle.ss_meaning.specs.Values.{TypeError, same_mode}
-use Rattle.ss_meaning.specs.Store.{Column, Store, with_heap, with_histories, put_at}
 use Rattle.ss_meaning.specs.Histories.{home, starting, started, all_started, all_noting, noted}
-use Rattle.ss_meaning.specs.Fitting.{AreOfModes, IsFittingHeap, made, IsIndex, IsLiving, IsLivingAs, IsNotice, IsLivingOwner, IsSubjectOwner, Has, HasHistories, HasAllHistories, IsFittingStore}
 use Rattle.ss_meaning.proofs.Fine.{Fine, There, fine_turned}
 use Rattle.ss_meaning.proofs.Lists.{every_weaker}
 use Rattle.ss_meaning.proofs.Heaps.{Same, Created, Filled}

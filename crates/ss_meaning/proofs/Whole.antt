@@ -1,31 +1,13 @@
 -- A well-typed program does not go wrong.
 use Rattle.std.proofs.Common.{arith, ◌≡◌, ℕ, zero, suc, ◌+◌, Bool, true, false, List, [], ◌∷◌, ◌++◌, length, Option, Some, None, ℤ, pos, negsuc, refl, sym, ap, ◌∙◌, subst}
-use Rattle.std.proofs.lemmas.Bool.{eq-eqb}
-use Rattle.std.proofs.lemmas.Bool.Decides.{Decides-int_eq}
-use Rattle.std.specs.Ordering.{int_eq}
+use Rattle.ss_meaning.proofs.Common.{Alpha, AreOfModes, Beginning, Block, Calls, Class, ClassKind, ClassLayout, Coming, Decides-int_eq, effects, eq-eqb, Event, event_begun, first_value, Has, int_eq, Integer, is_awaited, IsFittingStore, IsLivingAs, IsLivingOwner, IsSoundStore, Layout, made, Mode, mode_of, next_event, Notice, Owner, Permanent, Program, Routine, same_mode, Statistic, System, Temporary, Value}
 use Rattle.std.specs.Prelude.{slice_get, map, ◌==◌, ◌≢◌, if◌then◌else◌}
-use Rattle.ss_base.specs.declared.layout.ClassKind.{ClassKind}
-use Rattle.ss_base.specs.declared.layout.ClassKind.TheVariants.{Permanent, Temporary, Notice}
-use Rattle.ss_base.specs.declared.layout.Mode.{Mode}
-use Rattle.ss_base.specs.declared.layout.Mode.TheVariants.{Integer, Alpha}
-use Rattle.ss_base.specs.declared.layout.Owner.{Owner}
-use Rattle.ss_base.specs.declared.layout.Owner.TheVariants.{System, Class}
-use Rattle.ss_base.specs.declared.layout.ClassLayout.{ClassLayout}
-use Rattle.ss_base.specs.declared.layout.Layout.{Layout}
-use Rattle.ss_base.specs.declared.value.Value.{Value}
-use Rattle.ss_base.specs.Layout.{mode_of, first_value}
 use Rattle.ss_world.specs.State.{Record, kind_of, first_state, not_made, records_in}
-use Rattle.ss_program.specs.declared.sections.Statistic.{Statistic}
-use Rattle.ss_program.specs.Program.{Routine, Event, Program, Block}
 use Rattle.ss_program.specs.WellTyped.{IsWellTyped, IsTypedRoutine, IsTypedEvent, IsTypedBlock}
-use Rattle.ss_meaning.specs.Values.{same_mode}
 use Rattle.ss_meaning.specs.Store.{Column, Store, prepended, first_values, taken_by_modes, appended, opened, front, yielded}
 use Rattle.ss_meaning.specs.Histories.{home, no_history, no_histories, starting}
-use Rattle.ss_meaning.specs.Events.{Beginning, Coming, next_event, event_begun, is_awaited}
 use Rattle.ss_meaning.specs.Parts.{RunState, Returned, Stopped, Faulted, OutOfTicks, Wrong, Outcome, WentOn, Left, Part, outcome_then, needed, take_tick}
-use Rattle.ss_meaning.specs.Statements.{Calls, effects}
 use Rattle.ss_meaning.specs.Meaning.{with_locals, go_back, come_back, enclosed, routine_called, event_routine, begin, event_taken, calls, WentWrong, run_of, first_store, first_run_state, meaning}
-use Rattle.ss_meaning.specs.Fitting.{AreOfModes, made, IsLivingAs, IsLivingOwner, Has, IsSoundStore, IsFittingStore}
 use Rattle.ss_meaning.specs.Laws.{IsFittingAfter}
 use Rattle.ss_meaning.proofs.Fine.{There, Any}
 use Rattle.ss_meaning.proofs.Lists.{every_get}

@@ -1,15 +1,9 @@
 -- What names mean, and the first line where a name is declared as two things, one declaration after the other.
 use Rattle.std.proofs.Common.{◌≡◌, not, Bool, true, false, cond, List, [], ◌∷◌, ◌++◌, map, Option, Some, None, refl, sym, ap, ◌∙◌}
 use Rattle.std.specs.List.{flat_map, fold}
-use Rattle.std.proofs.lemmas.List.Sums.{fold-append}
-use Rattle.ss_base.specs.declared.line.Line.{Line}
+use Rattle.ss_names.proofs.Common.{Declaration, first_entries, fold-append, given_by, Line, Meaning, NameBytes, value_for, with_first}
 use Rattle.ss_base.specs.Lines.{line_if}
-use Rattle.ss_tree.specs.Names.{NameBytes}
-use Rattle.ss_names_declarations.specs.NameTable.{first_entries, value_for, with_first}
-use Rattle.ss_names_declarations.specs.declared.declaration.Declaration.{Declaration}
 use Rattle.ss_names_declarations.proofs.Entries.{value_in_firsts}
-use Rattle.ss_names.specs.declared.meaning.Meaning.{Meaning}
-use Rattle.ss_names.specs.Entries.{given_by}
 use Rattle.ss_names.specs.Table.{Entered, Table, clashes, clashes_after, declares, entered_in_line, entered_by, is_another, meanings, numbered, same_of_set}
 use Rattle.ss_names.specs.Filling.{all_entered, clash_after, enter_name, entered, first_line, meanings_pass, sooner}
 

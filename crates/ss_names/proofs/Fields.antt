@@ -1,7 +1,7 @@
 -- Attributes and the rows of their classes, one more at a time.
 use Rattle.std.proofs.Common.{◌≡◌, ℕ, inl, inr, ◌+◌, ◌<◌, nat_eq, nat_lt, Bool, true, false, cond, List, [], ◌∷◌, ◌++◌, length, get_or, slice_set, Option, Some, None, is_some, refl, sym, ap, subst, ◌∙◌, append_assoc, append-nil, ltb-true, arith}
 use Rattle.std.specs.List.{filter, fold, position_or_len}
-use Rattle.std.specs.Map.{keys_of}
+use Rattle.ss_names.proofs.Common.{Attribute, ClassKind, Declaration, Declared, entry_beside, entry_if, field_pushed, Fields, first_entries, keys_append, keys_of, Mode, NameBytes, place_among, place_in, same_name, value_for, with_field, with_first}
 use Rattle.std.proofs.lemmas.Bool.{ne_eqb}
 use Rattle.std.proofs.lemmas.Bool.Decides.{eqb_tells}
 use Rattle.std.proofs.lemmas.List.{ext_get_or, get_or-set_same, get_or-set_other, length-set}
@@ -9,17 +9,8 @@ use Rattle.std.proofs.lemmas.List.Elements.{filter-append}
 use Rattle.std.proofs.lemmas.List.FromFn.{length-map-range_with_len, get_or-map-range_with_len}
 use Rattle.std.proofs.lemmas.Map.Entries.{length-keys_of}
 use Rattle.std.proofs.lemmas.Option.{none-some, same_Some}
-use Rattle.ss_base.specs.declared.layout.Mode.{Mode}
-use Rattle.ss_base.specs.declared.layout.ClassKind.{ClassKind}
-use Rattle.ss_tree.specs.Names.{NameBytes}
-use Rattle.ss_names_declarations.specs.NameTable.{entry_beside, entry_if, first_entries, place_among, place_in, same_name, value_for, with_first}
-use Rattle.ss_names_declarations.specs.declared.declaration.Declared.{Declared}
 use Rattle.ss_names_declarations.specs.declared.declaration.Declared.TheVariants as declared
-use Rattle.ss_names_declarations.specs.declared.declaration.Declaration.{Declaration}
-use Rattle.ss_names_declarations.proofs.Entries.{keys_append}
-use Rattle.ss_names.specs.declared.entry.Attribute.{Attribute}
 use Rattle.ss_names.specs.Entries.{attribute_after, attribute_by, attributes_after, attributes_of_class, fields_by_class, given_by}
-use Rattle.ss_names.specs.Filling.{Fields, field_pushed, with_field}
 
 -- ---- rows
 

@@ -1,3 +1,4 @@
+mod Common
 mod Short
 mod Fields
 mod Sets

@@ -1,15 +1,6 @@
 -- What all passes together make of a list of declarations.
 use Rattle.std.proofs.Common.{◌≡◌, List, [], ◌∷◌, ◌++◌, length, Option, Some, None, refl, sym, ap, ◌∙◌, append_assoc, append-nil}
-use Rattle.std.specs.Prelude.{slice_get}
-use Rattle.std.specs.List.{fold}
-use Rattle.std.specs.Option.{option_or}
-use Rattle.std.proofs.lemmas.List.{length-map}
-use Rattle.std.proofs.lemmas.List.FromFn.{length-map-range_with_len}
-use Rattle.std.proofs.lemmas.List.Sums.{fold-append}
-use Rattle.ss_base.specs.declared.layout.Mode.{Mode}
-use Rattle.ss_tree.specs.Names.{NameBytes}
-use Rattle.ss_names_declarations.specs.NameTable.{with_first, with_name}
-use Rattle.ss_names_declarations.specs.declared.declaration.Declaration.{Declaration}
+use Rattle.ss_names.proofs.Common.{Declaration, fold, fold-append, length-map, length-map-range_with_len, Mode, NameBytes, option_or, slice_get, with_first, with_name}
 use Rattle.ss_names.specs.Entries.{attribute_by, attributes_of_class, class_by, classes, event_by, events, given_by, histories, history_by, mode_by, mode_of_name, modes, notice_by, priority_by, rank_key_by, routine_by, routines, set_by, set_names, sets, tie_key_by, usual_by, usual_mode, variable_by, number_added}
 use Rattle.ss_names.specs.Table.{Table, clashes, declared, numbered}
 use Rattle.ss_names.specs.Filling.{Entering, Fields, HasRows, all_entered, entities_filled, entities_pass, table_fields, filled_table, first_line, kept_mode, mode_named, names_pass, no_names, no_set, pushed, set_part, variables_pass, with_all_meanings, with_field, with_meanings, with_rows, with_set, with_subjects}

@@ -1,14 +1,10 @@
 -- Names that are short enough to be spellings.
 use Rattle.std.proofs.Common.{◌≡◌, ℕ, ◌+◌, ◌≤◌, Bool, true, false, not, ◌&&◌, cond, nat_le, nat_lt, List, [], ◌∷◌, length, OnOk, OnErr, Result, Ok, Err, Option, Some, None, refl, ap, ◌∙◌, arith}
 use Rattle.std.specs.Prelude.{if◌then◌else◌}
-use Rattle.std.specs.List.{position_or_len}
-use Rattle.std.specs.Map.{keys_of}
+use Rattle.ss_names.proofs.Common.{entry_beside, keys_append, keys_of, NameBytes, place_in, position_or_len, same_name, value_for, with_first}
 use Rattle.std.specs.Cmp.Lexicographic.{bytes_decides}
 use Rattle.std.proofs.lemmas.Bool.Decides.{nat_tests}
 use Rattle.std.proofs.lemmas.List.Folds.{list_all-append}
-use Rattle.ss_tree.specs.Names.{NameBytes}
-use Rattle.ss_names_declarations.specs.NameTable.{entry_beside, place_in, same_name, value_for, with_first}
-use Rattle.ss_names_declarations.proofs.Entries.{keys_append}
 use Rattle.ss_base.specs.Spellings.{are_short, spelling_of}
 
 -- ---- one more name

@@ -1,14 +1,8 @@
 -- One step of a pass, and one turn of a loop.
 use Rattle.std.proofs.Common.{◌≡◌, ℕ, ◌+◌, ◌<◌, false, cond, List, [], ◌∷◌, ◌++◌, length, get_or, map, take, Option, Some, None, is_some, refl, sym, ap, ◌∙◌}
-use Rattle.std.specs.List.{fold}
+use Rattle.ss_names.proofs.Common.{Attribute, Declared, fold, Mode, NameBytes, Table, value_for}
 use Rattle.std.proofs.lemmas.List.{map_push, take_more}
 use Rattle.std.proofs.lemmas.List.Sums.{fold_more}
-use Rattle.ss_base.specs.declared.layout.Mode.{Mode}
-use Rattle.ss_tree.specs.Names.{NameBytes}
-use Rattle.ss_names_declarations.specs.NameTable.{value_for}
-use Rattle.ss_names_declarations.specs.declared.declaration.Declared.{Declared}
-use Rattle.ss_names.specs.declared.entry.Attribute.{Attribute}
-use Rattle.ss_names.specs.Table.{Table}
 use Rattle.ss_names.specs.Filling.{field_pushed, table_fields, mode_named, row_pushed, with_fields}
 
 -- a step of a pass on the table that is seen, by what was matched

@@ -1,15 +1,7 @@
 -- Attributes: each is in the row of its class, at its number.
 use Rattle.std.proofs.Common.{◌≡◌, ℕ, ◌<◌, nat_eq, Bool, true, false, cond, List, [], ◌∷◌, ◌++◌, length, get_or, slice_get, Some, refl, sym, ap, subst, ◌∙◌, append_assoc, arith}
-use Rattle.std.specs.List.{filter}
-use Rattle.std.specs.Map.{keys_of}
-use Rattle.std.specs.Cmp.Lexicographic.{bytes_decides}
-use Rattle.std.proofs.lemmas.Bool.{eq-eqb}
-use Rattle.std.proofs.lemmas.List.Elements.{filter-append}
-use Rattle.std.proofs.lemmas.List.FromFn.{get_or-map-range_with_len}
-use Rattle.std.proofs.lemmas.Option.{same_Some}
-use Rattle.ss_names_laws.proofs.Common.{Attribute, attribute_classes, attributes, attributes_after, attributes_of_class, classes, ClassKind, Declaration, Declared, keys_append, Mode, mode_of_name, NameBytes, place_in, same_name, value_for}
+use Rattle.ss_names_laws.proofs.Common.{Attribute, attribute_after, attribute_by, attribute_classes, attributes, attributes_after, attributes_of_class, bytes_decides, classes, ClassKind, Declaration, Declared, eq-eqb, fields, filter, filter-append, get_or-map-range_with_len, keys_append, keys_of, Mode, mode_of_name, NameBytes, place_in, same_name, same_Some, value_for}
 use Rattle.ss_names_declarations.specs.declared.declaration.Declared.TheVariants as d
-use Rattle.ss_names.specs.Entries.{attribute_after, attribute_by, fields}
 use Rattle.ss_names_laws.proofs.NameTable.{entry_from, place_in_below, value_declared}
 use Rattle.ss_names_laws.proofs.Items.{Among}
 

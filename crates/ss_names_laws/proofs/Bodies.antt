@@ -2,18 +2,15 @@
 use Rattle.std.proofs.Common.{◌≡◌, ℕ, zero, suc, ◌+◌, Bool, true, false, List, [], ◌∷◌, ◌++◌, length, Option, Some, None, refl}
 use Rattle.std.specs.Prelude.{◌==◌, nat_le, slice_get, if◌then◌else◌}
 use Rattle.std.specs.List.{AllByRecursion as Every, flat_map}
-use Rattle.ss_names_laws.proofs.Common.{in_body, in_places, Line, NameBytes}
+use Rattle.ss_names_laws.proofs.Common.{Line, NameBytes, Role, Use, Used}
+use Rattle.ss_names_uses.specs.Uses.{in_body, in_places, as_mean, fields_of_pictures, in_call, in_condition, in_expression, in_field, in_given, in_guard, in_head, in_inner, in_item, in_item_at, in_items, in_itself, in_loop_head, in_named, in_new, in_numbers, in_old, in_option, in_phrase, in_position, in_row, in_start, in_statement, in_target, in_terms, in_test, in_value, in_when, loop_variable, expression_tree_mode, of_fit, of_text, with_decimals}
 use Rattle.ss_tree.specs.Tree.{ExpressionTree, number, text, named, call, parenthesised, product, signed, sum, ExpressionRow, no_expression, and_expression, TermRow, no_term, and_term, NamedTree, TestTree, compare, empty, member, data_ended, ConditionTree, PhraseTree, GuardTree, StartTree, from_end, from_member, after_member, HeadTree, over_range, over_members, over_class, LoopHeadTree, for_head, guarded, PositionTree, by_discipline, at_first, at_last, before, after, WhenTree, at_time, in_units, now, StatementTree, let_statement, add_statement, subtract_statement, call_statement, return_statement, stop_statement, read_statement, start_simulation, if_statement, loop_statement, find_statement, find_if_statement, create_statement, create_every, destroy_statement, file_statement, remove_end, remove_statement, schedule_new, schedule_statement, cancel_statement, reset_statement, print_statement, skip_statement, StatementRow, no_statement, and_statement}
 use Rattle.ss_names_uses.specs.declared.used.ModeOf.{ModeOf}
 use Rattle.ss_names_uses.specs.declared.used.ModeOf.TheVariants as modes
-use Rattle.ss_names_uses.specs.declared.used.Role.{Role}
 use Rattle.ss_names_uses.specs.declared.used.Role.TheVariants as roles
 use Rattle.ss_names_uses.specs.declared.used.ClassNeed.{ClassNeed}
 use Rattle.ss_names_uses.specs.declared.used.ClassNeed.TheVariants.{Single, Notice}
-use Rattle.ss_names_uses.specs.declared.used.Used.{Used}
 use Rattle.ss_names_uses.specs.declared.used.Used.TheVariants.{Parameter, Local, Unfit}
-use Rattle.ss_names_uses.specs.declared.used.Use.{Use}
-use Rattle.ss_names_uses.specs.Uses.{as_mean, fields_of_pictures, in_call, in_condition, in_expression, in_field, in_given, in_guard, in_head, in_inner, in_item, in_item_at, in_items, in_itself, in_loop_head, in_named, in_new, in_numbers, in_old, in_option, in_phrase, in_position, in_row, in_start, in_statement, in_target, in_terms, in_test, in_value, in_when, loop_variable, expression_tree_mode, of_fit, of_text, with_decimals}
 use Rattle.ss_names_laws.proofs.Each.{joined}
 
 -- whether what is used declares a local variable

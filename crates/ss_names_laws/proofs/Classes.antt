@@ -1,12 +1,8 @@
 -- What the names of classes mean, and N. of permanent ones.
 use Rattle.std.proofs.Common.{◌≡◌, ℕ, List, Some, None, inl, inr, refl, sym, ap, subst, ◌∙◌}
-use Rattle.ss_names_laws.proofs.Common.{at_line, attributes, class_by, classes, ClassKind, CountedClass, Declaration, declarations, Declared, declares, entry_if, global_variables, Integer, Line, NameBytes, numbered, Permanent, place_in, ProgramTree, refusal_of_declarations, table, value_for}
-use Rattle.ss_base.specs.declared.layout.ClassKind.TheVariants.{Temporary, Notice}
+use Rattle.ss_names_laws.proofs.Common.{at_line, attributes, class_by, class_entry, class_meaning, class_variables, classes, ClassKind, count_entry, count_meaning, count_name, CountedClass, Declaration, declarations, Declared, declares, entry_if, global_variables, Integer, Line, NameBytes, Notice, numbered, Permanent, place_in, place_of_value, ProgramTree, refusal_of_declarations, table, Temporary, value_for, variable_by}
 use Rattle.ss_names_declarations.specs.declared.declaration.Declared.TheVariants as d
-use Rattle.ss_names_declarations.proofs.Entries.{place_of_value}
 use Rattle.ss_names.specs.declared.meaning.Meaning.TheVariants as m
-use Rattle.ss_names.specs.Entries.{class_variables, count_name, variable_by}
-use Rattle.ss_names.specs.Table.{class_meaning, class_entry, count_meaning, count_entry}
 use Rattle.ss_names_laws.proofs.NameTable.{declared_value, entry_here, value_declared}
 use Rattle.ss_names_laws.proofs.Items.{Among, in_left, in_right}
 use Rattle.ss_names_laws.proofs.Kept.{declared_once, meant}

@@ -1,26 +1,19 @@
 -- What holds where a program breaks no rule on declarations.
 use Rattle.std.proofs.Common.{◌≡◌, ℕ, Bool, true, false, cond, List, [], ◌∷◌, ◌++◌, map, Option, Some, None, ◌⊎◌, inl, inr, ⊎_elim, refl, sym, ap, subst, ◌∙◌, append-nil, append_assoc}
 use Rattle.std.specs.List.{AllByRecursion as Every, IsDistinct, flat_map}
-use Rattle.std.specs.Option.{option_or}
-use Rattle.std.specs.Cmp.Lexicographic.{bytes_decides}
-use Rattle.std.proofs.lemmas.Bool.{both_ways, not-false, or_parts}
-use Rattle.std.proofs.lemmas.List.{map-append}
+use Rattle.ss_names_laws.proofs.Common.{both_ways, broken_by, bytes_decides, Declaration, declarations, given_by, Line, map-append, Meaning, NameBytes, not-false, Once, option_or, option_to_list, or_parts, ProgramTree, value_append, value_for, value_in_firsts}
 use Rattle.std.proofs.lemmas.Option.{none-some}
-use Rattle.ss_names_laws.proofs.Common.{broken_by, Declaration, declarations, declares, given_by, Line, Meaning, NameBytes, numbered, ProgramTree, refusal_of_declarations, Table, table, value_for, value_in_firsts}
+use Rattle.ss_names.specs.Table.{declares, numbered, Table, table, Entered, clashes, clashes_after, entered_in_line, entered_by, is_another, same_of_set}
+use Rattle.ss_tables_rules.specs.Broken.{refusal_of_declarations, table_breaches, declaration_breaches, unmoded}
 use Rattle.ss_base.specs.Lines.{line_if}
 use Rattle.ss_names_declarations.specs.Earliest.{precedes, earlier_of, earliest}
 use Rattle.ss_names_declarations.proofs.EarliestBreach.{found_and_rest}
-use Rattle.ss_names_declarations.proofs.Entries.{value_append}
 use Rattle.ss_names.specs.declared.meaning.Meaning.TheVariants as m
-use Rattle.ss_names.specs.Table.{Entered, clashes, clashes_after, entered_in_line, entered_by, is_another, same_of_set}
 use Rattle.ss_tables_rules.specs.declared.error.TableError.TheVariants as errors
-use Rattle.ss_tables_rules.specs.declared.once.Once.{Once}
-use Rattle.ss_tables_rules.specs.Broken.{table_breaches, declaration_breaches, unmoded}
 use Rattle.ss_tables_rules.specs.Keys.{misranked}
 use Rattle.ss_tables_rules.specs.Once.{is_among, once_of, repeats, repeats_after, repeated_breach, same_once, again, once_added}
 use Rattle.ss_tables_rules.specs.Order.{table_error_order}
 use Rattle.ss_names_laws.proofs.NameTable.{has_value}
-use Rattle.std.specs.Prelude.{option_to_list}
 use Rattle.ss_names_laws.proofs.Items.{Among, in_image, in_pieces, in_right}
 
 -- ---- nothing is found

@@ -1,28 +1,14 @@
 -- The keys of ranked sets and of ties are attributes of their classes, so each set has a discipline and each class its keys.
 use Rattle.std.proofs.Common.{◌≡◌, ℕ, ◌==◌, nat_eq, Bool, true, false, List, [], ◌∷◌, Option, Some, None, refl, sym, ap, subst, ◌∙◌}
-use Rattle.std.specs.Prelude.{slice_get}
+use Rattle.ss_names_laws.proofs.Common.{Attribute, bytes_decides, Declaration, declarations, Declared, define_sets, DefinedOrder, Discipline, discipline, disciplines, entry_of_key, eqb-true, firsts_once, keys_of, Line, NameBytes, NamedKey, not-false, or_parts, ordered, OrderTree, place_from, place_in, PreambleTree, ProgramTree, rank_key, rank_keys, ranked, ranked_by, RankedBy, RankKey, refusal_of_declarations, ruled, same_name, same_Some, Set, SetRule, slice_get, Table, table, tie_keys, tied_by, TiedBy, value_for, where_holds}
 use Rattle.std.specs.List.{AllByRecursion as Every, filter, list_any}
-use Rattle.std.specs.Map.{keys_of}
-use Rattle.std.specs.Cmp.Lexicographic.{bytes_decides}
-use Rattle.std.proofs.lemmas.Bool.{eqb-true, not-false, or_parts}
-use Rattle.std.proofs.lemmas.Option.{same_Some}
-use Rattle.ss_names_laws.proofs.Common.{Attribute, broken_in, class_by, classes, Declaration, declarations, Declared, Discipline, disciplines, firsts_once, given_by, Line, NameBytes, place_from, place_in, PreambleTree, ProgramTree, refusal_of_declarations, same_name, Set, set_names, set_of, Table, table, value_for, where_holds}
+use Rattle.ss_names.specs.Entries.{class_by, classes, given_by, set_names, set_of, order_by, rank_key_by, tie_key_by}
+use Rattle.ss_tables_rules.specs.Rules.{broken_in, is_attribute_of, is_class_of}
 use Rattle.ss_base.specs.declared.layout.Discipline.TheVariants as disciplines_of
-use Rattle.ss_base.specs.declared.layout.RankKey.{RankKey}
-use Rattle.ss_tree.specs.Tree.{OrderTree, ranked, define_sets}
-use Rattle.ss_tree.specs.declared.preamble.NamedKey.{NamedKey}
 use Rattle.ss_names_declarations.specs.declared.declaration.Declared.TheVariants as d
-use Rattle.ss_names_declarations.specs.declared.declaration.SetRule.{SetRule}
 use Rattle.ss_names_declarations.specs.declared.declaration.SetRule.TheVariants as rules
-use Rattle.ss_names_declarations.proofs.Entries.{entry_of_key}
-use Rattle.ss_names.specs.declared.entry.DefinedOrder.{DefinedOrder}
-use Rattle.ss_names.specs.declared.entry.RankedBy.{RankedBy}
-use Rattle.ss_names.specs.declared.entry.TiedBy.{TiedBy}
-use Rattle.ss_names.specs.Entries.{order_by, rank_key_by, tie_key_by}
 use Rattle.ss_tables_rules.specs.declared.error.TableError.TheVariants as errors
 use Rattle.ss_tables_rules.specs.Keys.{class_of, is_foreign, is_foreign_to_any, member_named, member_of, misranked_in, misranked_key}
-use Rattle.ss_tables_rules.specs.Rules.{is_attribute_of, is_class_of}
-use Rattle.ss_names_meaning.specs.Layouts.{discipline, rank_key, ordered, rank_keys, ranked_by, ruled, tie_keys, tied_by}
 use Rattle.ss_names_laws.proofs.Each.{at_place, each_empty, every_image, every_passed, every_piece}
 use Rattle.ss_names_laws.proofs.NameTable.{value_among}
 use Rattle.ss_names_laws.proofs.Items.{Among, at_item}

@@ -1,12 +1,9 @@
 -- What a table has of a name, by what the name means.
 use Rattle.std.proofs.Common.{◌≡◌, ℕ, ◌<◌, Bool, true, false, cond, List, length, Option, Some, None, option_map, is_some, ⊎_elim, refl, sym, ap, subst, ◌∙◌}
-use Rattle.std.proofs.lemmas.Option.{same_Some}
-use Rattle.ss_names_laws.proofs.Common.{ClassKind, Declaration, Declared, declares, entry_if, Global, Local, Meaning, Mode, NameBytes, numbered, Permanent, place_among, place_in, Table, value_for}
+use Rattle.ss_names_laws.proofs.Common.{ClassKind, count_name, Declaration, Declared, entry_if, Global, Local, Meaning, Mode, NameBytes, Permanent, place_among, place_in, same_Some, value_for, value_mode}
+use Rattle.ss_names.specs.Table.{declares, numbered, Table, attribute_meaning, class_meaning, class_entry, count_meaning, count_entry, fold_of, meanings, set_meanings, variable_meaning}
 use Rattle.ss_names_declarations.specs.declared.declaration.Declared.TheVariants as d
 use Rattle.ss_names.specs.declared.meaning.Meaning.TheVariants as m
-use Rattle.ss_names.specs.Entries.{count_name}
-use Rattle.ss_names.specs.Modes.{value_mode}
-use Rattle.ss_names.specs.Table.{attribute_meaning, class_meaning, class_entry, count_meaning, count_entry, fold_of, meanings, set_meanings, variable_meaning}
 use Rattle.ss_names_laws.proofs.NameTable.{entry_from, mapped, place_below, value_declared}
 use Rattle.ss_names_laws.proofs.Items.{Among, at_item, in_one_of}
 

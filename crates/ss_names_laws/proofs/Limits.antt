@@ -1,15 +1,11 @@
 -- No more than 64 classes, sets, and attributes of a class.
 use Rattle.std.proofs.Common.{◌≡◌, ℕ, ◌<◌, ◌≤◌, ◌||◌, nat_eq, nat_le, not, is_some, Bool, true, false, cond, List, [], ◌∷◌, ◌++◌, length, map, Option, Some, None, ⊎_elim, refl, sym, ap, subst, ◌∙◌, append_assoc, append-nil, arith}
 use Rattle.std.specs.List.{AllByRecursion as Every, IsDistinct, filter}
-use Rattle.std.specs.Map.{keys_of}
+use Rattle.ss_names_laws.proofs.Common.{Attribute, attribute_by, attribute_classes, attributes, attributes_after, attributes_of_class, class_by, classes, ClassKind, declarations, Declared, filter-append, first_entries, firsts_once, given_by, keys_append, keys_of, length-append, length-map, Line, Mode, mode_of_name, NameBytes, place_among, place_from, place_in, ProgramTree, refusal_of_declarations, same_name, set_by, set_names, set_of, Table, table, there, value_for, value_from_place}
 use Rattle.std.proofs.lemmas.Bool.{cases_lt, eqb-true, leb-false, not-true}
-use Rattle.std.proofs.lemmas.List.{length-append, length-map}
-use Rattle.std.proofs.lemmas.List.Elements.{filter-append}
-use Rattle.ss_names_laws.proofs.Common.{Attribute, attribute_classes, attributes, attributes_after, attributes_of_class, broken_in, class_by, classes, ClassKind, declarations, Declared, first_entries, firsts_once, given_by, keys_append, Line, Mode, mode_of_name, NameBytes, place_among, place_from, place_in, ProgramTree, refusal_of_declarations, same_name, set_names, set_of, Table, table, there, value_for, value_from_place}
+use Rattle.ss_tables_rules.specs.Rules.{broken_in, field_number, has_member, has_owner, is_too_many, set_by_name}
 use Rattle.ss_names_declarations.specs.declared.declaration.Declared.TheVariants as d
-use Rattle.ss_names.specs.Entries.{attribute_by, set_by}
 use Rattle.ss_tables_rules.specs.declared.error.TableError.TheVariants as errors
-use Rattle.ss_tables_rules.specs.Rules.{field_number, has_member, has_owner, is_too_many, set_by_name}
 use Rattle.ss_names_laws.proofs.Each.{at_place, every_first, every_if, from_places}
 use Rattle.ss_names_laws.proofs.Names.{entry_of, every_entry, once_as_entries}
 use Rattle.ss_names_laws.proofs.Unbroken.{every_given, fits, two_fit}

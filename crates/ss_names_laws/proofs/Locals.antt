@@ -3,23 +3,15 @@ use Rattle.std.proofs.Common.{◌≡◌, ℕ, Bool, true, false, List, [], ◌++
 use Rattle.std.specs.Prelude.{not, ◌&&◌, ◌==◌, is_none, is_some, slice_get}
 use Rattle.std.specs.List.{AllByRecursion as Every, flat_map}
 use Rattle.std.specs.Map.{lookup, values_of}
-use Rattle.std.specs.Option.{option_or}
+use Rattle.ss_names_laws.proofs.Common.{as_attribute, cond_some, Declaration, DefinitionTree, event, first_entries, firsts_once, flat_map_from, in_body, in_definition, in_kind, in_places, in_preamble_statement, in_section, in_section_head, Line, local_declaration, main, Meaning, Mode, NameBytes, option_or, parameter_declaration, place_in, ProgramTree, refusal_of_declarations, Role, routine, same_name, same_Some, SectionKindTree, SectionTree, Table, table, there, upto, Use, Used, uses, value_at, value_by_place, value_for, value_from_place}
 use Rattle.std.proofs.lemmas.Bool.{and_parts, cond-false}
-use Rattle.std.proofs.lemmas.Option.{cond_some, same_Some}
-use Rattle.ss_names_laws.proofs.Common.{broken_by, Declaration, event, first_entries, firsts_once, flat_map_from, in_body, in_definition, in_places, in_preamble_statement, in_section, in_section_head, Line, locals_of, main, Meaning, Mode, NameBytes, parameter_declaration, place_in, ProgramTree, refusal_of_declarations, routine, same_name, SectionKindTree, SectionTree, Table, table, there, upto, value_at, value_by_place, value_for, value_from_place}
-use Rattle.ss_tree.specs.Tree.{DefinitionTree}
+use Rattle.ss_names_scopes.specs.Locals.{locals_of, Moded, defined, is_local_place, may_be_variable, local_of, local_place, local_used, locals, moded_in}
+use Rattle.ss_tables_rules.specs.Rules.{broken_by, has_no_mode, is_real, lacks_mode, may_be_hidden, unmoded_in, unmoded_use}
 use Rattle.ss_tree.specs.declared.expression.Designator.{Designator}
 use Rattle.ss_tree.specs.declared.expression.Designator.TheVariants as designators
-use Rattle.ss_names_declarations.specs.Declarations.{local_declaration}
-use Rattle.ss_names_uses.specs.declared.used.Role.{Role}
-use Rattle.ss_names_uses.specs.declared.used.Used.{Used}
 use Rattle.ss_names_uses.specs.declared.used.Used.TheVariants.{Parameter, Local, Place}
-use Rattle.ss_names_uses.specs.declared.used.Use.{Use}
 use Rattle.ss_names_uses.specs.Uses as used
-use Rattle.ss_names_uses.specs.Uses.{as_attribute, in_kind, uses}
-use Rattle.ss_names_scopes.specs.Locals.{Moded, defined, is_local_place, may_be_variable, local_of, local_place, local_used, locals, moded_in}
 use Rattle.ss_tables_rules.specs.declared.error.TableError.TheVariants as errors
-use Rattle.ss_tables_rules.specs.Rules.{has_no_mode, is_real, lacks_mode, may_be_hidden, unmoded_in, unmoded_use}
 use Rattle.ss_names_scopes.specs.Scopes.{local_mode}
 use Rattle.ss_names_meaning.specs.Resolved.{local_modes}
 use Rattle.ss_names_laws.proofs.Bodies.{IsSilent, body_silent, declares_local, places}

@@ -1,13 +1,8 @@
 -- Each name of a program that breaks no rule on declarations means something that is there.
 use Rattle.std.proofs.Common.{◌≡◌, ℕ, ◌<◌, List, [], length, get_or, slice_get, Option, Some, None, option_map, inl, refl, sym, ap, subst, ◌∙◌}
-use Rattle.std.specs.Map.{keys_of, values_of}
-use Rattle.std.proofs.lemmas.List.{length-map}
-use Rattle.std.proofs.lemmas.Option.{same_Some, slice_get-map, slice_get_within}
-use Rattle.ss_names_laws.proofs.Common.{Attribute, class_by, class_layout, classes, ClassKind, count_by, counts, declarations, Discipline, each, firsts_once, given_by, Global, global_variables, Integer, Local, Meaning, Mode, mode_of_attribute, NameBytes, numbered, Permanent, place_from, place_in, PlainClass, ProgramTree, refusal_of_declarations, resolved_layout, resolved_statistic, ResolvedLayout, set_layout, set_names, set_of, SetLayout, Statistic, statistics, Subject, subject_of, table, there, upto, value_at, value_by_place, value_for, value_from_place}
-use Rattle.ss_names_declarations.proofs.Entries.{key_at}
+use Rattle.ss_names_laws.proofs.Common.{Attribute, class_layout, ClassKind, count_by, counts, declarations, Discipline, each, firsts_once, Global, Integer, key_at, keys_of, length-map, Local, Meaning, Mode, mode_of_attribute, mode_of_meaning, NameBytes, numbered, Permanent, place_from, place_in, PlainClass, ProgramTree, refusal_of_declarations, resolved_layout, resolved_statistic, ResolvedLayout, same_Some, set_layout, SetLayout, slice_get-map, slice_get_within, Statistic, statistics, Subject, subject_of, table, there, upto, value_at, value_by_place, value_for, value_from_place, values_of}
+use Rattle.ss_names.specs.Entries.{class_by, classes, given_by, global_variables, set_names, set_of, routines, sets}
 use Rattle.ss_names.specs.declared.meaning.Meaning.TheVariants as m
-use Rattle.ss_names.specs.Entries.{routines, sets}
-use Rattle.ss_names_scopes.specs.Scopes.{mode_of_meaning}
 use Rattle.ss_names_laws.specs.Laws.{TablesAreValid}
 use Rattle.ss_names_laws.specs.ValidTables.{IsClassAt, IsMeant, IsNamedClass, IsPlainAt, IsSetAt, IsValidTable, IsWatched}
 use Rattle.ss_names_laws.proofs.Attributes.{attribute_there}

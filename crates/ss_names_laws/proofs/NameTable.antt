@@ -1,11 +1,9 @@
 -- Entries of names, of which the first of each name counts, and the declarations that give them.
 use Rattle.std.proofs.Common.{◌≡◌, ℕ, ◌<◌, nat_lt, Bool, true, false, cond, List, [], ◌∷◌, length, Option, Some, None, option_map, inl, inr, refl, sym, ap, subst, ◌∙◌}
 use Rattle.std.specs.List.{position_or_len}
-use Rattle.std.specs.Cmp.Lexicographic.{bytes_decides}
+use Rattle.ss_names_laws.proofs.Common.{bytes_decides, cond_some, Declaration, Declared, entry_if, first_entries, firsts_once, NameBytes, place_among, place_in, same_name, same_Some, slice_get_within, value_by_place, value_for, value_from_place, value_in_firsts}
 use Rattle.std.proofs.lemmas.Bool.{ltb-true}
-use Rattle.std.proofs.lemmas.Option.{cond_some, same_Some, slice_get_within}
-use Rattle.ss_names_laws.proofs.Common.{Declaration, Declared, entry_if, first_entries, firsts_once, given_by, NameBytes, place_among, place_in, same_name, value_by_place, value_for, value_from_place, value_in_firsts}
-use Rattle.ss_names.specs.Entries.{named_by}
+use Rattle.ss_names.specs.Entries.{given_by, named_by}
 use Rattle.ss_names_laws.proofs.Items.{Among, among_at, from_pieces, in_pieces}
 
 -- what an option holds, by what holds its image

@@ -2,9 +2,8 @@
 use Rattle.std.proofs.Common.{◌≡◌, ◌||◌, Bool, true, false, cond, List, [], ◌∷◌, ◌++◌, map, Option, Some, None, is_some, refl, sym, ap, subst, ◌∙◌}
 use Rattle.std.specs.Prelude.{if◌then◌else◌}
 use Rattle.std.specs.List.{AllByRecursion as Every, fold}
-use Rattle.std.specs.Map.{keys_of}
-use Rattle.ss_names_laws.proofs.Common.{first_entries, keys_append, NameBytes, same_name, value_for}
-use Rattle.ss_names_declarations.specs.NameTable.{each_once, entry_beside, is_one_of, with_first, with_name}
+use Rattle.ss_names_laws.proofs.Common.{keys_append, keys_of, NameBytes}
+use Rattle.ss_names_declarations.specs.NameTable.{first_entries, same_name, value_for, each_once, entry_beside, is_one_of, with_first, with_name}
 use Rattle.ss_names_laws.proofs.Each.{every_first, every_image}
 use Rattle.ss_names_laws.proofs.Items.{at_item}
 

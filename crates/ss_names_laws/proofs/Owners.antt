@@ -1,19 +1,14 @@
 -- Each set has an owner and a class of members, which are there.
 use Rattle.std.proofs.Common.{◌≡◌, ℕ, nat_lt, not, Bool, true, false, List, [], length, get_or, Option, Some, None, option_map, is_some, refl, sym, ap, subst, ◌∙◌}
-use Rattle.std.specs.Prelude.{slice_get}
+use Rattle.ss_names_laws.proofs.Common.{bytes_decides, ClassKind, Declaration, declarations, Declared, Line, NameBytes, Owner, owns_among, place_among, place_in, ProgramTree, refusal_of_declarations, same_name, Set, slice_get, slice_get-get_or, slice_get-map, Table, table, value_for}
 use Rattle.std.specs.List.{AllByRecursion as Every}
-use Rattle.std.specs.Cmp.Lexicographic.{bytes_decides}
 use Rattle.std.proofs.lemmas.Bool.{both_ways, lt-ltb}
 use Rattle.std.proofs.lemmas.List.Quantifiers.{position-Some}
-use Rattle.std.proofs.lemmas.Option.{slice_get-get_or, slice_get-map}
-use Rattle.ss_names_laws.proofs.Common.{broken_in, classes, ClassKind, Declaration, declarations, Declared, given_by, Line, NameBytes, place_among, place_in, ProgramTree, refusal_of_declarations, same_name, Set, set_names, set_of, Table, table, value_for}
-use Rattle.ss_base.specs.declared.layout.Owner.{Owner}
+use Rattle.ss_names.specs.Entries.{classes, given_by, set_names, set_of, member_by, owner_entry, owner_named, set_by}
+use Rattle.ss_tables_rules.specs.Rules.{broken_in, has_member, has_owner, is_too_many, table_set_at, set_by_name}
 use Rattle.ss_base.specs.declared.layout.Owner.TheVariants as owners
-use Rattle.ss_base.specs.Layout.{owns_among}
 use Rattle.ss_names_declarations.specs.declared.declaration.Declared.TheVariants as d
-use Rattle.ss_names.specs.Entries.{member_by, owner_entry, owner_named, set_by}
 use Rattle.ss_tables_rules.specs.declared.error.TableError.TheVariants as errors
-use Rattle.ss_tables_rules.specs.Rules.{has_member, has_owner, is_too_many, table_set_at, set_by_name}
 use Rattle.ss_names_laws.proofs.Each.{every_if, every_piece}
 use Rattle.ss_names_laws.proofs.NameTable.{mapped, place_in_below, value_among}
 use Rattle.ss_names_laws.proofs.Items.{at_item}

@@ -2,23 +2,13 @@
 use Rattle.std.proofs.Common.{◌≡◌, ℕ, ◌+◌, List, [], ◌∷◌, ◌++◌, length, map, take, Bool, cond, false, Option, Some, None, refl, sym, ap, subst, ◌∙◌, append_assoc, append-nil}
 use Rattle.std.specs.Prelude.{option_to_list, slice_get, ◌&&◌}
 use Rattle.std.specs.List.{AllByRecursion as Every, IsDistinct, flat_map, fold}
-use Rattle.std.specs.Map.{keys_of}
-use Rattle.std.specs.Option.{option_or}
-use Rattle.std.proofs.lemmas.Bool.{eq-eqb}
+use Rattle.ss_names_laws.proofs.Common.{as_attribute, at_line, Declaration, defined, entry_beside, eq-eqb, event, first_entries, flat_map_from, in_body, in_definition, in_kind, in_places, in_preamble_statement, in_section, in_section_head, keys_append, keys_of, Line, local_used, locals_of, main, map-append, Mode, moded_in, NameBytes, Once, once_of, option_or, parameter_declaration, parameters_of, ProgramTree, refusal_of_declarations, routine, same_name, same_once, SectionKindTree, SectionTree, Table, table, uses, value_append, value_for, with_first}
 use Rattle.std.proofs.lemmas.Cmp.{nat_list_eq_equiv}
 use Rattle.std.proofs.lemmas.Grind.{flat_map-append}
-use Rattle.std.proofs.lemmas.List.{map-append}
 use Rattle.std.proofs.lemmas.List.Sums.{fold-append}
-use Rattle.ss_names_laws.proofs.Common.{at_line, Declaration, event, first_entries, flat_map_from, in_body, in_definition, in_places, in_preamble_statement, in_section, in_section_head, keys_append, Line, locals_of, main, Mode, NameBytes, parameter_declaration, parameters_of, ProgramTree, refusal_of_declarations, routine, same_name, SectionKindTree, SectionTree, Table, table, value_for}
-use Rattle.ss_names_declarations.specs.NameTable.{entry_beside, with_first}
 use Rattle.ss_names_declarations.specs.declared.declaration.Declared.TheVariants as d
-use Rattle.ss_names_declarations.proofs.Entries.{value_append}
 use Rattle.ss_names_uses.specs.Uses as used
-use Rattle.ss_names_uses.specs.Uses.{as_attribute, in_kind, uses}
-use Rattle.ss_names_scopes.specs.Locals.{defined, local_used, moded_in}
-use Rattle.ss_tables_rules.specs.declared.once.Once.{Once}
 use Rattle.ss_tables_rules.specs.declared.once.Once.TheVariants as once
-use Rattle.ss_tables_rules.specs.Once.{once_of, same_once}
 use Rattle.ss_names_laws.proofs.Each.{at_number, in_parts}
 use Rattle.ss_names_laws.proofs.Items.{at_item, each_item, in_image}
 use Rattle.ss_names_laws.proofs.Kept.{onces, said_once}

@@ -1,10 +1,8 @@
 -- The parts of a layout that is there.
 use Rattle.std.proofs.Common.{◌≡◌, ℕ, suc, List, [], ◌∷◌, length, get_or, slice_get, Option, Some, sym, ap, ◌∙◌}
-use Rattle.std.specs.Map.{values_of}
-use Rattle.std.proofs.lemmas.Option.{cond_some, same_Some}
-use Rattle.ss_names_laws.proofs.Common.{class_layout, counts, Discipline, disciplines, layout, mode_of_attribute, PlainClass, PlainLayout, resolved_layout, resolved_statistic, ResolvedLayout, set_layout, SetLayout, Statistic, statistics, Table, upto}
+use Rattle.ss_names_laws.proofs.Common.{class_layout, cond_some, counts, Discipline, disciplines, layout, mode_of_attribute, PlainClass, PlainLayout, resolved_layout, resolved_statistic, ResolvedLayout, same_Some, set_layout, SetLayout, Statistic, statistics, Table, values_of}
+use Rattle.ss_names_meaning.specs.Answers.{upto, ◌>>=◌, each}
 use Rattle.ss_base.specs.Layout.{is_layout, layout_of}
-use Rattle.ss_names_meaning.specs.Answers.{◌>>=◌, each}
 use Rattle.ss_names_laws.proofs.Steps.{got, upto_length}
 
 each_length : {A B : Type 0} (step : A → Option B) (xs : List A) (ys : List B) → each step xs ≡ Some ys → length ys ≡ length xs

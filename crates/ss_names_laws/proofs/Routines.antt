@@ -1,18 +1,13 @@
 -- The sections of routines, and what holds of the local variables of each section.
 use Rattle.std.proofs.Common.{◌≡◌, ◌+◌, length, take, Option, Some, option_map, ap, ◌∙◌, arith, length-take}
-use Rattle.std.specs.Prelude.{slice_get}
+use Rattle.ss_names_laws.proofs.Common.{Declaration, declarations, Declared, keys_of, length-map, locals_of, Mode, Moded, NameBytes, ProgramTree, SectionTree, slice_get, slice_get-map, table}
 use Rattle.std.specs.List.{AllByRecursion as Every}
-use Rattle.std.specs.Map.{keys_of}
-use Rattle.std.proofs.lemmas.List.{length-map}
-use Rattle.std.proofs.lemmas.Option.{slice_get-map}
-use Rattle.ss_names_laws.proofs.Common.{Declaration, declarations, Declared, given_by, locals_of, Mode, NameBytes, parameters_of, ProgramTree, SectionTree, table}
+use Rattle.ss_names.specs.Entries.{given_by, routine_by}
+use Rattle.ss_names_laws.specs.ValidTables.{parameters_of, IsValidSection}
 use Rattle.ss_names_declarations.specs.declared.declaration.Declared.TheVariants as d
 use Rattle.ss_names_declarations.proofs.Entries.{entry_of_value}
 use Rattle.ss_names.specs.declared.entry.RoutineSection.{RoutineSection}
-use Rattle.ss_names.specs.Entries.{routine_by}
-use Rattle.ss_names_scopes.specs.Locals.{Moded}
 use Rattle.ss_names_laws.specs.Laws.{RoutinesAreThere, SectionsAreValid}
-use Rattle.ss_names_laws.specs.ValidTables.{IsValidSection}
 use Rattle.ss_names_laws.proofs.Each.{at_place, every_first, every_piece, from_places}
 use Rattle.ss_names_laws.proofs.Items.{at_item}
 use Rattle.ss_names_laws.proofs.Locals.{hides, modes_there}

@@ -1,14 +1,11 @@
 -- What makes a declaration: a statement of the preamble or a section, of which it may have the number.
 use Rattle.std.proofs.Common.{◌≡◌, ℕ, ◌+◌, List, [], ◌∷◌, length, map, Some, None, refl, ap, ◌∙◌}
-use Rattle.std.specs.Prelude.{slice_get}
+use Rattle.ss_names_laws.proofs.Common.{Declaration, Declared, length-append, Line, NameBytes, NamedKey, parameters_of, slice_get}
 use Rattle.std.specs.List.{AllByRecursion as Every, flat_map}
-use Rattle.std.proofs.lemmas.List.{length-append}
 use Rattle.ss_base.specs.declared.layout.ClassKind.TheVariants as kinds
-use Rattle.ss_names_laws.proofs.Common.{at_line, Declaration, declarations, Declared, event, flat_map_from, in_definition, in_preamble_statement, in_section, in_section_head, Line, main, NameBytes, parameter_declaration, parameters_of, PreambleTree, ProgramTree, routine, SectionKindTree, SectionTree}
-use Rattle.ss_tree.specs.declared.preamble.NamedKey.{NamedKey}
+use Rattle.ss_names_declarations.specs.Declarations.{at_line, declarations, flat_map_from, in_definition, in_preamble_statement, in_section, in_section_head, parameter_declaration, in_clause, in_set_order, local_declaration, rule_of}
+use Rattle.ss_tree.specs.Tree.{event, main, PreambleTree, ProgramTree, routine, SectionKindTree, SectionTree, ClauseTree, has, owns, belongs_to, OrderTree, fifo, lifo, ranked, permanent_entities, temporary_entities, event_notices, every, normally, system_owns, define_variables, define_sets, priority_order, break_ties, statistics, DefinitionTree}
 use Rattle.ss_tree.specs.declared.preamble.NamedStatistic.{NamedStatistic}
-use Rattle.ss_tree.specs.Tree.{ClauseTree, has, owns, belongs_to, OrderTree, fifo, lifo, ranked, permanent_entities, temporary_entities, event_notices, every, normally, system_owns, define_variables, define_sets, priority_order, break_ties, statistics, DefinitionTree}
-use Rattle.ss_names_declarations.specs.Declarations.{in_clause, in_set_order, local_declaration, rule_of}
 use Rattle.ss_names_declarations.specs.declared.declaration.Declared.TheVariants as d
 use Rattle.ss_names_laws.proofs.Each.{every_image, every_numbered, every_piece, joined}
 use Rattle.ss_names_laws.proofs.Items.{Among}

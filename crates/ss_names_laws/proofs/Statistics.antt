@@ -2,25 +2,18 @@
 use Rattle.std.proofs.Common.{◌≡◌, ℕ, not, Bool, true, false, [], ◌++◌, List, length, Option, Some, None, option_map, refl, ap, ◌∙◌}
 use Rattle.std.specs.Prelude.{option_to_list, if◌then◌else◌, slice_get}
 use Rattle.std.specs.List.{AllByRecursion as Every, flat_map}
-use Rattle.std.specs.Map.{keys_of, values_of}
-use Rattle.std.proofs.lemmas.Option.{slice_get-map}
-use Rattle.ss_names_laws.proofs.Common.{Declaration, declarations, Declared, given_by, Global, Line, Local, Meaning, NameBytes, numbered, PreambleTree, ProgramTree, resolved_statistic, Statistic, Subject, subject_of, Table, table, there, upto, value_at, value_for}
+use Rattle.ss_names_laws.proofs.Common.{Declaration, declarations, Declared, Global, is_text, key_at, keys_of, Line, Local, Meaning, MemberCount, NameBytes, numbered, OfAttribute, OfCount, OfVariable, slice_get-map, Statistic, Subject, subject_of, Table, table, there, unless, upto, value_at, value_for, values_of}
+use Rattle.ss_names.specs.Entries.{given_by, history_by}
+use Rattle.ss_names_meaning.specs.Layouts.{resolved_statistic, statistics as statistics_of}
+use Rattle.ss_tree.specs.Tree.{PreambleTree, ProgramTree, statistics}
 use Rattle.ss_base.specs.declared.words.Weighting.{Weighting}
-use Rattle.ss_program.specs.declared.expression.SetQuery.TheVariants.{MemberCount}
-use Rattle.ss_program.specs.declared.sections.Subject.TheVariants.{OfVariable, OfAttribute, OfCount}
-use Rattle.ss_tree.specs.Tree.{statistics}
 use Rattle.ss_names_declarations.specs.declared.declaration.Declared.TheVariants as d
-use Rattle.ss_names_declarations.proofs.Entries.{key_at}
 use Rattle.ss_names.specs.declared.meaning.Meaning.TheVariants as m
-use Rattle.ss_names.specs.Entries.{history_by}
 use Rattle.ss_check_rules.specs.declared.error.CheckError.{CheckError}
 use Rattle.ss_check_rules.specs.declared.error.CheckError.TheVariants as errors
 use Rattle.ss_check_rules.specs.Kinds.{may_be_watched}
-use Rattle.ss_check_rules.specs.Modes.{is_text}
 use Rattle.ss_check_rules.specs.Order.{check_error_order}
-use Rattle.ss_names_declarations.specs.Earliest.{unless}
 use Rattle.ss_check_rules.specs.Refusal.{breaches, in_preamble, in_program, breaches_in_section, refusal_of_uses, subject_breaks}
-use Rattle.ss_names_meaning.specs.Layouts.{statistics as statistics_of}
 use Rattle.ss_names_laws.proofs.Each.{at_place, each_empty, every_first, every_piece}
 use Rattle.ss_names_laws.proofs.Items.{at_item}
 use Rattle.ss_names_laws.proofs.Kept.{both_empty, nothing_found}

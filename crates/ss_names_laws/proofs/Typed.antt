@@ -1,31 +1,15 @@
 -- The layout of a program that breaks no rule is there with all of its parts, and is well typed.
 use Rattle.std.proofs.Common.{◌≡◌, ◌≢◌, ℕ, ◌<◌, ◌==◌, Bool, false, List, [], length, get_or, Option, Some, None, option_map, option_and_then, refl, sym, ap, subst, ◌∙◌}
-use Rattle.std.specs.Prelude.{slice_get}
+use Rattle.ss_names_laws.proofs.Common.{Attribute, class_layout, classes, count_by, CountedClass, counts, declarations, declares, DefinedOrder, Discipline, discipline, disciplines, entry_of_key, eqb-true, given_by, Global, is_text, IsMeant, IsValidTable, keys_of, layout, Meaning, MemberCount, Mode, mode_of_attribute, NameBytes, numbered, OfAttribute, OfCount, OfVariable, ordered, Permanent, PlainClass, PlainLayout, ProgramTree, rank_key, rank_keys, ranked_by, RankedBy, RankKey, refusal_of_uses, resolved_layout, resolved_statistic, ResolvedLayout, ruled, same_name, same_Some, Set, set_layout, SetLayout, SetRule, slice_get, slice_get-map, slice_get_within, Statistic, statistics, Subject, subject_of, Table, table, tie_keys, tied_by, TiedBy, value_at, value_by_place, value_for, values_of}
 use Rattle.std.specs.List.{AllZip, AllByRecursion as Every, filter}
-use Rattle.std.specs.Map.{keys_of, values_of}
-use Rattle.std.proofs.lemmas.Bool.{eqb-true}
-use Rattle.std.proofs.lemmas.Option.{same_Some, slice_get-map, slice_get_within}
-use Rattle.ss_names_laws.proofs.Common.{Attribute, class_layout, classes, count_by, CountedClass, counts, declarations, declares, Discipline, disciplines, each, given_by, Global, Integer, layout, Meaning, Mode, mode_of_attribute, NameBytes, numbered, Permanent, PlainClass, PlainLayout, ProgramTree, resolved_layout, resolved_statistic, ResolvedLayout, same_name, Set, set_layout, SetLayout, Statistic, statistics, Subject, subject_of, Table, table, upto, value_at, value_by_place, value_for, where_holds}
+use Rattle.ss_base.specs.declared.layout.Mode.TheVariants.{Integer, Alpha}
+use Rattle.ss_names_meaning.specs.Answers.{each, upto, where_holds, ◌>>=◌}
 use Rattle.ss_base.specs.declared.layout.Discipline.TheVariants as orders_of
-use Rattle.ss_base.specs.declared.layout.Mode.TheVariants.{Alpha}
-use Rattle.ss_base.specs.declared.layout.RankKey.{RankKey}
-use Rattle.ss_program.specs.declared.expression.SetQuery.TheVariants.{MemberCount}
-use Rattle.ss_program.specs.declared.sections.Subject.TheVariants.{OfVariable, OfAttribute, OfCount}
 use Rattle.ss_program.specs.Program.{Program}
 use Rattle.ss_program.specs.WellTyped as typed
-use Rattle.ss_names_declarations.specs.declared.declaration.SetRule.{SetRule}
 use Rattle.ss_names_declarations.specs.declared.declaration.SetRule.TheVariants as rules
-use Rattle.ss_names_declarations.proofs.Entries.{entry_of_key}
-use Rattle.ss_names.specs.declared.entry.DefinedOrder.{DefinedOrder}
-use Rattle.ss_names.specs.declared.entry.RankedBy.{RankedBy}
-use Rattle.ss_names.specs.declared.entry.TiedBy.{TiedBy}
 use Rattle.ss_names.specs.declared.meaning.Meaning.TheVariants as m
-use Rattle.ss_check_rules.specs.Modes.{is_text}
-use Rattle.ss_check_rules.specs.Refusal.{refusal_of_uses}
-use Rattle.ss_names_meaning.specs.Answers.{◌>>=◌}
-use Rattle.ss_names_meaning.specs.Layouts.{discipline, rank_key, ordered, rank_keys, ranked_by, ruled, tie_keys, tied_by}
 use Rattle.ss_names_laws.specs.Laws.{HasLayout, IsWellLaid, LayoutsAreWellTyped, TablesAreThere}
-use Rattle.ss_names_laws.specs.ValidTables.{IsMeant, IsValidTable}
 use Rattle.ss_names_laws.proofs.Attributes.{attribute_there}
 use Rattle.ss_names_laws.proofs.Each.{at_place, every_piece}
 use Rattle.ss_names_laws.proofs.NameTable.{mapped, value_of_entry}

@@ -2,10 +2,8 @@
 use Rattle.std.proofs.Common.{◌≡◌, Bool, true, false, List, [], ◌∷◌, None, refl}
 use Rattle.std.specs.Prelude.{if◌then◌else◌}
 use Rattle.std.specs.List.{AllByRecursion as Every}
-use Rattle.std.specs.Option.{option_or}
-use Rattle.ss_names_laws.proofs.Common.{broken_by, broken_in, Declaration, declarations, Declared, given_by, Line, ProgramTree, refusal_of_declarations, table}
+use Rattle.ss_names_laws.proofs.Common.{broken_by, broken_in, Declaration, declarations, Declared, given_by, Line, option_or, ProgramTree, refusal_of_declarations, table, unless}
 use Rattle.ss_tables_rules.specs.declared.error.TableError.{TableError}
-use Rattle.ss_names_declarations.specs.Earliest.{unless}
 use Rattle.ss_names_laws.proofs.Each.{every_piece}
 use Rattle.ss_names_laws.proofs.Items.{at_item}
 use Rattle.ss_names_laws.proofs.Kept.{none_broken}

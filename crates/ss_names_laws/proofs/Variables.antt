@@ -1,18 +1,11 @@
 -- Global variables: their modes, and which of them are N. of a class.
 use Rattle.std.proofs.Common.{◌≡◌, ◌≢◌, ℕ, Bool, true, false, cond, [], ◌∷◌, slice_get, Some, None, option_map, is_some, inl, inr, refl, sym, ap, subst, ◌∙◌}
 use Rattle.std.specs.List.{AllByRecursion as Every}
-use Rattle.std.specs.Map.{values_of}
+use Rattle.ss_names_laws.proofs.Common.{at_line, attributes, class_variables, ClassKind, count_by, CountedClass, counts, declarations, Declared, declares, given_by, Global, global_variables, Integer, Line, Meaning, Mode, mode_of_meaning, NameBytes, Notice, numbered, Permanent, place_in, place_of_value, ProgramTree, refusal_of_declarations, table, Temporary, value_at, value_by_place, value_for, value_mode, values_of, variable_by, variable_meaning}
 use Rattle.std.proofs.lemmas.Option.{same_Some, some_pair_parts}
-use Rattle.ss_names_laws.proofs.Common.{at_line, attributes, ClassKind, count_by, CountedClass, counts, declarations, Declared, declares, given_by, Global, global_variables, Integer, Line, Meaning, Mode, NameBytes, numbered, Permanent, place_in, ProgramTree, refusal_of_declarations, table, value_at, value_by_place, value_for}
-use Rattle.ss_base.specs.declared.layout.ClassKind.TheVariants.{Temporary, Notice}
 use Rattle.ss_tree.specs.declared.preamble.ModeWord.{ModeWord}
 use Rattle.ss_names_declarations.specs.declared.declaration.Declared.TheVariants as d
-use Rattle.ss_names_declarations.proofs.Entries.{place_of_value}
 use Rattle.ss_names.specs.declared.meaning.Meaning.TheVariants as m
-use Rattle.ss_names.specs.Entries.{class_variables, variable_by}
-use Rattle.ss_names.specs.Modes.{value_mode}
-use Rattle.ss_names.specs.Table.{variable_meaning}
-use Rattle.ss_names_scopes.specs.Scopes.{mode_of_meaning}
 use Rattle.ss_names_laws.proofs.Classes.{class_meant, class_there, count_meant}
 use Rattle.ss_names_laws.proofs.NameTable.{declared_value, entry_here, value_declared, value_of_entry}
 use Rattle.ss_names_laws.proofs.Items.{Among, at_item, each_item, from_image, from_pieces}

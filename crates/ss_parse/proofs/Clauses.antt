@@ -1,22 +1,15 @@
 -- Clauses: what is read is spelled, and what is spelled is read.
 use Rattle.std.proofs.Common.{◌≡◌, ℕ, ◌<◌, Bool, true, false, ◌||◌, List, [], ◌∷◌, length, refl, ap, subst, ◌∙◌, arith, inl, inr, ◌⊎◌}
-use Rattle.ss_lex.specs.declared.word.Word.{Word}
+use Rattle.ss_parse.proofs.Common.{continues_never, either_reads, fewer_reads, first_and_reads, has_word, Item_is, item_made, item_of, items_reads, Loop, loop_of, Made, made_reads, marked_reads, maybe_list_reads, or_false, Reads, reshaped_reads, separated_item, Token, token_less, Word}
 use Rattle.ss_lex.specs.declared.word.Word.TheVariants as words
 use Rattle.ss_lex.specs.declared.token.TokenKind.{TokenKind}
 use Rattle.ss_lex.specs.declared.token.TokenKind.TheVariants as kinds
-use Rattle.ss_lex.specs.declared.token.Token.{Token}
 use Rattle.ss_tree.specs.Tree.{ClauseTree, has, owns, belongs_to}
 use Rattle.ss_parse_expressions.specs.declared.classes.WordClass.TheVariants as alike
 use Rattle.ss_parse_expressions.specs.Shapes.{Shape, ◌▷◌, either_shape, separator, Word_is, separated_list}
-use Rattle.ss_parse_expressions.specs.Words.{has_word, Item_is}
 use Rattle.ss_parse_expressions.specs.Reading.{word, is, begins, expect, after_dropped, apply, comma, skip_separator, begins_more, list_of}
 use Rattle.ss_parse_expressions.specs.ReadWords.{among, begins_item, items}
-use Rattle.ss_parse_expressions.proofs.Tools.{or_false}
-use Rattle.ss_parse_expressions.proofs.Marks.{token_less}
-use Rattle.ss_parse_expressions.proofs.ReaderLaws.{Reads, continues_never, Made, made_reads, reshaped_reads, marked_reads, fewer_reads, item_of, maybe_list_reads}
 use Rattle.ss_parse_expressions.proofs.Rows as rows_laws
-use Rattle.ss_parse_expressions.proofs.Rows.{first_and_reads, separated_item, Loop, loop_of}
-use Rattle.ss_parse_expressions.proofs.WordLaws.{items_reads, either_reads, item_made}
 use Rattle.ss_parse.specs.SpelledPreambles.{Clause_is, Clauses_are}
 use Rattle.ss_parse.specs.ReadPreambles.{clause, clause_word, begins_clause, clauses}
 use Rattle.ss_parse.proofs.Orders.{preamble_more, continues_preamble, no_comma, over}

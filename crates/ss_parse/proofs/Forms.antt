@@ -1,28 +1,16 @@
 -- Statements of a preamble after their first word: what is read is spelled, and what is spelled is read.
 use Rattle.std.proofs.Common.{◌≡◌, ℕ, Bool, true, false, ◌||◌, List, Option, Some, None, refl, sym, ap, subst, ◌∙◌, arith, inl, inr}
-use Rattle.ss_base.specs.declared.line.Line.{Line}
-use Rattle.ss_lex.specs.declared.word.Word.{Word}
+use Rattle.ss_parse.proofs.Common.{begins_class, begins_item, begins_name, ClassKind, either_reads, fail, fail_reads, has_word, Item_is, items_reads, Line, mode_of_word, ModeWord, name_reads, NamedKey, NamedStatistic, names_reads, noisy, noisy_mark_reads, optional_class_reads, perhaps_listed, perhaps_listed_reads, Token, Weighting, Word, word_in_reads}
 use Rattle.ss_lex.specs.declared.word.Word.TheVariants as words
 use Rattle.ss_lex.specs.declared.token.TokenKind.TheVariants as kinds
-use Rattle.ss_lex.specs.declared.token.Token.{Token}
-use Rattle.ss_tree.specs.declared.preamble.ModeWord.{ModeWord}
-use Rattle.ss_base.specs.declared.layout.ClassKind.{ClassKind}
-use Rattle.ss_tree.specs.declared.preamble.NamedKey.{NamedKey}
-use Rattle.ss_base.specs.declared.words.Weighting.{Weighting}
 use Rattle.ss_base.specs.declared.words.Weighting.TheVariants as weightings
-use Rattle.ss_tree.specs.declared.preamble.NamedStatistic.{NamedStatistic}
 use Rattle.ss_tree.specs.Tree.{ClauseTree, PreambleTree, permanent_entities, temporary_entities, event_notices, every, normally, system_owns, define_variables, define_sets, priority_order, break_ties, statistics}
 use Rattle.ss_parse_expressions.specs.declared.classes.WordClass.TheVariants as alike
 use Rattle.ss_parse_expressions.specs.Shapes.{Shape, ◌▷◌, never, either_shape, Word_is, Name_is, Word_for, separated_list}
-use Rattle.ss_parse_expressions.specs.Words.{has_word, Item_is, perhaps_listed}
 use Rattle.ss_parse_expressions.specs.Reading.{Reader, word, begins, begins_by, expect, in_table, taken, closed, apply, begins_more}
-use Rattle.ss_parse_expressions.specs.ReadWords.{fail, begins_class, begins_name, begins_item}
 use Rattle.ss_parse_expressions.proofs.Marks.{token_less, begins_table}
 use Rattle.ss_parse_expressions.proofs.ReaderLaws.{Reads, Item, continues_never, Made, made_reads, reshaped_reads, apply_reads, seq_reads, following_reads, bind_reads, marked_reads, closed_reads, fewer_reads, item_of, item_marked, expect_reads}
-use Rattle.ss_parse_expressions.proofs.WordLaws.{word_in_reads, optional_class_reads, fail_reads, noisy_mark_reads, name_reads, names_reads, items_reads, perhaps_listed_reads, either_reads}
-use Rattle.ss_parse_statements.specs.SpelledStatements.{noisy}
 use Rattle.ss_parse.specs.SpelledPreambles.{Keys_are, Statistic_is, Clauses_are, Order_is, article, preamble_line, weighting_word, preamble_first, Preamble_rest}
-use Rattle.ss_parse_expressions.specs.WordTables.{mode_of_word}
 use Rattle.ss_parse.specs.ReadPreambles.{permanent_at, temporary_at, notices_at, every_at, normally_at, system_at, define_end, define_at, priority_at, break_at, statistics_at, preamble_at, preamble_word}
 use Rattle.ss_parse.proofs.Orders.{continues_preamble, over, over_list, keys_reads, order_reads, order_no_mode}
 use Rattle.ss_parse.proofs.Statistics.{is_statistics, statistics_word, weighting_known, statistics_first, no_statistics, found_reads}

@@ -1,31 +1,23 @@
 -- Programs: what is read is spelled, and what is spelled is read.
 use Rattle.std.proofs.Common.{◌≡◌, ℕ, zero, suc, ◌≤◌, Bool, true, false, ◌||◌, List, [], ◌∷◌, Some, refl, sym, ap, subst, ◌∙◌, arith}
-use Rattle.ss_base.specs.declared.line.Line.{Line}
-use Rattle.ss_lex.specs.declared.word.Word.{Word}
+use Rattle.ss_parse.proofs.Common.{by_word_reads, done_reads, fail_reads, first_less, Form, Line, mode_of_word, ModeWord, name_reads, names_reads, no_word, optional_class_reads, or_false, perhaps_listed_reads, plain_form, Span, Token, Word, word_in_reads}
 use Rattle.ss_lex.specs.declared.word.Word.TheVariants as words
-use Rattle.ss_lex.specs.declared.token.Span.{Span}
 use Rattle.ss_lex.specs.declared.token.Symbol.TheVariants.{Comma}
 use Rattle.ss_lex.specs.declared.token.TokenKind.TheVariants as kinds
-use Rattle.ss_lex.specs.declared.token.Token.{Token}
-use Rattle.ss_tree.specs.declared.preamble.ModeWord.{ModeWord}
 use Rattle.ss_tree.specs.Tree.{StatementTree, DefinitionTree, SectionKindTree, main, routine, event, SectionTree}
 use Rattle.ss_parse_expressions.specs.declared.classes.WordClass.TheVariants as classes
 use Rattle.ss_parse_expressions.specs.Shapes.{Shape, ◌▷◌, nothing, optional, provided, noise, Word_is, Name_is, at, first_token_line, each_in_turn, flagged}
 use Rattle.ss_parse_expressions.specs.Words.{has_word, One_of, perhaps_listed}
 use Rattle.ss_parse_expressions.specs.Reading.{word, is, begins, expect, after_dropped, maybe_list, rows, begins_more}
 use Rattle.ss_parse_expressions.specs.ReadWords.{fail, begins_class, begins_among, begins_name, names}
-use Rattle.ss_parse_expressions.proofs.Tools.{or_false}
 use Rattle.ss_parse_expressions.proofs.Marks.{token, mark_begins, token_less}
 use Rattle.ss_parse_expressions.proofs.ReaderLaws.{Reads, Item, continues_never, Made, made_reads, reshaped_reads, seq_reads, marked_reads, closed_reads, before_mark_reads, optional_reads, apply_reads, fewer_reads, lined_reads, item_of, item_marked, flag_reads, expect_reads}
 use Rattle.ss_parse_expressions.proofs.Rows.{rows_reads, Loop, loop_of}
-use Rattle.ss_parse_expressions.proofs.WordLaws.{word_in_reads, optional_class_reads, done_reads, fail_reads, name_reads, names_reads, perhaps_listed_reads, no_word}
 use Rattle.ss_parse.specs.SpelledPreambles.{Variables_are}
-use Rattle.ss_parse_expressions.specs.WordTables.{mode_of_word}
 use Rattle.ss_parse.specs.SpelledPrograms.{section_word, Saving_words, Kind_rest, Definition_is, Section_is, Program_is}
 use Rattle.ss_parse_statements.specs.ReadStatements.{form_word}
 use Rattle.ss_parse.proofs.WholePreambles.{whole_preamble_reads}
 use Rattle.ss_parse.specs.ReadPrograms.{section_words, begins_section, saving, routine_kind, event_kind, kind_after, variables, definition_tree, definition_at, definition, definitions, body_in, section_tree, section_at, section_in, program_tree, program_in}
-use Rattle.ss_parse_statements.proofs.FirstWords.{Form, plain_form, by_word_reads, first_less}
 use Rattle.ss_parse_statements.proofs.Beginnings.{false_past_comma}
 use Rattle.ss_parse_statements.proofs.Levels.{In_statement, all_statements_reads}
 

@@ -1,23 +1,13 @@
 -- Statistics: what is read is spelled, and what is spelled is read.
 use Rattle.std.proofs.Common.{◌≡◌, ℕ, ◌<◌, Bool, true, false, ◌||◌, List, length, drop, Some, Ok, refl, sym, ap, ◌∙◌, arith}
-use Rattle.ss_lex.specs.declared.word.Word.{Word}
+use Rattle.ss_parse.proofs.Common.{apply_reads, begins, begins_more, begins_name, continues_never, HasFailedReading, is, marked_reads, name_in_token, NamedStatistic, optional_reads, ParseFailure, preamble_first, PreambleTree, Reads, separated_list, seq_reads, skip_separator, Statistic_is, statistics, taken, Token, Weighting, weighting_word, Word, word}
 use Rattle.ss_lex.specs.declared.word.Word.TheVariants as words
 use Rattle.ss_lex.specs.declared.token.TokenKind.TheVariants as kinds
-use Rattle.ss_lex.specs.declared.token.Token.{Token}
-use Rattle.ss_base.specs.declared.words.Weighting.{Weighting}
 use Rattle.ss_base.specs.declared.words.Weighting.TheVariants as weightings
 use Rattle.ss_tree.specs.declared.preamble.StatisticKind.{StatisticKind}
-use Rattle.ss_tree.specs.declared.preamble.NamedStatistic.{NamedStatistic}
-use Rattle.ss_tree.specs.Tree.{PreambleTree, statistics}
-use Rattle.ss_parse_expressions.specs.declared.failure.ParseFailure.{ParseFailure}
 use Rattle.ss_parse_expressions.specs.declared.failure.ParseFailure.TheVariants as failures
-use Rattle.ss_parse_expressions.specs.Shapes.{separated_list}
-use Rattle.ss_parse_expressions.specs.Reading.{HasFailedReading, word, is, begins, taken, name_in_token, skip_separator, begins_more}
-use Rattle.ss_parse_expressions.specs.ReadWords.{begins_name}
-use Rattle.ss_parse_expressions.proofs.ReaderLaws.{Reads, continues_never, apply_reads, seq_reads, marked_reads, optional_reads}
 use Rattle.ss_parse_expressions.proofs.Rows.{list_reads, separated_item, Loop, loop_of}
 use Rattle.ss_parse_expressions.proofs.WordLaws.{word_in_reads, name_reads, name_begins, name_no_and, name_less}
-use Rattle.ss_parse.specs.SpelledPreambles.{Statistic_is, weighting_word, preamble_first}
 use Rattle.ss_parse_expressions.specs.WordTables.{statistic_of}
 use Rattle.ss_parse.specs.ReadPreambles.{statistic_tree, statistic_kind, statistic, found, preamble_word}
 

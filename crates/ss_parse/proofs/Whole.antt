@@ -1,11 +1,8 @@
 -- Whole token lists: what is promised of parsing follows from the laws of reading.
 use Rattle.std.proofs.Common.{◌≡◌, ℕ, suc, ◌<◌, ◌≤◌, max, List, [], ◌∷◌, length, Result, Ok, Err, refl, sym, subst, ◌∙◌, arith, inl, inr}
-use Rattle.ss_lex.specs.declared.token.Token.{Token}
-use Rattle.ss_parse_expressions.specs.declared.failure.ParseFault.{ParseFault}
+use Rattle.ss_parse.proofs.Common.{Is_spelling, openers, ParseFault, Program_is, Token}
 use Rattle.ss_parse_expressions.specs.declared.failure.ParseFault.TheVariants.{Syntax, TooDeep}
 use Rattle.ss_tree.specs.Tree.{ProgramTree}
-use Rattle.ss_parse_expressions.specs.Openers.{openers}
-use Rattle.ss_parse.specs.SpelledPrograms.{Program_is, Is_spelling}
 use Rattle.ss_parse.specs.Promise.{Has_no_tree, One_tree}
 use Rattle.ss_parse_expressions.specs.Reading.{◌>>=◌}
 use Rattle.ss_parse.specs.ReadPrograms.{none_left, program_in, program_of}

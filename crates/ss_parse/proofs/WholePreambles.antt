@@ -1,29 +1,18 @@
 -- Whole preambles: what is read is spelled, and what is spelled is read.
 use Rattle.std.proofs.Common.{◌≡◌, ℕ, zero, suc, ◌<◌, ◌≤◌, true, false, ◌||◌, List, [], ◌∷◌, ◌++◌, length, map, Option, None, Result, Ok, Err, refl, sym, ap, subst, ◌∙◌, arith, inl, inr, ◌⊎◌}
 use Rattle.std.proofs.lemmas.List.{append-nil, map_push}
-use Rattle.ss_base.specs.declared.line.Line.{Line}
-use Rattle.ss_lex.specs.declared.word.Word.{Word}
+use Rattle.ss_parse.proofs.Common.{by_word_reads, ClassKind, closed_reads, continues_never, expect_reads, first_less, Form, item_marked, Line, maybe_list_reads, openers, ParseFailure, ParseFault, plain_form, PreambleTree, Reads, Span, Token, token, Word}
 use Rattle.ss_lex.specs.declared.word.Word.TheVariants as words
-use Rattle.ss_lex.specs.declared.token.Span.{Span}
 use Rattle.ss_lex.specs.declared.token.TokenKind.TheVariants as kinds
-use Rattle.ss_lex.specs.declared.token.Token.{Token}
-use Rattle.ss_base.specs.declared.layout.ClassKind.{ClassKind}
 use Rattle.ss_tree.specs.declared.preamble.PreambleStatement.{PreambleStatement}
-use Rattle.ss_tree.specs.Tree.{PreambleTree}
-use Rattle.ss_parse_expressions.specs.declared.failure.ParseFault.{ParseFault}
-use Rattle.ss_parse_expressions.specs.declared.failure.ParseFailure.{ParseFailure}
 use Rattle.ss_parse_expressions.specs.declared.failure.ParseFailure.TheVariants as failures
-use Rattle.ss_parse_expressions.specs.Openers.{openers}
 use Rattle.ss_parse_expressions.specs.Shapes.{Shape, ◌▷◌, Word_is, first_token_line}
 use Rattle.ss_parse_expressions.specs.Reading.{◌>>=◌, HasFailedReading, word, begins}
 use Rattle.ss_parse_expressions.proofs.Tools.{bind_ok, which, chosen, carry, or_false, ok_or_err}
-use Rattle.ss_parse_expressions.proofs.Marks.{token}
 use Rattle.ss_parse_expressions.proofs.Depth.{upto_same, Bounded, bounded_bind, bounded_if}
-use Rattle.ss_parse_expressions.proofs.ReaderLaws.{Reads, continues_never, closed_reads, item_marked, maybe_list_reads, expect_reads}
 use Rattle.ss_parse_expressions.proofs.Rows.{with_front, with_front_more}
 use Rattle.ss_parse.specs.SpelledPreambles.{preamble_first, Preamble_from, group_after, Preambles_are, Whole_preamble}
 use Rattle.ss_parse.specs.ReadPreambles.{preamble_at, preamble_word, begins_preamble, preamble_in, preamble_row, preambles, whole_preamble}
-use Rattle.ss_parse_statements.proofs.FirstWords.{Form, plain_form, by_word_reads, first_less}
 use Rattle.ss_parse.proofs.Orders.{preamble_more, continues_preamble}
 use Rattle.ss_parse.proofs.Forms.{preamble_known, Pre_is, word_law}
 

@@ -1,21 +1,11 @@
 -- What expressions begin with, and what continues them.
 use Rattle.std.proofs.Common.{◌≡◌, ℕ, zero, suc, Bool, true, false, ◌||◌, List, [], ◌∷◌, refl, ap, ◌∙◌, inl, inr, ◌⊎◌}
-use Rattle.ss_lex.specs.declared.word.Word.{Word}
+use Rattle.ss_parse_expressions.proofs.Common.{and_expression, and_term, begins, begins_sign, begins_sum, begins_value, call, Designated, Designator, designator_of_word, ExpressionRow, ExpressionTree, factor_place, first_place, Function, function_of, Further_factors, Further_terms, is, is_some, named, no_expression, no_term, number, opening, parenthesised, product, Sign, Sign_is, signed, Spelled, star, sum, sum_place, term_place, TermRow, text, Token, TokenKind, Word, word}
 use Rattle.ss_lex.specs.declared.word.Word.TheVariants as words
-use Rattle.ss_lex.specs.declared.token.TokenKind.{TokenKind}
 use Rattle.ss_lex.specs.declared.token.TokenKind.TheVariants as kinds
-use Rattle.ss_lex.specs.declared.token.Token.{Token}
-use Rattle.ss_base.specs.declared.words.Sign.{Sign}
 use Rattle.ss_base.specs.declared.words.Sign.TheVariants as signs
-use Rattle.ss_tree.specs.declared.expression.Function.{Function}
-use Rattle.ss_tree.specs.declared.expression.Designator.{Designator}
 use Rattle.ss_tree.specs.declared.expression.Designator.TheVariants as designators
-use Rattle.ss_tree.specs.Tree.{ExpressionTree, number, text, named, call, parenthesised, product, signed, sum, ExpressionRow, no_expression, and_expression, TermRow, no_term, and_term}
 use Rattle.ss_parse_expressions.specs.Shapes.{Shape, ◌▷◌, Word_for, nested_shape}
-use Rattle.ss_parse_expressions.specs.SpelledExpressions.{sum_place, first_place, term_place, factor_place, Sign_is, Designated, Spelled, Further_factors, Further_terms}
-use Rattle.ss_parse_expressions.specs.WordTables.{function_of}
-use Rattle.ss_parse_expressions.specs.Reading.{word, is, is_some, begins}
-use Rattle.ss_parse_expressions.specs.ReadExpressions.{opening, star, begins_sign, designator_of_word, begins_value, begins_sum}
 
 or_right : (a b : Bool) → b ≡ true → (a || b) ≡ true
 or_right true b e = refl

@@ -1,14 +1,10 @@
 -- Conditions: what is read is spelled, and what is spelled is read.
 use Rattle.std.proofs.Common.{◌≡◌, ℕ, zero, suc, ◌<◌, ◌≤◌, Bool, true, false, cond, ◌||◌, List, [], ◌∷◌, length, Option, Some, None, refl, sym, ap, subst, ◌∙◌, arith, inl, inr, ◌⊎◌}
-use Rattle.ss_lex.specs.declared.word.Word.{Word}
+use Rattle.ss_parse_expressions.proofs.Common.{begins, begins_by, begins_sign, begins_sum, begins_value, choose_reader, closed, Designator, Equals, if_present, in_table, is, opening, Plain_name, reference_in, Reference_is, seq, skip, Spelled, star, Subscript, sum_in, Sum_is, sum_place, taken, the, Token, TokenKind, Word, word}
 use Rattle.ss_lex.specs.declared.word.Word.TheVariants as words
-use Rattle.ss_lex.specs.declared.token.Symbol.TheVariants.{Equals}
-use Rattle.ss_lex.specs.declared.token.TokenKind.{TokenKind}
 use Rattle.ss_lex.specs.declared.token.TokenKind.TheVariants as kinds
-use Rattle.ss_lex.specs.declared.token.Token.{Token}
 use Rattle.ss_base.specs.declared.words.Relation.{Relation}
 use Rattle.ss_base.specs.declared.words.Relation.TheVariants as relations
-use Rattle.ss_tree.specs.declared.expression.Designator.{Designator}
 use Rattle.ss_tree.specs.declared.expression.Designator.TheVariants as designators
 use Rattle.ss_tree.specs.Tree.{ExpressionTree, named, ExpressionRow, no_expression, and_expression, NamedTree, TestTree, compare, empty, member, data_ended, ConditionTree}
 use Rattle.ss_parse_expressions.specs.declared.conditions.Verb.{Verb}
@@ -16,14 +12,8 @@ use Rattle.ss_parse_expressions.specs.declared.conditions.Verb.TheVariants as ve
 use Rattle.ss_parse_expressions.specs.declared.conditions.TestWord.{TestWord}
 use Rattle.ss_parse_expressions.specs.declared.conditions.TestWord.TheVariants as test_words
 use Rattle.ss_parse_expressions.specs.Shapes.{Shape, ◌▷◌, nothing, never, optional, provided, Token_is, Word_is, Name_is, Word_for, flagged, nested_shape}
-use Rattle.ss_parse_expressions.specs.Words.{the}
-use Rattle.ss_parse_expressions.specs.SpelledExpressions.{sum_place, Spelled, Sum_is, Plain_name, Subscript, Reference_is}
 use Rattle.ss_parse_expressions.specs.SpelledConditions.{In_words, Relation_is, Test_is, joined_by_word}
 use Rattle.ss_parse_expressions.specs.WordTables.{relation_of}
-use Rattle.ss_parse_expressions.specs.Reading.{word, is, begins, begins_by, skip, in_table, taken, seq, closed, choose_reader}
-use Rattle.ss_parse_expressions.specs.ReadWords.{if_present}
-use Rattle.ss_parse_expressions.specs.ReadExpressions.{opening, star, begins_sign, begins_value, begins_sum, sum_in}
-use Rattle.ss_parse_expressions.specs.ReadPlaces.{reference_in}
 use Rattle.ss_parse_expressions.specs.ReadConditions.{relation_symbol, test_word_of, verb_end, worded_verb, verb, reference_of, empty_of, data_test, test_end, sum_test, test_in, conjunction_in, condition_in}
 use Rattle.ss_parse_expressions.proofs.Tools.{or_false}
 use Rattle.ss_parse_expressions.proofs.Marks.{token_less, In_table, begins_table}

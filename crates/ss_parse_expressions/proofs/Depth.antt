@@ -1,9 +1,7 @@
 -- With more levels allowed, a reader reads the same, unless it gave up before for depth. It gives up so only where many levels are opened.
 use Rattle.std.proofs.Common.{◌≡◌, ℕ, suc, ◌<◌, ◌≤◌, Bool, true, false, cond, List, Result, Ok, Err, refl, ap, subst, arith, inl, inr, ◌⊎◌}
-use Rattle.ss_lex.specs.declared.token.Token.{Token}
-use Rattle.ss_parse_expressions.specs.declared.failure.ParseFault.{ParseFault}
+use Rattle.ss_parse_expressions.proofs.Common.{openers, ParseFault, Token}
 use Rattle.ss_parse_expressions.specs.declared.failure.ParseFault.TheVariants.{Syntax, TooDeep}
-use Rattle.ss_parse_expressions.specs.Openers.{openers}
 use Rattle.ss_parse_expressions.specs.Reading.{◌>>=◌}
 
 -- ---- more levels

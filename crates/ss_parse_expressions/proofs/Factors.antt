@@ -1,22 +1,11 @@
 -- Factors: what is read is spelled, and what is spelled is read.
 use Rattle.std.proofs.Common.{◌≡◌, ℕ, zero, suc, ◌+◌, ◌<◌, false, ◌||◌, List, [], ◌∷◌, length, Option, Some, None, Ok, refl, ap, subst, arith, inl, inr, ◌⊎◌}
-use Rattle.ss_base.specs.declared.line.Line.{Line}
-use Rattle.ss_lex.specs.declared.word.Word.{Word}
+use Rattle.ss_parse_expressions.proofs.Common.{and_expression, and_term, begins, begins_more, call, CloseParenthesis, Designator, expression_row, ExpressionRow, ExpressionTree, Function, function_of, Line, named, no_expression, no_term, number, openers, OpenParenthesis, opens, parenthesised, product, signed, Span, sum, text, Token, TokenKind, Word}
 use Rattle.ss_lex.specs.declared.word.Word.TheVariants as words
-use Rattle.ss_lex.specs.declared.token.Span.{Span}
-use Rattle.ss_lex.specs.declared.token.Symbol.TheVariants.{OpenParenthesis, CloseParenthesis}
-use Rattle.ss_lex.specs.declared.token.TokenKind.{TokenKind}
 use Rattle.ss_lex.specs.declared.token.TokenKind.TheVariants as kinds
-use Rattle.ss_lex.specs.declared.token.Token.{Token}
-use Rattle.ss_tree.specs.declared.expression.Function.{Function}
-use Rattle.ss_tree.specs.declared.expression.Designator.{Designator}
 use Rattle.ss_tree.specs.declared.expression.Designator.TheVariants as designators
-use Rattle.ss_tree.specs.Tree.{ExpressionTree, number, text, named, call, parenthesised, product, signed, sum, ExpressionRow, no_expression, and_expression, expression_row, no_term, and_term}
 use Rattle.ss_parse_expressions.specs.Shapes.{Shape, ◌▷◌, nothing, never, Symbol_is, Word_for, separator, each_in_turn, separated_list, nested_shape}
 use Rattle.ss_parse_expressions.specs.SpelledExpressions.{ExpressionPlace, sum_place, factor_place, Designated, Spelled, Further_arguments}
-use Rattle.ss_parse_expressions.specs.WordTables.{function_of}
-use Rattle.ss_parse_expressions.specs.Openers.{opens, openers}
-use Rattle.ss_parse_expressions.specs.Reading.{begins, begins_more}
 use Rattle.ss_parse_expressions.specs.ReadExpressions.{opening, closing, designator_of_word, begins_sum, arguments_with, enclosed_with, subscripts_with, named_with, call_with, parenthesised_with, factor_in_words, factor_at, factor_with, sum_in}
 use Rattle.ss_parse_expressions.proofs.Tools.{bind_ok, carry}
 use Rattle.ss_parse_expressions.proofs.Marks.{token, mark_begins, token_less}

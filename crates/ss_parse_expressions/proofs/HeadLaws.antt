@@ -1,23 +1,15 @@
 -- The heads of loops: what is read is spelled, and what is spelled is read.
 use Rattle.std.proofs.Common.{◌≡◌, ℕ, suc, ◌≤◌, Bool, true, false, ◌||◌, List, [], ◌∷◌, Option, Some, None, refl, ap, subst, ◌∙◌, arith, inl, inr}
-use Rattle.ss_lex.specs.declared.word.Word.{Word}
+use Rattle.ss_parse_expressions.proofs.Common.{after_dropped, apply, begins, begins_among, begins_class, choose_reader, comma, done, Equals, expect, in_table, is, is_some, One_of, Reference_is, skip_comma, sum_in, Sum_is, symbol, the, Token, TokenKind, Word, word}
 use Rattle.ss_lex.specs.declared.word.Word.TheVariants as words
-use Rattle.ss_lex.specs.declared.token.Symbol.TheVariants.{Equals}
-use Rattle.ss_lex.specs.declared.token.TokenKind.{TokenKind}
 use Rattle.ss_lex.specs.declared.token.TokenKind.TheVariants as kinds
-use Rattle.ss_lex.specs.declared.token.Token.{Token}
 use Rattle.ss_base.specs.declared.words.PhraseKind.{PhraseKind}
 use Rattle.ss_base.specs.declared.words.GuardKind.{GuardKind}
 use Rattle.ss_tree.specs.Tree.{ExpressionTree, NamedTree, ConditionTree, PhraseTree, GuardTree, StartTree, from_end, from_member, after_member, HeadTree, over_range, over_members, over_class, LoopHeadTree, guarded}
 use Rattle.ss_parse_expressions.specs.declared.classes.WordClass.TheVariants as classes
 use Rattle.ss_parse_expressions.specs.Shapes.{Shape, ◌▷◌, nothing, either_shape, provided, noise, Word_is, Symbol_is, Name_is, Word_for, each_in_turn, perhaps, flagged}
-use Rattle.ss_parse_expressions.specs.Words.{One_of, the}
-use Rattle.ss_parse_expressions.specs.SpelledExpressions.{Sum_is, Reference_is}
 use Rattle.ss_parse_expressions.specs.SpelledConditions.{Start_is, Head_rest}
 use Rattle.ss_parse_expressions.specs.WordTables.{phrase_of, guard_of}
-use Rattle.ss_parse_expressions.specs.Reading.{word, symbol, is, is_some, begins, expect, in_table, after_dropped, apply, choose_reader, comma, skip_comma}
-use Rattle.ss_parse_expressions.specs.ReadWords.{done, begins_class, begins_among}
-use Rattle.ss_parse_expressions.specs.ReadExpressions.{sum_in}
 use Rattle.ss_parse_expressions.specs.ReadHeads.{phrase_tree, guard_tree, begins_phrase, begins_guard, phrase_in, guard_in, phrases_in, guards_in, step_in, range_tree, range_in, start_in, reverse, members_tree, members_in, class_tree, class_in, each_named, each_in, for_in, guarded_in}
 use Rattle.ss_parse_expressions.proofs.Tools.{or_false}
 use Rattle.ss_parse_expressions.proofs.Marks.{token_less}

@@ -1,3 +1,4 @@
+mod Common
 pub mod Tools
 pub mod Depth
 pub mod Marks

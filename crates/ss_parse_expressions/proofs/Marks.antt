@@ -3,16 +3,11 @@ use Rattle.std.proofs.Common.{◌≡◌, suc, ◌≤◌, true, false, List, [], 
 use Rattle.std.proofs.lemmas.Bool.Decides.{nat_tests}
 use denote.Enum.Bare.{same_true, true_same}
 use Rattle.ss_lex.specs.contracts.word.Word.{the_type}
-use Rattle.ss_base.specs.declared.line.Line.{Line}
-use Rattle.ss_lex.specs.declared.token.Span.{Span}
+use Rattle.ss_parse_expressions.proofs.Common.{Line, openers, Shape, Span, Token, Token_is, TokenKind}
 use Rattle.ss_lex.specs.declared.token.Symbol.{Symbol}
 use Rattle.ss_lex.specs.declared.token.Symbol.TheVariants.{OpenParenthesis, CloseParenthesis, Comma, Plus, Minus, Star, Equals, Other}
-use Rattle.ss_lex.specs.declared.token.TokenKind.{TokenKind}
 use Rattle.ss_lex.specs.declared.token.TokenKind.TheVariants as kinds
-use Rattle.ss_lex.specs.declared.token.Token.{Token}
-use Rattle.ss_parse_expressions.specs.Openers.{openers}
 use Rattle.ss_parse_expressions.specs.Reading.{Mark, word, symbol, kind_of_mark, same_symbol, is, begins, skip, expect, begins_by, taken, found_then}
-use Rattle.ss_parse_expressions.specs.Shapes.{Shape, Token_is}
 use Rattle.ss_parse_expressions.proofs.Tools.{which, chosen, carry}
 
 abbrev pub token : TokenKind → Span → Line → Token

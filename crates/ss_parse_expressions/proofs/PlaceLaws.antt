@@ -1,17 +1,11 @@
 -- Targets, references and lists of expressions: what is read is spelled, and what is spelled is read.
 use Rattle.std.proofs.Common.{◌≡◌, ℕ, zero, suc, ◌<◌, ◌≤◌, Bool, true, false, ◌||◌, List, [], ◌∷◌, length, Option, Some, None, refl, sym, subst, arith}
-use Rattle.ss_lex.specs.declared.word.Word.{Word}
+use Rattle.ss_parse_expressions.proofs.Common.{and_expression, apply, begins, begins_more, CloseParenthesis, Designator, ExpressionRow, ExpressionTree, is, is_some, maybe, NamedTree, no_expression, OpenParenthesis, seq, skip_separator, taken, Token, TokenKind, Word, word}
 use Rattle.ss_lex.specs.declared.word.Word.TheVariants as words
-use Rattle.ss_lex.specs.declared.token.Symbol.TheVariants.{OpenParenthesis, CloseParenthesis}
-use Rattle.ss_lex.specs.declared.token.TokenKind.{TokenKind}
 use Rattle.ss_lex.specs.declared.token.TokenKind.TheVariants as kinds
-use Rattle.ss_lex.specs.declared.token.Token.{Token}
-use Rattle.ss_tree.specs.declared.expression.Designator.{Designator}
 use Rattle.ss_tree.specs.declared.expression.Designator.TheVariants as designators
-use Rattle.ss_tree.specs.Tree.{ExpressionTree, ExpressionRow, no_expression, and_expression, NamedTree}
 use Rattle.ss_parse_expressions.specs.Shapes.{Shape, ◌▷◌, Token_is, Symbol_is, separated_list, perhaps, nested_shape}
 use Rattle.ss_parse_expressions.specs.SpelledExpressions.{Designated, Subscript, Target_is, Plain_name, Reference_is}
-use Rattle.ss_parse_expressions.specs.Reading.{word, is, begins, is_some, taken, seq, apply, maybe, begins_more, skip_separator}
 use Rattle.ss_parse_expressions.specs.ReadExpressions.{opening, closing, designator_of_word, designator_of, begins_sum, sum_in}
 use Rattle.ss_parse_expressions.specs.ReadPlaces.{subscript_row, named_tree, subscript_with, plain_of, named_place_in, target_in, reference_in, begins_target, targets_in, sums_in}
 use Rattle.ss_parse_expressions.proofs.Marks.{mark_begins, token_less, In_table, begins_table}

@@ -1,10 +1,6 @@
 -- The laws of a reader: it reads what is spelled, and all of it where the next tokens can't continue it.
 use Rattle.std.proofs.Common.{◌≡◌, ℕ, suc, ◌+◌, ◌<◌, ◌≤◌, Bool, true, false, ◌||◌, List, [], ◌∷◌, length, Option, Some, None, Ok, refl, sym, ap, ◌∙◌, arith, inl, inr, ◌⊎◌}
-use Rattle.ss_lex.specs.declared.token.TokenKind.{TokenKind}
-use Rattle.ss_lex.specs.declared.token.Token.{Token}
-use Rattle.ss_lex.specs.declared.token.Span.{Span}
-use Rattle.ss_base.specs.declared.line.Line.{Line}
-use Rattle.ss_parse_expressions.specs.Openers.{opens, openers}
+use Rattle.ss_parse_expressions.proofs.Common.{Line, openers, opens, Span, Token, TokenKind}
 use Rattle.ss_parse_expressions.specs.Reading.{Reader, ◌>>=◌, Mark, kind_of_mark, is, begins, skip, expect, taken, found_then, seq, after_dropped, closed, apply, lined, maybe, maybe_list, flag, choose_reader, too_deep, comma, skip_comma}
 use Rattle.ss_parse_expressions.specs.Shapes.{Shape, ◌▷◌, never, optional, noise, perhaps, flagged, first_token_line}
 use Rattle.ss_parse_expressions.proofs.Tools.{bind_ok, which, chosen, carry, or_false}

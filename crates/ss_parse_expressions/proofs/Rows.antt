@@ -1,18 +1,14 @@
 -- Rows of what a reader reads.
 use Rattle.std.proofs.Common.{◌≡◌, ℕ, zero, suc, ◌<◌, ◌≤◌, Bool, true, false, ◌||◌, List, [], ◌∷◌, ◌++◌, length, map, drop, Result, Ok, Err, refl, sym, ap, subst, ◌∙◌, append_assoc, arith, inl, inr}
 use Rattle.std.proofs.lemmas.List.{append-nil, map_push}
-use Rattle.ss_lex.specs.declared.token.Token.{Token}
-use Rattle.ss_parse_expressions.specs.declared.failure.ParseFault.{ParseFault}
+use Rattle.ss_parse_expressions.proofs.Common.{Line, openers, ParseFault, Span, Token}
 use Rattle.ss_parse_expressions.specs.declared.failure.ParseFailure.{ParseFailure}
 use Rattle.ss_parse_expressions.specs.declared.failure.ParseFailure.TheVariants as failures
-use Rattle.ss_parse_expressions.specs.Openers.{openers}
 use Rattle.ss_parse_expressions.specs.Reading.{Reader, ◌>>=◌, HasFailedReading, row, rows, first_and, comma, word, begins, skip, skip_separator, begins_more, list_of, kind_of_mark}
 use Rattle.ss_lex.specs.declared.word.Word.TheVariants as words
 use Rattle.ss_parse_expressions.specs.Shapes as shapes
 use Rattle.ss_parse_expressions.specs.Shapes.{Shape, ◌▷◌, nothing, never, either_shape, each_in_turn, separated_list, separator}
 use Rattle.ss_parse_expressions.proofs.Tools.{bind_ok, which, chosen, carry, or_false, and_true, ok_or_err}
-use Rattle.ss_lex.specs.declared.token.Span.{Span}
-use Rattle.ss_base.specs.declared.line.Line.{Line}
 use Rattle.ss_parse_expressions.proofs.Marks.{token, Mark_is, begins_mark, no_skip, skip_openers, token_less}
 use Rattle.ss_parse_expressions.proofs.Depth.{Upto, upto_same, upto_bind, upto_if, Bounded, bounded_more, bounded_bind, bounded_if}
 use Rattle.ss_parse_expressions.proofs.ReaderLaws.{Reads, Item}

@@ -1,15 +1,9 @@
 -- Terms and sums: what is read is spelled, and what is spelled is read.
 use Rattle.std.proofs.Common.{◌≡◌, ℕ, zero, suc, ◌<◌, ◌≤◌, false, ◌||◌, List, [], ◌∷◌, length, Some, refl, sym, ap, subst, ◌∙◌, arith, inl, inr}
-use Rattle.ss_lex.specs.declared.token.Symbol.TheVariants.{Plus, Minus, Star}
-use Rattle.ss_lex.specs.declared.token.TokenKind.{TokenKind}
+use Rattle.ss_parse_expressions.proofs.Common.{and_expression, and_term, apply, begins, begins_more, call, expression_row, ExpressionRow, ExpressionTree, factor_place, first_place, Further_factors, Further_terms, Minus, named, no_expression, no_term, number, parenthesised, Plus, product, seq, Sign, Sign_is, signed, skip, skip_separator, Spelled, Star, sum, sum_place, taken, term_place, term_row, TermRow, text, Token, TokenKind}
 use Rattle.ss_lex.specs.declared.token.TokenKind.TheVariants as kinds
-use Rattle.ss_lex.specs.declared.token.Token.{Token}
-use Rattle.ss_base.specs.declared.words.Sign.{Sign}
 use Rattle.ss_base.specs.declared.words.Sign.TheVariants as signs
-use Rattle.ss_tree.specs.Tree.{ExpressionTree, number, text, named, call, parenthesised, product, signed, sum, ExpressionRow, no_expression, and_expression, expression_row, TermRow, no_term, and_term, term_row}
 use Rattle.ss_parse_expressions.specs.Shapes.{Shape, ◌▷◌, Token_is, Symbol_is, each_in_turn}
-use Rattle.ss_parse_expressions.specs.SpelledExpressions.{sum_place, first_place, term_place, factor_place, Sign_is, Spelled, Further_factors, Further_terms}
-use Rattle.ss_parse_expressions.specs.Reading.{begins, skip, taken, seq, apply, skip_separator, begins_more}
 use Rattle.ss_parse_expressions.specs.ReadExpressions.{star, sign_of_token, begins_sign, begins_sum, sum_of_terms, product_of, factor_with, further_factors_with, term_with, signed_term_with, first_term_with, further_terms_with, sum_with, sum_in}
 use Rattle.ss_parse_expressions.proofs.Tools.{or_false}
 use Rattle.ss_parse_expressions.proofs.Marks.{token_less, In_table}

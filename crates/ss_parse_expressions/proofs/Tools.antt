@@ -1,7 +1,6 @@
 -- Results, tests and pairs.
 use Rattle.std.proofs.Common.{◌≡◌, Bool, true, false, cond, ◌||◌, ◌&&◌, List, Result, Ok, Err, refl, ap, subst, inl, inr, ◌⊎◌}
-use Rattle.ss_lex.specs.declared.token.Token.{Token}
-use Rattle.ss_parse_expressions.specs.declared.failure.ParseFault.{ParseFault}
+use Rattle.ss_parse_expressions.proofs.Common.{ParseFault, Token}
 use Rattle.ss_parse_expressions.specs.Reading.{◌>>=◌}
 
 pub bind_ok : {A B : Type 0} (r : Result A ParseFault) (f : A → Result B ParseFault) (y : B) → (r >>= f) ≡ Ok y → (x : A) × (r ≡ Ok x) × (f x ≡ Ok y)

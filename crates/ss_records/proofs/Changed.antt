@@ -1,13 +1,10 @@
 -- What a call on a set does to the members of this set, and to all else.
 use Rattle.std.proofs.Common.{◌≡◌, ℕ, ℤ, List, [], ◌∷◌, ◌++◌, Result, Ok, Err, refl, sym, ap, ◌∙◌}
 use Rattle.std.specs.Prelude.{if◌then◌else◌}
-use Rattle.ss_base.specs.declared.fault.FaultKind.{FaultKind}
-use Rattle.ss_base.specs.declared.fault.FaultKind.TheVariants.{FiledTwice, NotFiled}
+use Rattle.ss_records.proofs.Common.{FaultKind, filed_after, filed_before, filed_first, filed_last, FiledTwice, joiner, less, members_with, NotFiled, owner, put_after, put_before, put_beside, put_in, removed, taken_out, with_list_of}
 use Rattle.ss_world.specs.State.{State, Members, members_of, with_members, and_then, is_filed, contains}
-use Rattle.ss_world.specs.Sets.{owner, joiner, with_list_of, put_in, put_beside, taken_out, put_before, put_after, less, filed_first, filed_last, filed_before, filed_after, removed}
 use Rattle.ss_records.specs.Commands.{IsChangingMembers, IsChangingBeside, IsKeepingRecords}
 use Rattle.ss_records.proofs.Same.{same}
-use Rattle.ss_records_entities.proofs.Listed.{members_with}
 use Rattle.ss_records.proofs.Relisted.{Relists, both_ok, else_ok, then_ok, ok_is, put_in_relists, put_beside_relists, removed_relists}
 
 own_list : (ms : List Members) (s o : ℕ) (l : List ℕ) → members_of (with_members ms s o l) s o ≡ l

@@ -1,3 +1,4 @@
+mod Common
 pub use Rattle.ss_records_entities.proofs.Same
 pub mod Relisted
 pub mod Changed

@@ -3,13 +3,7 @@ use Rattle.std.proofs.Common.{◌≡◌, ℕ, ℤ, List, [], ◌∷◌, Result, 
 use Rattle.std.specs.Prelude.{All}
 use Rattle.std.proofs.lemmas.List.Elements.{recursion_from_All}
 use Rattle.std.specs.List.{AllByRecursion}
-use Rattle.ss_base.specs.declared.fault.FaultKind.{FaultKind}
-use Rattle.ss_records.specs.declared.commands.Command.{Command}
-use Rattle.ss_records.specs.declared.commands.Command.TheVariants.{Create, CreateAll, Destroy, SetValue, SetTime, FileFirst, FileLast, FileBefore, FileAfter, Remove}
-use Rattle.ss_records.specs.declared.commands.CommandAnswer.{CommandAnswer}
-use Rattle.ss_records.specs.declared.commands.CommandAnswer.TheVariants.{Number}
-use Rattle.ss_world.specs.State.{State, members_of, and_then, created, created_all, destroyed, assigned, timed}
-use Rattle.ss_world.specs.Sets.{filed_first, filed_last, filed_before, filed_after, removed}
+use Rattle.ss_records.proofs.Common.{and_then, assigned, Command, CommandAnswer, Create, CreateAll, created, created_all, Destroy, destroyed, FaultKind, FileAfter, FileBefore, filed_after, filed_before, filed_first, filed_last, FileFirst, FileLast, members_of, Number, Remove, removed, SetTime, SetValue, State, timed}
 use Rattle.ss_records.specs.Commands.{IsLeavingOthers, done_with_state, state_in, after_command, after_commands, IsOnOthers}
 use Rattle.ss_records.proofs.Relisted.{first_leaves, last_leaves, before_leaves, after_leaves, removed_leaves, created_keeps, created_all_keeps, destroyed_keeps, assigned_keeps, timed_keeps}
 

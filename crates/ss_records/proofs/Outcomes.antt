@@ -1,8 +1,6 @@
 -- The answer of a call that gives no value, and the state that it leaves.
 use Rattle.std.proofs.Common.{◌≡◌, Result, Ok, Err, sym, ap, ◌∙◌}
-use Rattle.std.specs.Prelude.{MatchResult}
-use Rattle.ss_base.specs.declared.fault.FaultKind.{FaultKind}
-use Rattle.ss_world.specs.State.{State}
+use Rattle.ss_records.proofs.Common.{FaultKind, MatchResult, State}
 use Rattle.ss_records.specs.Commands.{answer_without_value, done_with_state, answer_or_fault, state_in}
 
 pub outcome_is : (r : Result (Unit {0}) FaultKind) (f : Result State FaultKind) (s t : State) → MatchResult r (λ _. f ≡ Ok t) (λ e. (f ≡ Err e) × (t ≡ s)) → answer_without_value r ≡ answer_or_fault (done_with_state f)

@@ -1,13 +1,8 @@
 -- What calls on a set do to the lists of the sets.
 use Rattle.std.proofs.Common.{◌≡◌, ℕ, ℤ, pos, negsuc, ◌+◌, ◌-◌, Bool, true, false, List, [], ◌∷◌, ◌++◌, Some, None, Result, Ok, Err, refl, sym, ap, subst, ◌∙◌}
 use Rattle.std.specs.Prelude.{nat_lt, nat_le, length, if◌then◌else◌, slice_set}
-use Rattle.ss_base.specs.declared.fault.FaultKind.{FaultKind}
-use Rattle.ss_base.specs.declared.fault.FaultKind.TheVariants.{Overflow, BadCount, FiledTwice, NotFiled, InASet, OwnsMembers}
+use Rattle.ss_records.proofs.Common.{and_then, assigned, BadCount, ClassKind, contains, created, created_all, destroyed, entity_in, FaultKind, filed_after, filed_before, filed_first, filed_last, FiledTwice, in_a_set, InASet, is_filed, is_made, joiner, kind_of, LAST_NUMBER, less, let_go, made_many, members_of, MOST_ENTITIES, NotFiled, Notice, notice, number_in, Overflow, owner, owns_members, OwnsMembers, Permanent, put_after, put_before, put_beside, put_in, Record, record_with_value, removed, State, taken_out, Temporary, timed, with_created, with_entity, with_entity_of_kind, with_list_of, with_made, with_members, with_time}
 use Rattle.ss_base.specs.declared.value.Value.{Value}
-use Rattle.ss_base.specs.declared.layout.ClassKind.{ClassKind}
-use Rattle.ss_base.specs.declared.layout.ClassKind.TheVariants.{Permanent, Temporary, Notice}
-use Rattle.ss_world.specs.State.{State, Record, members_of, with_members, and_then, number_in, entity_in, notice, kind_of, is_filed, contains, with_entity, with_entity_of_kind, record_with_value, with_time, created, created_all, made_many, destroyed, let_go, assigned, timed, is_made, with_made, with_created, in_a_set, owns_members, LAST_NUMBER, MOST_ENTITIES}
-use Rattle.ss_world.specs.Sets.{owner, joiner, with_list_of, put_in, put_beside, taken_out, put_before, put_after, less, filed_first, filed_last, filed_before, filed_after, removed}
 use Rattle.ss_records.specs.Commands.{IsLeavingOthers, IsKeepingLists}
 use Rattle.ss_records.proofs.Same.{differs, by_same}
 use Rattle.ss_records_entities.proofs.Listed.{members_with, members_other}

@@ -1,10 +1,7 @@
 -- Lists of commands, one command after another.
 use Rattle.std.proofs.Common.{◌≡◌, ℕ, zero, suc, ◌+◌, ◌<◌, List, [], ◌∷◌, ◌++◌, length, get_or, take, drop, Result, Ok, Err, refl, sym, ap, ◌∙◌, arith}
 use Rattle.std.specs.Prelude.{OnErr}
-use Rattle.ss_records.specs.declared.commands.Command.{Command}
-use Rattle.ss_records.specs.declared.commands.CommandAnswer.{CommandAnswer}
-use Rattle.ss_world.specs.State.{State}
-use Rattle.ss_records.specs.Commands.{command_answer, after_command, command_answers, after_commands}
+use Rattle.ss_records.proofs.Common.{after_command, after_commands, Command, command_answer, command_answers, CommandAnswer, State}
 
 drop_next : {X : Type 0} (xs : List X) (i : ℕ) (x : X) → i < length xs → x ≡ get_or xs i x → drop i xs ≡ x ∷ drop (i + 1) xs
 drop_next [] i x h e = absurd (none i h) where

@@ -2,16 +2,7 @@
 use Rattle.std.proofs.Common.{◌≡◌, ℕ, ℤ, pos, negsuc, ◌+◌, ◌-◌, Bool, true, false, List, [], ◌∷◌, ◌++◌, length, Some, None, Result, Ok, Err, refl}
 use Rattle.std.specs.Prelude.{if◌then◌else◌, nat_le, nat_lt, slice_set}
 use Rattle.ss_base.specs.declared.fault.FaultKind.TheVariants.{Overflow, CreatedTwice, BadCount, FiledTwice, NotFiled, InASet, OwnsMembers}
-use Rattle.ss_base.specs.declared.fault.FaultKind.{FaultKind}
-use Rattle.ss_base.specs.declared.layout.ClassKind.{ClassKind}
-use Rattle.ss_base.specs.declared.layout.ClassKind.TheVariants.{Permanent, Temporary, Notice}
-use Rattle.ss_records.specs.declared.commands.Command.{Command}
-use Rattle.ss_records.specs.declared.commands.Command.TheVariants.{Create, CreateAll, Destroy, SetValue, SetTime, FileFirst, FileLast, FileBefore, FileAfter, Remove}
-use Rattle.ss_world.specs.State.{State, Record, and_then, number_in, entity_in, notice, kind_of, is_made, is_filed, contains, members_of, in_a_set, owns_members, with_entity_of_kind, with_entity, record_with_value, with_time, with_created, with_made, LAST_NUMBER, MOST_ENTITIES, created_all, made_many, destroyed, let_go, assigned, timed}
-use Rattle.ss_world.specs.Sets.{joiner, owner, with_list_of, put_in, put_beside, taken_out, put_before, put_after, less, filed_first, filed_last, filed_before, filed_after, removed}
-use Rattle.ss_records.specs.Commands.{done_with_state, state_in, after_command}
-use Rattle.ss_records.specs.declared.commands.CommandAnswer.{CommandAnswer}
-use Rattle.ss_records.specs.declared.commands.CommandAnswer.TheVariants.{Number}
+use Rattle.ss_records.proofs.Common.{after_command, and_then, assigned, ClassKind, Command, CommandAnswer, contains, Create, CreateAll, created_all, Destroy, destroyed, done_with_state, entity_in, FaultKind, FileAfter, FileBefore, filed_after, filed_before, filed_first, filed_last, FileFirst, FileLast, in_a_set, is_filed, is_made, joiner, kind_of, LAST_NUMBER, less, let_go, made_many, members_of, MOST_ENTITIES, Notice, notice, Number, number_in, owner, owns_members, Permanent, put_after, put_before, put_beside, put_in, Record, record_with_value, Remove, removed, SetTime, SetValue, State, state_in, taken_out, Temporary, timed, with_created, with_entity, with_entity_of_kind, with_list_of, with_made, with_time}
 
 -- where a call makes a state, its layout is that of s
 abbrev pub Keeps : State → Result State FaultKind → Type 0

@@ -1,11 +1,8 @@
 -- The sets of a heap are apart.
 use Rattle.std.proofs.Common.{◌≡◌, ℕ, suc, List, slice_get, Some, Ok, inl, inr, refl, sym, ap, subst, ◌∙◌}
-use Rattle.std.specs.Prelude.{pos}
+use Rattle.ss_records_entities.proofs.Common.{and_then, ArePartsKept, BlockPlace, Cells, class_at_place, ClassKind, Directory, entity_in, entity_of_kind, entry_of, filed_or_not, get_there, indexed, IsEntityOf, IsListedAt, IsPermanent, issued_place, kind_of, Layout, listed, Members, members_of, not_and_in, Notice, number_in, numbered_place, numbered_record, of_class, owner_of, Permanent, pos, record_of, same, State, state_of, Temporary, words_at}
 use denote.RawPtr.{Ptr}
-use Rattle.ss_records_entities.proofs.Common.{and_then, ArePartsKept, BlockPlace, Cells, class_at_place, ClassKind, Directory, entity_in, entity_of_kind, entry_of, get_there, IsEntityOf, IsListedAt, IsPermanent, issued_place, kind_of, Layout, listed, member_class, member_in, Members, members_of, not_and_in, Notice, number_in, numbered_place, numbered_record, of_class, owner_of, Permanent, record_of, same, State, state_of, Temporary, words_at}
-use Rattle.ss_world.specs.State.{indexed}
-use Rattle.ss_world.specs.Sets.{AreMembersApart}
-use Rattle.ss_records_words.proofs.Filed.{filed_or_not}
+use Rattle.ss_world.specs.Sets.{member_class, member_in, AreMembersApart}
 use Rattle.ss_records_entities.proofs.Keeps.{read_place, numbered_is}
 use Rattle.ss_records_entities.proofs.Indexing.{indexed_there, of_permanent}
 

@@ -1,17 +1,11 @@
 -- A value or a time that is written.
 use Rattle.std.proofs.Common.{◌≡◌, ℕ, zero, suc, ◌+◌, ◌*◌, ◌-◌, ◌<◌, ◌≤◌, true, cond, List, [], ◌∷◌, map, length, slice_get, slice_index_or, slice_set, Some, Ok, Err, inl, inr, refl, sym, ap, subst, ◌∙◌, arith}
 use Rattle.std.specs.Prelude.{Result, Bool, false, ℤ, pos}
-use Rattle.std.specs.Int.{cast_signed}
+use Rattle.ss_records_entities.proofs.Common.{AreFormed, ArePartsKept, BlockPlace, by_same, cast_signed, Cells, class_at_place, ClassKind, ClassLayout, Directory, FaultKind, get_inside, IsListedAt, IsNumber, IsPermanent, IsWrittenAt, Layout, length-with_word, links_start, Made, MayBeNumber, Mode, mode_of, Notice, number, Permanent, put_word, state_of, Temporary, Value, values_end, Whole, with_word, Word, word_at, word_of, words_at, WrongClass}
 use mir.Syntax.{w64}
 use denote.RawPtr.{Ptr}
-use Rattle.ss_records_entities.proofs.Common.{and_then, AreFormed, ArePartsKept, BlockPlace, by_same, Cells, class_at_place, class_in_words, ClassKind, ClassLayout, Directory, entity_in, FaultKind, get_inside, is_notice, IsListedAt, IsNumber, IsPermanent, IsValuePut, kind_of, Layout, links_start, Made, Members, Mode, modes_of, Notice, number, number_in, numbered_record, Permanent, plain, put_word, Record, record_at, record_of, records_at, State, state_of, Temporary, Value, value_at, value_in, value_of_words, values_end, Whole, Word, word_at, word_of, words_at}
-use Rattle.ss_base.specs.declared.fault.FaultKind.TheVariants.{WrongClass}
-use Rattle.ss_base.specs.Layout.{mode_of}
-use Rattle.ss_records_blocks.specs.Cells.{MayBeNumber, with_word}
-use Rattle.ss_world.specs.State.{of_notice, notice, time_in, kind_in, record_with_value, with_time, with_indexed, with_entity, with_entity_of_kind, assigned, timed}
-use Rattle.ss_records_words.specs.Reading.{put_two}
-use Rattle.ss_records_blocks.specs.Writes.{IsWrittenAt}
-use Rattle.ss_records_blocks.proofs.Numbers.{length-with_word}
+use Rattle.ss_records_words.specs.Reading.{class_in_words, IsValuePut, plain, record_at, record_of, records_at, value_at, value_of_words, put_two}
+use Rattle.ss_world.specs.State.{and_then, entity_in, is_notice, kind_of, Members, modes_of, number_in, numbered_record, Record, State, value_in, of_notice, notice, time_in, kind_in, record_with_value, with_time, with_indexed, with_entity, with_entity_of_kind, assigned, timed}
 use Rattle.ss_records_blocks.proofs.Puts.{word_other, word_here, words_written, written_put, written_twice}
 use Rattle.ss_records_blocks.proofs.WordKinds.{number_may}
 use Rattle.ss_records_entities.proofs.ReadWords.{read_as, with_two, two_first, two_second, two_other, value_read, record_value, record_time}

@@ -1,13 +1,8 @@
 -- The attributes of an entity that was found, and the time of a notice.
 use Rattle.std.proofs.Common.{◌≡◌, ℕ, ◌+◌, ◌*◌, ◌<◌, length, slice_get, Some, Ok, inl}
-use Rattle.std.specs.Prelude.{ℤ}
-use Rattle.std.specs.Int.{cast_signed}
+use Rattle.ss_records_entities.proofs.Common.{ArePartsKept, assigned, BlockPlace, cast_signed, Cells, class_at_place, IsNumber, IsValuePut, MayBeNumber, Mode, mode_of, modes_of, number, put_word, Records, state_of, timed, Value, value_at, value_in, values_end, word_at, words_at, ℤ}
 use mir.Syntax.{w64}
-use Rattle.ss_records_entities.proofs.Common.{ArePartsKept, BlockPlace, Cells, class_at_place, IsEntityPlace, IsKept, IsNumber, IsValuePut, Mode, modes_of, number, places, put_word, Records, state, state_of, Value, value_at, value_in, values_end, word_at, words_at}
-use Rattle.ss_base.specs.Layout.{mode_of}
-use Rattle.ss_records_blocks.specs.Cells.{MayBeNumber}
-use Rattle.ss_world.specs.State.{assigned, timed}
-use Rattle.ss_records_entities.specs.Parts.{IsNoticePlace}
+use Rattle.ss_records_entities.specs.Parts.{IsEntityPlace, IsKept, places, state, IsNoticePlace}
 use Rattle.ss_records_entities.proofs.Assigns.{first_number, second_number, is_value, kept_assigned, length_assigned, is_assigned, reads_back, may_time, kept_timed, length_timed, is_set}
 
 -- the attribute f of what was found at p, whose words begin at k

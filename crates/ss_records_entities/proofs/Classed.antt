@@ -1,8 +1,7 @@
 -- The class of an entity that is known by its creation number.
 use Rattle.std.proofs.Common.{◌≡◌, ℕ, ◌<◌, length, Ok, inl, refl, ap, subst, ◌∙◌}
-use Rattle.std.specs.Prelude.{ℤ}
-use Rattle.ss_records_entities.proofs.Common.{and_then, BlockPlace, class_at_place, ClassKind, entity_of_kind, IsKept, IsPermanent, kind_of, no_value, Notice, number, numbered_place, numbered_record, of_class, Permanent, places, plain, record_of, Records, State, state, Temporary, word_at, words_at}
-use Rattle.ss_world.specs.State.{known_in}
+use Rattle.ss_records_entities.proofs.Common.{BlockPlace, class_at_place, ClassKind, IsKept, IsPermanent, Notice, number, numbered_place, Permanent, places, plain, record_of, Records, state, Temporary, word_at, words_at, ℤ}
+use Rattle.ss_world.specs.State.{and_then, entity_of_kind, kind_of, no_value, numbered_record, of_class, State, known_in}
 use Rattle.ss_records_entities.specs.Classed.{HasClass}
 use Rattle.ss_records_entities.proofs.Keeps.{read_place, numbered_is, there}
 

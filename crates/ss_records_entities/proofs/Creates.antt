@@ -1,20 +1,13 @@
 -- A new block under the next number.
 use Rattle.std.proofs.Common.{◌≡◌, ℕ, zero, suc, ◌+◌, ◌*◌, ◌^◌, ◌<◌, ◌≤◌, true, false, cond, List, [], ◌∷◌, ◌++◌, map, length, slice_get, Some, None, Ok, ◌⊎◌, inl, inr, refl, sym, ap, subst, ◌∙◌, arith}
-use Rattle.std.specs.Prelude.{Option, Bool, ℤ, pos, nat_lt}
-use Rattle.std.specs.Int.{cast_signed}
-use Rattle.std.proofs.lemmas.Bool.{lt-ltb}
+use Rattle.ss_records_entities.proofs.Common.{Alpha, AreFormed, ArePartsKept, blanks, block_words, BlockPlace, Bool, by_same, cast_signed, Cells, Class, class_at_place, class_in_words, created, Directory, entry_of, first_record, Integer, is_notice, IsBorn, IsEntityOf, IsLaid, IsListedAt, IsNumber, IsPermanent, kind_of, LAST_NUMBER, Layout, links_start, listed, listing, lt-ltb, lying, Made, Members, Mode, modes_of, nat_lt, number, Numbers, Option, own_or, permanent_count, plain, pos, Record, record_at, record_of, records_at, state_of, System, value_of_words, values_end, values_from, Word, word_at, word_of, words_at, ℤ}
 use mir.Syntax.{w64}
 use denote.RawPtr.{Ptr}
-use Rattle.ss_records_entities.proofs.Common.{AreFormed, ArePartsKept, blanks, block_words, BlockPlace, by_same, Cells, Class, class_at_place, class_in_words, Directory, entry_of, get_inside, Integer, is_notice, IsBorn, IsEntityOf, IsListedAt, IsNumber, IsPermanent, kind_of, LAST_NUMBER, Layout, length-blanks, links_start, listed, listing, lying, Made, Members, Mode, modes_of, number, Numbers, own_or, permanent_count, plain, Record, record_at, record_of, records_at, state_of, System, value_of_words, values_end, Word, word_at, word_of, words_at, words_new}
-use Rattle.ss_base.specs.declared.layout.Mode.TheVariants.{Alpha}
+use Rattle.ss_records_blocks.proofs.Entries.{get_inside, living_push, living_bound}
+use Rattle.ss_records_blocks.proofs.Puts.{length-blanks, words_new, words_old}
 use Rattle.ss_base.specs.Layout.{first_value}
-use Rattle.ss_world.specs.State.{first_record, created}
-use Rattle.ss_records_words.specs.Reading.{values_from}
-use Rattle.ss_records_words.specs.Laid.{IsLaid}
-use Rattle.ss_records_blocks.proofs.Puts.{words_old}
 use Rattle.ss_records_entities.proofs.ReadWords.{read_as}
 use Rattle.ss_records_entities.proofs.Keeps.{map_same, made_same, entry_is}
-use Rattle.ss_records_blocks.proofs.Entries.{living_push, living_bound}
 use Rattle.ss_records_entities.proofs.NamesCreated.{name_born}
 
 first_of : (m : Mode) → value_of_words m 0 0 ≡ first_value m

@@ -2,10 +2,10 @@
 use Rattle.std.proofs.Common.{◌≡◌, ℕ, ◌+◌, ◌<◌, Bool, true, false, List, [], ◌∷◌, ◌++◌, length, slice_get, Some, Ok, Err, refl, sym, ap, subst, ◌∙◌, append_assoc, append-nil}
 use Rattle.std.specs.Prelude.{ℤ, if◌then◌else◌, Result, MatchResult}
 use denote.RawPtr.{Ptr}
-use Rattle.ss_records_entities.proofs.Common.{and_then, AreAllDistinct, AreNeighbours, CanJoin, contains, contains_in, distinct_less, entity_at, EntityBlock, FaultKind, get_there, HasLink, HasNeighbours, head0, is_filed, IsInList, IsInPlace, IsKept, IsNotInList, IsOwnerBlock, joiner, last_or, less, link, member_base, members_of, number, owner, owner_base, places, pred_from, put_before, put_in, Records, SetLayout, State, succ, succ_cut, with_list_of, word_at}
+use Rattle.ss_records_entities.proofs.Common.{and_then, AreAllDistinct, AreNeighbours, CanJoin, contains, contains_in, entity_at, EntityBlock, FaultKind, get_there, HasLink, HasNeighbours, head0, is_filed, IsInList, IsInPlace, IsKept, IsNotInList, IsOwnerBlock, last_or, link, member_base, members_of, number, owner_base, places, pred_from, Records, SetLayout, State, succ, word_at}
+use Rattle.ss_records_words.proofs.Splice.{distinct_less, succ_cut, cut, pred_cut, last_splice}
+use Rattle.ss_world.specs.Sets.{joiner, less, owner, put_before, put_in, with_list_of, put_after, put_beside, filed_before, filed_after, taken_out}
 use Rattle.ss_base.specs.declared.fault.FaultKind.TheVariants.{FiledTwice, NotFiled}
-use Rattle.ss_world.specs.Sets.{put_after, put_beside, filed_before, filed_after, taken_out}
-use Rattle.ss_records_words.proofs.Splice.{cut, pred_cut, last_splice}
 use Rattle.ss_records_entities.proofs.Listed.{put_before_cut, put_after_cut, less_cut, not_in_front}
 use Rattle.ss_records_entities.proofs.Leading.{To, leads, at_target, its_number, its_members, positive, first_to, last_to, next_to, prev_to}
 

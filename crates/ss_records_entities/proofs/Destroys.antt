@@ -1,14 +1,10 @@
 -- A block that is given back.
 use Rattle.std.proofs.Common.{◌≡◌, ℕ, zero, suc, ◌-◌, ◌<◌, true, false, List, [], ◌∷◌, map, length, slice_get, slice_set, Option, Some, None, Ok, Err, inl, inr, refl, sym, ap, subst, ◌∙◌, arith}
-use Rattle.std.specs.Prelude.{ℤ, pos}
+use Rattle.ss_records_entities.proofs.Common.{and_then, AreFormed, ArePartsKept, block_words, BlockPlace, blocks_without, by_same, Cells, Class, class_at_place, class_in_words, destroyed, Directory, entity_in, in_a_set, IsListedAt, IsMade, IsNotInList, IsPermanent, kind_of, Layout, let_go, listed, listing, lying, Members, members_of, number_in, Numbers, own_or, owns_members, pos, record_at, record_of, records_at, SetLayout, state_of, without_block, word_of, words_at, words_without, ℤ}
 use denote.RawPtr.{Ptr}
-use Rattle.ss_records_entities.proofs.Common.{and_then, AreFormed, ArePartsKept, block_words, BlockPlace, by_same, Cells, Class, class_at_place, class_in_words, Directory, entity_in, in_a_set, IsListedAt, IsMade, IsNotInList, IsPermanent, kind_of, Layout, listed, listing, lying, Members, members_of, number_in, Numbers, own_or, owns_members, record_at, record_of, records_at, SetLayout, state_of, without_block, word_of, words_at}
-use Rattle.ss_world.specs.State.{let_go, destroyed}
-use Rattle.ss_records_blocks.proofs.Puts.{words_without}
 use Rattle.ss_records_entities.proofs.Keeps.{made_same, entry_is}
 use Rattle.ss_records_entities.proofs.NamesGone.{name_gone}
 use Rattle.ss_base.specs.declared.fault.FaultKind.TheVariants.{InASet, OwnsMembers}
-use Rattle.ss_records_blocks.proofs.Count.{blocks_without}
 use Rattle.ss_records_blocks.proofs.Entries.{living_gone, length_set}
 
 get_other : (d : Numbers) (i : ℕ) (v : Option BlockPlace) (j : ℕ) → (i ≡ j → ⊥) → slice_get (slice_set d i v) j ≡ slice_get d j

@@ -1,9 +1,8 @@
 -- Taking the first or the last member out of a set, and the test of membership.
 use Rattle.std.proofs.Common.{◌≡◌, ℕ, zero, suc, Bool, true, ◌+◌, ◌≤◌, ◌<◌, ◌^◌, List, [], length, Ok, Err, refl, sym, ap, subst, ◌∙◌, arith}
-use Rattle.std.specs.Prelude.{ℤ, pos, Result, MatchResult}
-use Rattle.ss_records_entities.proofs.Common.{after_in, and_then, AreNeighbours, before_in, CanJoin, contains, EntityBlock, FaultKind, get_there, head0, in_contains, IsEntityOf, IsInList, IsInPlace, IsKept, joiner, last_or, less, member_in, members_of, owner, places, Records, State, state, with_list_of}
+use Rattle.ss_records_entities.proofs.Common.{after_in, and_then, AreNeighbours, before_in, CanJoin, contains, EntityBlock, FaultKind, get_there, head0, in_contains, IsEntityOf, IsInList, IsInPlace, IsKept, last_or, MatchResult, members_of, places, pos, Records, Result, State, state, ℤ}
+use Rattle.ss_world.specs.Sets.{joiner, less, member_in, owner, with_list_of, removed}
 use Rattle.ss_base.specs.declared.fault.FaultKind.TheVariants.{EmptySet}
-use Rattle.ss_world.specs.Sets.{removed}
 use Rattle.ss_world.specs.Disciplines.{take, first_removed, last_removed, member_test}
 use Rattle.ss_records_entities.proofs.Cuts.{out_done}
 use Rattle.ss_records_entities.proofs.Apart.{sets_apart}

@@ -1,11 +1,8 @@
 -- Linking a member into a set and out of it, by the words that are read and written.
 use Rattle.std.proofs.Common.{◌≡◌, ℕ, ◌+◌, ◌<◌, ◌==◌, Bool, true, false, List, [], ◌∷◌, ◌++◌, length, slice_get, Some, refl, sym, ap, subst, ◌∙◌, arith}
-use Rattle.std.specs.Prelude.{nat_eq}
+use Rattle.ss_records_entities.proofs.Common.{above_zero, after_in, AreAllDistinct, AreNeighbours, ArePartsKept, before_in, by_same, CanJoin, Cells, contains, contains_in, distinct_less, entity_at, EntityBlock, false_is_not_true, get_there, HasNeighbours, head0, in_contains, in_left, in_mid, is_filed, IsCounter, IsEntityOf, IsInList, IsInPlace, IsKept, IsLink, IsNotInList, IsOwnerBlock, last_or, less, MayOwn, member_base, member_in, Members, members_of, Memory, nat_eq, not_and_in, not_filed_in, not_in, owner_at, owner_base, owner_in, places, put_before, Records, SetLayout, slots_of, state, state_of, uncounted, with_list_of, with_members, word_at}
 use denote.RawPtr.{Ptr}
-use Rattle.ss_records_entities.proofs.Common.{after_in, AreAllDistinct, AreNeighbours, ArePartsKept, before_in, by_same, CanJoin, Cells, contains, contains_in, distinct_less, entity_at, EntityBlock, false_is_not_true, get_there, HasNeighbours, head0, in_contains, in_left, in_mid, is_filed, IsCounter, IsEntityOf, IsInList, IsInPlace, IsKept, IsNotInList, IsOwnerBlock, last_or, less, linked_in, MayOwn, member_base, member_in, Members, members_of, not_and_in, not_in, owner_at, owner_base, owner_in, places, put_before, Records, SetLayout, slots_of, state, state_of, uncounted, unlinked_in, with_list_of, with_members, word_at}
-use Rattle.ss_records_blocks.specs.Cells.{Memory, IsLink}
-use Rattle.ss_records_blocks.specs.Links.{slots_at}
-use Rattle.ss_records_words.proofs.Filed.{above_zero, not_filed_in}
+use Rattle.ss_records_blocks.specs.Links.{linked_in, unlinked_in, slots_at}
 use Rattle.ss_records_entities.proofs.Listed.{put_cut, less_cut, not_in_front}
 use Rattle.ss_records_entities.proofs.Leading.{is_link, first_to, last_to, is_counter, next_to, prev_to, owner_to, next_self, prev_self, owner_self}
 use Rattle.ss_records_entities.proofs.Still.{reads_only, unmoved}

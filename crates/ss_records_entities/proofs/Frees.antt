@@ -1,8 +1,7 @@
 -- An entity that is in no set and has no members, as the tests say.
 use Rattle.std.proofs.Common.{◌≡◌, ℕ, suc, false, List, slice_get, Some, inl, inr, sym, ap, subst, ◌∙◌, zero-add}
-use Rattle.std.specs.Prelude.{ℤ}
+use Rattle.ss_records_entities.proofs.Common.{ArePartsKept, BlockPlace, Cells, Class, class_at_place, Directory, has_members, in_a_set, is_filed, IsEntityPlace, IsKept, IsListedAt, IsPermanent, kind_of, Layout, Members, members_of, owns_members, places, Records, ℤ}
 use denote.RawPtr.{Ptr}
-use Rattle.ss_records_entities.proofs.Common.{ArePartsKept, BlockPlace, Cells, Class, class_at_place, Directory, has_members, in_a_set, is_filed, IsEntityPlace, IsKept, IsListedAt, IsPermanent, kind_of, Layout, Members, members_of, owns_members, places, Records}
 use Rattle.ss_records_words.proofs.Filed.{in_none_of, owns_none_of, not_filed_in, no_members}
 use Rattle.ss_records_entities.proofs.Destroys.{Free}
 

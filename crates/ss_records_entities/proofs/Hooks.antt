@@ -1,10 +1,10 @@
 -- What the two hooks of a filing or a removal do to the words of the set name, at any slots.
 use Rattle.std.proofs.Common.{◌≡◌, ℕ, ◌<◌, true, false, cond, ◌==◌, length, inl, inr, refl, sym, ap, subst, ◌∙◌}
 use denote.RawPtr.{Ptr}
-use Rattle.ss_records_entities.proofs.Common.{AreSlotsApart, by_same, Cells, differs, hooked, IsOfMember, IsOfOwner, length_put, link, put_other, put_word, same, Slots, Word, word_at, words_at}
-use Rattle.ss_records_blocks.specs.Cells.{same_ptr}
+use Rattle.ss_records_blocks.proofs.Puts.{length_put, put_other, words_put, ptr_differs, word_with}
+use Rattle.ss_records_entities.proofs.Common.{AreSlotsApart, by_same, differs, hooked, IsOfMember, IsOfOwner, same, Slots}
+use Rattle.ss_records_blocks.specs.Cells.{Cells, link, put_word, Word, word_at, words_at, same_ptr}
 use Rattle.ss_records_blocks.proofs.Numbers.{same_ptr_refl}
-use Rattle.ss_records_blocks.proofs.Puts.{words_put, ptr_differs, word_with}
 
 -- a word that is written, at places that are distinguished by numbers
 pub put_here : (at : ℕ → Ptr) (cs : Cells) (x y k : ℕ) (v : Word) → (at x ≡ at y → x ≡ y) → k < length (words_at cs (at y))

@@ -1,10 +1,8 @@
 -- A permanent entity by its index.
 use Rattle.std.proofs.Common.{◌≡◌, ℕ, zero, suc, List, [], ◌∷◌, map, slice_get, Option, Some, None, Ok, Err, inr, refl, sym, ap, ◌∙◌}
-use Rattle.std.specs.Prelude.{Result, MatchResult, ℤ, pos, negsuc}
-use Rattle.ss_records_entities.proofs.Common.{BlockPlace, Cells, ClassKind, Directory, entity_in, entity_of_kind, FaultKind, IsEntityPlace, IsKept, IsPermanent, kind_of, Layout, Made, Members, Notice, Permanent, places, record_of, Records, records_at, State, state, state_of, Temporary, words_at}
-use Rattle.ss_world.specs.State.{indexed, indexed_record, records_in}
-use Rattle.ss_records_blocks.specs.Places.{row_in}
-use Rattle.ss_records_words.specs.Kept.{place_or, indexed_place}
+use Rattle.ss_records_entities.proofs.Common.{BlockPlace, Cells, ClassKind, Directory, FaultKind, IsEntityPlace, IsKept, Layout, Made, MatchResult, negsuc, Notice, Permanent, places, pos, record_of, Records, records_at, Result, row_in, state, Temporary, words_at, ℤ}
+use Rattle.ss_records_words.specs.Kept.{IsPermanent, state_of, place_or, indexed_place}
+use Rattle.ss_world.specs.State.{entity_in, entity_of_kind, kind_of, Members, State, indexed, indexed_record, records_in}
 use Rattle.ss_records_entities.proofs.Keeps.{read_place}
 
 pub of_permanent : (st : State) (k : ClassKind) (c : ℕ) (x : ℤ) → IsPermanent k → entity_of_kind st k c x ≡ indexed st c x

@@ -2,11 +2,10 @@
 use Rattle.std.proofs.Common.{◌≡◌, ℕ, zero, suc, ◌+◌, ◌<◌, ◌≤◌, ◌^◌, ◌*◌, Bool, true, false, List, [], ◌∷◌, map, length, slice_get, Option, Some, None, Ok, Err, refl, ap, ◌∙◌, arith}
 use Rattle.std.specs.Prelude.{IsOk, nat_lt, nat_le, nat_abs, is_some, ℤ, pos, negsuc, if◌then◌else◌}
 use Rattle.std.proofs.lemmas.Bool.{lt-ltb, le-leb}
-use Rattle.std.proofs.lemmas.Int.{ints}
+use Rattle.ss_records_entities.proofs.Common.{BlockPlace, Cells, Directory, ints, Layout, Made, Numbers, record_at, records_at, state_of}
 use lib.Signed.{lt_z}
 use Rattle.ss_base.specs.declared.fault.FaultKind.TheVariants.{CreatedTwice}
-use Rattle.ss_records_entities.proofs.Common.{BlockPlace, Cells, Directory, LAST_NUMBER, Layout, Made, Members, Numbers, record_at, records_at, State, state_of}
-use Rattle.ss_world.specs.State.{MOST_ENTITIES, created, created_all, made_many, with_made, is_made_in}
+use Rattle.ss_world.specs.State.{LAST_NUMBER, Members, State, MOST_ENTITIES, created, created_all, made_many, with_made, is_made_in}
 
 -- the words of a block can be asked for
 pub block_fits : (w : ℕ) → (2 ≤ w) × (w < 2 ^ 32) → (0 < w) × (w * 8 < 2 ^ 63)

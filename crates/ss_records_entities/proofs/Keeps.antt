@@ -1,15 +1,11 @@
 -- What the functions above the blocks keep.
 use Rattle.std.proofs.Common.{◌≡◌, ℕ, zero, suc, ◌<◌, ◌≤◌, Bool, true, false, List, [], ◌∷◌, map, length, slice_get, slice_set, Option, Some, None, Ok, Err, inl, inr, refl, sym, ap, subst, ◌∙◌, arith}
-use Rattle.std.specs.Prelude.{Result, ℤ, pos, negsuc}
+use Rattle.ss_records_entities.proofs.Common.{above_head, AreFormed, AreOfClass, ArePartsKept, BlockPlace, Cells, class_at_place, class_in_words, differs, Directory, FaultKind, IsListedAt, IsMade, IsNumber, IsOfName, IsPermanent, issued_place, IsWrittenAt, Layout, links_start, Made, negsuc, number, numbered_place, Numbers, plain, pos, record_at, record_of, records_at, Result, same, state_of, word_at, word_of, words_at, WrongClass, ℤ}
 use Rattle.std.proofs.Math.Dec.{ltb}
 use Rattle.std.proofs.lemmas.Bool.{ltb-true, ltb-false}
 use denote.RawPtr.{Ptr}
-use Rattle.ss_records_entities.proofs.Common.{and_then, AreFormed, AreOfClass, ArePartsKept, BlockPlace, Cells, class_at_place, class_in_words, differs, Directory, FaultKind, is_notice, IsListedAt, IsMade, IsNumber, IsOfName, IsPermanent, issued_place, kind_of, Layout, links_start, Made, Members, number, numbered_place, numbered_record, Numbers, of_class, plain, Record, record_at, record_of, records_at, same, state_of, word_at, word_of, words_at}
-use Rattle.ss_base.specs.declared.fault.FaultKind.TheVariants.{WrongClass}
-use Rattle.ss_world.specs.State.{issued_record, of_notice, notice}
-use Rattle.ss_records_blocks.specs.Writes.{IsWrittenAt}
+use Rattle.ss_world.specs.State.{and_then, is_notice, kind_of, Members, numbered_record, of_class, Record, issued_record, of_notice, notice}
 use Rattle.ss_records_blocks.proofs.Puts.{by_ptr}
-use Rattle.ss_records_words.proofs.Disjoint.{above_head}
 use Rattle.ss_records_entities.proofs.NamesKept.{names_same}
 
 abbrev pub read_place : Layout → Cells → Result BlockPlace FaultKind → Result Record FaultKind

@@ -1,12 +1,10 @@
 -- Where the words of a set lead, from an owner and from a member.
 use Rattle.std.proofs.Common.{◌≡◌, ℕ, ◌+◌, ◌^◌, ◌<◌, ◌≤◌, Bool, true, false, List, [], length, slice_get, Option, Some, None, ◌⊎◌, inl, inr, refl, sym, ap, subst, ◌∙◌, arith}
-use Rattle.std.specs.Prelude.{is_some}
+use Rattle.ss_records_entities.proofs.Common.{ArePartsKept, by_same, Cells, Class, counter, Directory, entity_at, entry_of, get_inside, get_there, HasLink, head0, is_filed, is_some, IsCounter, IsEntityOf, IsInList, IsLink, IsNotInList, last_or, Layout, link, listing, MayOwn, member_base, Members, members_of, number, Owner, owner_at, owner_base, owner_of, plain, pred_from, SetLayout, succ, System, Word, word_at}
 use denote.RawPtr.{Ptr}
-use Rattle.ss_records_entities.proofs.Common.{ArePartsKept, by_same, Cells, Class, counter, Directory, entity_at, entry_of, follower, get_inside, get_there, HasLink, head0, is_filed, IsCounter, IsEntityOf, IsInList, IsNotInList, last_or, Layout, link, listing, MayOwn, member_base, member_class, member_in, Members, members_of, number, Owner, owner_at, owner_base, owner_in, owner_kind, owner_of, plain, precursor, pred_from, pred_is, SetLayout, succ, succ_is, System, Word, word_at}
-use Rattle.ss_records_blocks.specs.Cells.{IsLink}
-use Rattle.ss_world.specs.Sets.{members_by, companions}
+use Rattle.ss_records_words.proofs.Splice.{pred_is, succ_is, head_is, last_is, succ_differs}
+use Rattle.ss_world.specs.Sets.{follower, member_class, member_in, owner_in, owner_kind, precursor, members_by, companions}
 use Rattle.ss_records_words.proofs.Listing.{not_many}
-use Rattle.ss_records_words.proofs.Splice.{head_is, last_is, succ_differs}
 use Rattle.ss_records_words.proofs.Filed.{number_at, owner_number_at, above_zero, filed_or_not}
 use Rattle.ss_records_entities.proofs.Listed.{follower_is, precursor_is, pred_differs, few}
 

@@ -1,7 +1,6 @@
 -- The sets that a class joins, one after another.
 use Rattle.std.proofs.Common.{◌≡◌, ℕ, zero, suc, ◌+◌, ◌*◌, ◌≤◌, ◌<◌, ◌==◌, Bool, true, false, List, [], ◌∷◌, length, drop, slice_get, Some, refl, sym, ap, subst, ◌∙◌, arith}
-use Rattle.ss_records_entities.proofs.Common.{by_same, Class, count_before, count_sets, get_there, in_a_set, is_filed, Layout, links_start, member_base, Members, owned_start, same, SetLayout}
-use Rattle.ss_records_words.specs.Shape.{joins}
+use Rattle.ss_records_entities.proofs.Common.{by_same, Class, count_before, count_sets, get_there, in_a_set, is_filed, joins, Layout, links_start, member_base, Members, owned_start, same, SetLayout}
 use Rattle.ss_records_words.proofs.Filed.{in_here, in_not_filed, in_other}
 use Rattle.ss_records_words.proofs.Planning.{few_sets}
 use Rattle.ss_records_entities.proofs.Setless.{in_none, counts_one, counts_none}

@@ -1,9 +1,8 @@
 -- Linking a member in and taking one out keeps the words in step with the lists.
 use Rattle.std.proofs.Common.{◌≡◌, ℕ, ◌+◌, ◌-◌, true, false, cond, ◌==◌, List, ◌∷◌, ◌++◌, length, ◌⊎◌, inl, inr, refl, sym, ap, subst, ◌∙◌, arith}
 use denote.RawPtr.{Ptr}
-use Rattle.ss_records_entities.proofs.Common.{after_in, AreAllDistinct, AreShowing, before_in, by_same, counter, differs, distinct_less, head0, in_left, in_mid, IsInList, IsNotInList, last_or, length_splice, link, not_and_in, not_in, pred_from, same, succ, with_list, Words}
-use Rattle.ss_records_words.specs.Links.{IsLinkedIn, IsUnlinked}
-use Rattle.ss_records_words.proofs.Splice.{succ_splice, pred_splice, in_splice, distinct_splice, head_splice, tail_splice, not_in_mid, head_less, tail_less, succ_last, pred_head}
+use Rattle.ss_records_entities.proofs.Common.{AreAllDistinct, AreShowing, by_same, counter, differs, head0, IsInList, IsLinkedIn, IsNotInList, IsUnlinked, last_or, link, pred_from, same, succ, with_list, Words}
+use Rattle.ss_records_words.proofs.Splice.{after_in, before_in, distinct_less, in_left, in_mid, length_splice, not_and_in, not_in, succ_splice, pred_splice, in_splice, distinct_splice, head_splice, tail_splice, not_in_mid, head_less, tail_less, succ_last, pred_head}
 
 module _ (m m' : Words) (at home : ℕ → Ptr) (alive owns : ℕ → Type 0) (f : ℕ → List ℕ) (o x : ℕ) (xs ys : List ℕ) where
   abbrev a : ℕ

@@ -1,9 +1,8 @@
 -- The lists of the sets once one of them has changed, and lists with a member put in or taken out.
 use Rattle.std.proofs.Common.{◌≡◌, ℕ, zero, suc, ◌≤◌, Bool, true, false, cond, ◌==◌, List, [], ◌∷◌, ◌++◌, length, inl, inr, refl, sym, ap, subst, ◌∙◌, arith}
 use Rattle.std.specs.Prelude.{◌&&◌}
-use Rattle.ss_records_entities.proofs.Common.{AreAllDistinct, by_same, differs, distinct_less, follower, head0, in_left, IsInList, IsNotInList, length_splice, less, Members, members_of, not_and_in, precursor, pred_from, put_before, same, succ, with_list, with_members}
-use Rattle.ss_world.specs.Sets.{put_after}
-use Rattle.ss_records_words.proofs.Splice.{cut, in_or_not, not_in_mid}
+use Rattle.ss_records_entities.proofs.Common.{AreAllDistinct, by_same, differs, follower, head0, IsInList, IsNotInList, less, Members, members_of, precursor, pred_from, put_after, put_before, same, succ, with_list, with_members}
+use Rattle.ss_records_words.proofs.Splice.{distinct_less, in_left, length_splice, not_and_in, cut, in_or_not, not_in_mid}
 
 both : (b c : Bool) → b ≡ true → c ≡ true → (b && c) ≡ true
 both b c e f = (λ i. e i && f i)

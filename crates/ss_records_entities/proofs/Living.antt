@@ -1,14 +1,9 @@
 -- How many entities there are, the heap at first, and the blocks at the end.
 use Rattle.std.proofs.Common.{◌≡◌, ℕ, zero, suc, ◌+◌, ◌<◌, ◌≤◌, List, [], ◌∷◌, map, length, drop, slice_get, Option, Some, None, inl, inr, refl, sym, ap, subst, ◌∙◌, arith}
-use Rattle.std.specs.Prelude.{replicate}
+use Rattle.ss_records_entities.proofs.Common.{blanks, block_words, BlockPlace, blocks_without, Cells, Class, class_in_words, ClassLayout, Directory, in_page, IsListedAt, IsMade, IsSystemLaid, Layout, length-blanks, listed, living_count, lying, Made, Numbers, permanent_count, record_at, record_of, records_at, replicate, row_in, System, without_block, words_at, words_new, words_without}
 use denote.RawPtr.{Ptr}
-use Rattle.ss_records_entities.proofs.Common.{ArePartsKept, blanks, block_words, BlockPlace, Cells, Class, class_in_words, ClassLayout, Directory, IsListedAt, IsMade, IsSmall, IsSystemLaid, Layout, length-blanks, listed, lying, Made, Members, Numbers, permanent_count, record_at, record_of, records_at, state_of, System, without_block, words_at, words_new}
-use Rattle.ss_world.specs.State.{not_made as unmade, living_numbers, made_entities, living_records}
-use Rattle.ss_records_blocks.specs.Places.{row_in, living_count}
-use Rattle.ss_records_words.specs.Kept.{AreRowsHeld}
-use Rattle.ss_records_blocks.specs.Pages.{in_page}
-use Rattle.ss_records_blocks.proofs.Puts.{words_without}
-use Rattle.ss_records_blocks.proofs.Count.{blocks_without}
+use Rattle.ss_records_words.specs.Kept.{ArePartsKept, IsSmall, state_of, AreRowsHeld}
+use Rattle.ss_world.specs.State.{Members, not_made as unmade, living_numbers, made_entities, living_records}
 use Rattle.ss_records_entities.proofs.Destroys.{not_made}
 use Rattle.ss_records_entities.proofs.NamesGone.{name_first}
 

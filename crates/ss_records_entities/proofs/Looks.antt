@@ -1,12 +1,10 @@
 -- What the functions that look at a set read.
 use Rattle.std.proofs.Common.{◌≡◌, ℕ, ◌+◌, ◌^◌, ◌<◌, Bool, true, false, List, length, slice_get, Some, None, Ok, Err, refl, sym, ap, subst, ◌∙◌, arith}
 use Rattle.std.specs.Prelude.{ℤ, pos, not, nat_eq, if◌then◌else◌}
-use Rattle.std.specs.Int.{cast_signed}
-use Rattle.std.proofs.lemmas.Int.{ints}
+use Rattle.ss_records_entities.proofs.Common.{and_then, by_same, CanJoin, cast_signed, counter, differs, entity_at, EntityBlock, FaultKind, get_there, HasLink, head0, ints, is_filed, IsCounter, IsInList, IsKept, IsOwnerBlock, last_or, link, member_base, members_of, number, owner_at, owner_base, owner_of, places, pred_from, Records, SetLayout, State, state, succ, word_at}
 use mir.Syntax.{w64}
 use denote.RawPtr.{Ptr}
-use Rattle.ss_records_entities.proofs.Common.{and_then, by_same, CanJoin, counter, differs, entity_at, EntityBlock, FaultKind, follower, get_there, HasLink, head0, is_filed, IsCounter, IsInList, IsKept, IsOwnerBlock, joiner, last_or, link, member_base, members_of, number, owner, owner_at, owner_base, owner_of, places, precursor, pred_from, Records, SetLayout, State, state, succ, word_at}
-use Rattle.ss_world.specs.Sets.{as_number, companions, first_in, last_in, count_in, next_in, previous_in, owner_of_member}
+use Rattle.ss_world.specs.Sets.{follower, joiner, owner, precursor, as_number, companions, first_in, last_in, count_in, next_in, previous_in, owner_of_member}
 use Rattle.ss_records_entities.proofs.Leading.{To, leads, its_number, first_to, last_to, is_counter, count_is, count_small, Beside, next_beside, prev_beside, owner_to, filed_is, next_value, prev_value, in_which}
 
 pub as_whole : (n m : ℕ) → n ≡ m → m < 2 ^ 62 → cast_signed w64 n ≡ pos m

@@ -1,15 +1,11 @@
 -- The entities of a permanent class that are made together.
 use Rattle.std.proofs.Common.{◌≡◌, ℕ, zero, suc, ◌+◌, ◌^◌, ◌<◌, ◌≤◌, List, [], ◌∷◌, ◌++◌, map, length, slice_get, slice_set, Option, Some, None, ◌⊎◌, inl, inr, refl, sym, ap, subst, ◌∙◌, arith}
-use Rattle.std.specs.Prelude.{replicate}
+use Rattle.ss_records_entities.proofs.Common.{AreFormed, AreLaidTo, AreOfClass, ArePartsKept, block_words, BlockPlace, by_same, Cells, Class, class_at_place, class_in_words, Directory, entry_of, first_record, is_of, IsBorn, IsEntityOf, IsListedAt, IsMade, IsPermanent, kind_of, Layout, listing, living_bound, lying, Made, Members, own_or, permanent_count, plain, Record, record_at, record_of, records_at, replicate, state_of, System, with_made, word_of, words_at}
 use denote.RawPtr.{Ptr}
-use Rattle.ss_records_entities.proofs.Common.{AreFormed, AreOfClass, ArePartsKept, block_words, BlockPlace, by_same, Cells, Class, class_at_place, class_in_words, Directory, entry_of, is_of, IsBorn, IsEntityOf, IsListedAt, IsMade, IsPermanent, kind_of, Layout, listed, listing, lying, Made, Members, own_or, permanent_count, plain, Record, record_at, record_of, records_at, state_of, System, word_of, words_at}
-use Rattle.ss_world.specs.State.{first_record, with_made}
+use Rattle.ss_records_words.proofs.Listing.{listed, unmapped}
 use Rattle.ss_records_blocks.specs.Writes.{HasNoneAt, ArePlaced, AreUnchanged}
-use Rattle.ss_records_words.specs.Laid.{AreLaidTo}
-use Rattle.ss_records_words.proofs.Listing.{unmapped}
 use Rattle.ss_records_entities.proofs.Keeps.{map_same, made_same}
 use Rattle.ss_records_entities.proofs.NamesCreated.{name_born}
-use Rattle.ss_records_blocks.proofs.Entries.{living_bound}
 use Rattle.ss_records_entities.proofs.Creates.{off_entry, off_sys, born_formed, record_first, few_made}
 
 -- a row that is set

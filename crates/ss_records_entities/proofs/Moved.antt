@@ -2,8 +2,7 @@
 -- or those of newcomers without lists.
 use Rattle.std.proofs.Common.{◌≡◌, ℕ, List, [], length, ◌⊎◌, inl, inr, sym, ap, subst, ◌∙◌}
 use denote.RawPtr.{Ptr}
-use Rattle.ss_records_entities.proofs.Common.{AreShowing, counter, head0, IsInList, IsNotInList, last_or, link, not_and_in, pred_from, pred_is, succ, succ_is, Words}
-use Rattle.ss_records_words.proofs.Splice.{head_is, last_is}
+use Rattle.ss_records_entities.proofs.Common.{AreShowing, counter, head0, head_is, IsInList, IsNotInList, last_is, last_or, link, not_and_in, pred_from, pred_is, succ, succ_is, Words}
 
 module _ (m m' : Words) (at at' home home' : ℕ → Ptr) (alive alive' owns owns' : ℕ → Type 0) (f : ℕ → List ℕ) where
   abbrev pub OldMember : ℕ → Type 0

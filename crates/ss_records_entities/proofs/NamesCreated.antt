@@ -1,11 +1,11 @@
 -- The links of a set name once an entity is new or gone.
 use Rattle.std.proofs.Common.{◌≡◌, ℕ, suc, ◌+◌, ◌-◌, ◌*◌, ◌<◌, ◌≤◌, List, [], ◌∷◌, slice_get, Some, ◌⊎◌, inl, inr, refl, sym, ap, subst, ◌∙◌, arith}
 use denote.RawPtr.{Ptr}
-use Rattle.ss_records_entities.proofs.Common.{ArePartsKept, block_words, BlockPlace, Cells, Class, class_at_place, class_in_words, count_before, counter, Directory, entity_at, entry_of, is_of, IsBorn, IsEntityOf, IsInList, IsNameKept, IsOfMember, IsOfOwner, Layout, link, listing, MayOwn, Members, members_of, not_in, owned_by, owned_start, Owner, owner_at, place_in_record, SetLayout, Slots, slots_of, System, word_at, word_of, Words, words_at, words_of}
+use Rattle.ss_records_entities.proofs.Common.{ArePartsKept, block_words, BlockPlace, Cells, Class, class_at_place, class_in_words, count_before, counter, Directory, entity_at, IsBorn, IsEntityOf, IsInList, IsNameKept, IsOfMember, IsOfOwner, Layout, link, listing, MayOwn, Members, members_of, not_in, owned_by, owned_start, Owner, owner_at, place_in_record, SetLayout, Slots, slots_of, System, word_at, word_of, Words, words_at, words_of}
+use Rattle.ss_records_words.proofs.Disjoint.{entry_of, is_of, member_inside, owner_inside}
 use Rattle.ss_records_blocks.specs.Writes.{owned_word, owned_from}
 use Rattle.ss_records_blocks.proofs.Fills.{owned_first, owned_last, owned_count}
 use Rattle.ss_records_entities.proofs.Moved.{OldMember, NewMember, OldOwner, NewOwner, shows_moved}
-use Rattle.ss_records_words.proofs.Disjoint.{member_inside, owner_inside}
 
 pub empty : (l : List ℕ) → ((n : ℕ) → IsInList n l → ⊥) → l ≡ []
 empty [] h = refl

@@ -1,10 +1,8 @@
 -- The links of a set name at first, and once an entity is gone.
 use Rattle.std.proofs.Common.{◌≡◌, ℕ, suc, ◌+◌, ◌<◌, ◌≤◌, List, [], slice_get, Some, inl, inr, refl, sym, ap, subst, ◌∙◌}
 use denote.RawPtr.{Ptr}
-use Rattle.ss_records_entities.proofs.Common.{ArePartsKept, block_words, BlockPlace, Cells, Class, class_at_place, class_in_words, count_before, counter, Directory, entity_at, entry_of, is_of, IsEntityOf, IsInList, IsNameKept, IsNotInList, IsOfOwner, IsSystemLaid, Layout, link, listing, MayOwn, Members, members_of, not_and_in, owned_by, owned_start, Owner, owner_at, owner_base, place_in_record, SetLayout, Slots, slots_of, System, word_at, word_of, Words, words_at, words_of}
-use Rattle.ss_records_blocks.specs.Writes.{owned_from}
+use Rattle.ss_records_entities.proofs.Common.{ArePartsKept, block_words, BlockPlace, Cells, Class, class_at_place, class_in_words, count_before, counter, Directory, entity_at, entry_of, is_of, IsEntityOf, IsInList, IsNameKept, IsNotInList, IsOfOwner, IsSystemLaid, Layout, link, listing, MayOwn, Members, members_of, not_and_in, owned_by, owned_from, owned_start, Owner, owner_at, owner_base, owner_inside, place_in_record, SetLayout, Slots, slots_of, System, word_at, word_of, Words, words_at, words_of}
 use Rattle.ss_records_entities.proofs.Moved.{shows_moved}
-use Rattle.ss_records_words.proofs.Disjoint.{owner_inside}
 use Rattle.ss_records_entities.proofs.NamesCreated.{owned_words}
 
 module _ (l : Layout) (ds : Cells) (sys : Ptr) (bs : Cells) (laid : IsSystemLaid l bs ds sys) (d : Directory) (none : (c i : ℕ) (p : BlockPlace) → slice_get (listing d c) i ≡ Some (Some p) → ⊥) (s : ℕ) (t : SetLayout) (g : slice_get l.sets s ≡ Some t) where

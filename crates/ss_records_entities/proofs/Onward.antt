@@ -1,11 +1,8 @@
 -- The member that comes next to another one in the set of an owner.
 use Rattle.std.proofs.Common.{◌≡◌, ℕ, ◌+◌, ◌^◌, ◌<◌, Bool, true, false, length, slice_get, Some, None, Ok, Err, refl, sym, ap, ◌∙◌}
 use Rattle.std.specs.Prelude.{ℤ, pos, negsuc, if◌then◌else◌, is_some, Result}
-use Rattle.std.specs.Int.{cast_signed}
+use Rattle.ss_records_entities.proofs.Common.{and_then, CanJoin, cast_signed, Class, ClassKind, contains, contains_in, differs, entity_at, entity_of_kind, EntityBlock, false_is_not_true, FaultKind, get_there, HasLink, in_contains, is_filed, IsInList, IsKept, joiner, kind_of, link, MayOwn, member_base, member_test, members_of, next_in, Notice, number, number_in, Owner, owner, owner_by, owner_in, owner_kind, owner_of, Permanent, places, previous_in, Record, Records, SetLayout, State, state, System, Temporary, word_at}
 use mir.Syntax.{w64}
-use Rattle.ss_records_entities.proofs.Common.{and_then, CanJoin, Class, ClassKind, contains, contains_in, differs, entity_at, entity_of_kind, EntityBlock, false_is_not_true, FaultKind, get_there, HasLink, in_contains, is_filed, IsInList, IsKept, joiner, kind_of, link, MayOwn, member_base, members_of, Notice, number, number_in, Owner, owner, owner_in, owner_kind, owner_of, Permanent, places, Record, Records, SetLayout, State, state, System, Temporary, word_at}
-use Rattle.ss_world.specs.Sets.{owner_by, next_in, previous_in}
-use Rattle.ss_world.specs.Disciplines.{member_test}
 use Rattle.ss_records_entities.proofs.Leading.{its_number, next_beside, prev_beside}
 use Rattle.ss_records_entities.proofs.Looks.{next_leads, prev_leads, next_small, prev_small, next_fits, prev_fits, is_filed_value, next_is, prev_is, as_whole, owner_has, owner_small}
 use Rattle.ss_records_entities.proofs.Ends.{tested}

@@ -1,7 +1,6 @@
 -- Whether an entity is in a set, by the words of its own block.
 use Rattle.std.proofs.Common.{◌≡◌, ℕ, suc, inl, true, false, slice_get, Some, ap, sym, subst, ◌∙◌}
-use Rattle.std.specs.Prelude.{not, nat_eq}
-use Rattle.ss_records_entities.proofs.Common.{BlockPlace, by_same, class_at_place, differs, entity_at, EntityBlock, HasLink, is_filed, IsKept, link, member_base, number, places, Records, SetLayout, word_at}
+use Rattle.ss_records_entities.proofs.Common.{BlockPlace, by_same, class_at_place, differs, entity_at, EntityBlock, HasLink, is_filed, IsKept, link, member_base, nat_eq, not, number, places, Records, SetLayout, word_at}
 use Rattle.ss_records_words.proofs.Tied.{its_next, next_word, filed_value}
 
 -- where its links of a set begin at the word k

@@ -1,9 +1,6 @@
 -- What a reference means as an owner, or as one that may be a member, of a set.
 use Rattle.std.proofs.Common.{◌≡◌, ℕ, suc, ◌<◌, true, length, slice_get, Some, Ok, Err, refl, sym, ap, subst, ◌∙◌}
-use Rattle.std.specs.Prelude.{ℤ}
-use Rattle.ss_records_entities.proofs.Common.{and_then, BlockPlace, CanJoin, Class, entity_at, entity_in, FaultKind, get_there, is_of, IsEntityOf, IsEntityPlace, IsKept, IsNumber, IsOwnerBlock, joiner, Layout, listing, MayOwn, member_class, number, number_in, Owner, owner, owner_at, owner_kind, place_in_record, places, plain, Records, SetLayout, State, state, System, word_at}
-use Rattle.ss_world.specs.Sets.{owner_by}
-use Rattle.ss_records_words.specs.Plans.{is_system}
+use Rattle.ss_records_entities.proofs.Common.{and_then, BlockPlace, CanJoin, Class, entity_at, entity_in, FaultKind, get_there, is_of, is_system, IsEntityOf, IsEntityPlace, IsKept, IsNumber, IsOwnerBlock, joiner, Layout, listing, MayOwn, member_class, number, number_in, Owner, owner, owner_at, owner_by, owner_kind, place_in_record, places, plain, Records, SetLayout, State, state, System, word_at, ℤ}
 use Rattle.ss_records_words.proofs.Listing.{lists_place}
 
 module _ (r : Records) (K : IsKept r) (c : ℕ) (x : ℤ) (p : BlockPlace) (f : IsEntityPlace r c x p) where

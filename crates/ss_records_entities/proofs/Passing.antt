@@ -1,14 +1,12 @@
 -- Walking along a set past the members that do not rank after a number.
 use Rattle.std.proofs.Common.{◌≡◌, ℕ, suc, inl, inr, ◌+◌, ◌*◌, ◌^◌, ◌<◌, ◌≤◌, Bool, true, false, List, [], ◌∷◌, ◌++◌, length, slice_get, Some, Ok, refl, sym, ap, subst, ◌∙◌, arith, append_assoc, append-nil}
-use Rattle.std.specs.Prelude.{ℤ, pos, not}
-use Rattle.std.specs.Ordering.{match_ordering, int_cmp}
+use Rattle.ss_records_entities.proofs.Common.{AreAllDistinct, AreNeighbours, BlockPlace, CanJoin, class_at_place, entity_at, entity_in, EntityBlock, entry_of, get_there, HasLink, head0, int_cmp, Integer, IsInList, IsInPlace, IsKept, IsListedAt, IsNumber, link, listed, match_ordering, member_base, member_class, members_of, Mode, modes_of, not, number, place_in_record, places, pos, record_of, Records, SetLayout, state, succ, Value, value_at, value_in, Whole, word_at, words_at, ℤ}
 use denote.RawPtr.{Ptr}
 use Rattle.ss_base.specs.Order.{value_cmp}
-use Rattle.ss_records_entities.proofs.Common.{AreAllDistinct, AreNeighbours, BlockPlace, CanJoin, class_at_place, entity_at, entity_in, EntityBlock, entry_of, get_there, HasLink, head0, Integer, IsInList, IsInPlace, IsKept, IsListedAt, IsNumber, length_splice, link, listed, member_base, member_class, members_of, Mode, modes_of, number, place_in_record, places, ranks_past, record_of, Records, SetLayout, state, succ, succ_cut, Value, value_at, value_in, Whole, word_at, words_at}
+use Rattle.ss_records_entities.specs.Passing.{ranks_past, first_where, before_where}
+use Rattle.ss_records_words.proofs.Splice.{length_splice, succ_cut, head_in}
 use Rattle.ss_world.specs.Disciplines.{value_or_zero}
-use Rattle.ss_records_entities.specs.Passing.{first_where, before_where}
 use Rattle.ss_records_entities.proofs.Assigns.{first_number, second_number, is_value}
-use Rattle.ss_records_words.proofs.Splice.{head_in}
 use Rattle.ss_records_entities.proofs.Leading.{To, leads, next_to, small_of, count_small}
 use Rattle.ss_records_entities.proofs.Apart.{entity_is}
 use Rattle.ss_records_entities.proofs.Cuts.{lies_there}

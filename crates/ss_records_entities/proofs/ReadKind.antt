@@ -1,8 +1,7 @@
 -- The kind of a class, by what the list of the classes gives at its number.
 use Rattle.std.proofs.Common.{◌≡◌, ℕ, List, length, slice_get, Option, Some, None, false, refl, sym, ap, ◌∙◌, subst, Bor, is_some, IfSome, nat_lt, slice_index_or, ltb-true, ltb-false}
 use Rattle.std.proofs.lemmas.Option.{slice_get-get_or, slice_get_past}
-use Rattle.ss_records_entities.proofs.Common.{ClassKind, ClassLayout, is_notice, kind_of, Layout, Notice, Permanent, Temporary}
-use Rattle.ss_world.specs.State.{kind_in}
+use Rattle.ss_records_entities.proofs.Common.{ClassKind, ClassLayout, is_notice, kind_in, kind_of, Layout, Notice, Permanent, Temporary}
 
 pub no_notice : (k : ClassKind) → (k ≡ Notice → ⊥) → is_notice k ≡ false
 no_notice Permanent h = refl

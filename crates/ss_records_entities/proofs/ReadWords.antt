@@ -1,14 +1,7 @@
 -- What a record is once words of its block were written.
 use Rattle.std.proofs.Common.{◌≡◌, ℕ, zero, suc, ◌+◌, ◌*◌, ◌≤◌, ◌<◌, Bool, true, false, cond, List, [], ◌∷◌, length, slice_get, slice_index_or, slice_set, Some, refl, sym, ap, subst, ◌∙◌, arith}
-use Rattle.std.specs.Prelude.{pos, ℤ}
-use Rattle.std.specs.Int.{cast_signed}
+use Rattle.ss_records_entities.proofs.Common.{cast_signed, class_in_words, is_notice, kind_of, Layout, length-with_word, links_start, Mode, modes_of, number, plain, pos, Record, record_of, record_with_value, Value, value_of_words, values_end, values_from, with_time, with_word, Word, word_here, word_of, word_other, ℤ}
 use mir.Syntax.{w64}
-use Rattle.ss_records_entities.proofs.Common.{class_in_words, is_notice, kind_of, Layout, links_start, Mode, modes_of, number, plain, Record, record_of, Value, value_of_words, values_end, Word, word_of}
-use Rattle.ss_records_blocks.specs.Cells.{with_word}
-use Rattle.ss_world.specs.State.{record_with_value, with_time}
-use Rattle.ss_records_words.specs.Reading.{values_from}
-use Rattle.ss_records_blocks.proofs.Numbers.{length-with_word}
-use Rattle.ss_records_blocks.proofs.Puts.{word_other, word_here}
 
 pub number_is : {m n : ℕ} → number m ≡ number n → m ≡ n
 number_is e = ap plain e

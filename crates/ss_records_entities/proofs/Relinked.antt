@@ -1,8 +1,7 @@
 -- What holds once an entity is linked into a set, or out of it.
 use Rattle.std.proofs.Common.{◌≡◌, ℕ, ◌+◌, ◌-◌, ◌==◌, List, ◌∷◌, ◌++◌, length, slice_get, Some, ◌⊎◌, inl, inr, refl, sym, subst}
 use denote.RawPtr.{Ptr}
-use Rattle.ss_records_entities.proofs.Common.{after_in, ArePartsKept, AreShowing, before_in, by_same, Cells, counter, Directory, entity_at, head0, hooked, in_left, in_mid, IsEntityOf, IsInList, IsNotInList, IsOfName, last_or, Layout, link, linked_in, MayOwn, Members, members_of, owner_at, put_word, SetLayout, Slots, slots_of, state_of, unlinked_in, with_list, with_list_of, with_members, words_of}
-use Rattle.ss_records_words.specs.Slotted.{AreSpared}
+use Rattle.ss_records_entities.proofs.Common.{after_in, ArePartsKept, AreShowing, AreSpared, before_in, by_same, Cells, counter, Directory, entity_at, head0, hooked, in_left, in_mid, IsEntityOf, IsInList, IsNotInList, IsOfName, last_or, Layout, link, linked_in, MayOwn, Members, members_of, owner_at, put_word, SetLayout, Slots, slots_of, state_of, unlinked_in, with_list, with_list_of, with_members, words_of}
 use Rattle.ss_records_entities.proofs.Listed.{members_with, members_other}
 use Rattle.ss_records_words.proofs.Disjoint.{grounds, spares_none, spares_put}
 use Rattle.ss_records_entities.proofs.Linking.{any_linked, any_unlinked}

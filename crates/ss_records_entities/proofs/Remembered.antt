@@ -1,9 +1,7 @@
 -- An entity that is remembered by its number.
 use Rattle.std.proofs.Common.{◌≡◌, ℕ, zero, suc, ◌+◌, ◌-◌, ◌%◌, ◌^◌, ◌<◌, FitsSigned, w64, of_z, Bool, true, false, length, slice_get, Some, Ok, inl, inr, refl, sym, ap, subst, ◌∙◌, arith}
 use Rattle.std.specs.Prelude.{ℤ, pos, negsuc, if◌then◌else◌, ◌⊎◌}
-use Rattle.std.proofs.lemmas.Int.{ints}
-use Rattle.std.proofs.lemmas.Option.{slice_get_within}
-use Rattle.ss_records_entities.proofs.Common.{BlockPlace, CanJoin, class_at_place, ClassKind, entity_at, entity_in, EntityBlock, entry_of, IsEntityPlace, IsInList, IsInPlace, IsKept, IsListedAt, IsPermanent, issued_place, kind_of, link, listed, member_base, member_class, members_of, Notice, number, numbered_place, Numbers, Permanent, place_in_record, places, pred_is, Records, SetLayout, state, succ_is, Temporary, word_at}
+use Rattle.ss_records_entities.proofs.Common.{BlockPlace, CanJoin, class_at_place, ClassKind, entity_at, entity_in, EntityBlock, entry_of, ints, IsEntityPlace, IsInList, IsInPlace, IsKept, IsListedAt, IsPermanent, issued_place, kind_of, link, listed, member_base, member_class, members_of, Notice, number, numbered_place, Numbers, Permanent, place_in_record, places, pred_is, Records, SetLayout, slice_get_within, state, succ_is, Temporary, word_at}
 use Rattle.ss_records_words.specs.Plans.{is_permanent_kind}
 use Rattle.ss_records_entities.proofs.Apart.{entity_is}
 use Rattle.ss_records_entities.proofs.Cuts.{lies_there}

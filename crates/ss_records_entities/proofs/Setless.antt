@@ -1,11 +1,9 @@
 -- Entities of a class that joins no set, or owns none.
 use Rattle.std.proofs.Common.{◌≡◌, ℕ, zero, suc, ◌+◌, ◌==◌, Bool, drop, slice_get, Some, ap, true, false, List, [], ◌∷◌, refl, sym, ◌∙◌, arith}
-use Rattle.std.specs.Prelude.{not, nat_eq}
-use Rattle.ss_records_entities.proofs.Common.{by_same, Class, count_sets, false_is_not_true, in_a_set, Members, owned_by, Owner, owner_in, owns_members, same, SetLayout, System}
-use Rattle.ss_world.specs.State.{is_owner_class}
+use Rattle.ss_records_entities.proofs.Common.{by_same, Class, count_sets, false_is_not_true, joins, nat_eq, not, owned_by, Owner, owner_in, same, SetLayout, System}
+use Rattle.ss_world.specs.State.{in_a_set, Members, owns_members, is_owner_class}
 use Rattle.ss_records_words.proofs.Filed.{drop_at}
 use Rattle.ss_base.specs.Layout.{same_owner}
-use Rattle.ss_records_words.specs.Shape.{joins}
 
 none_of : (p : SetLayout → Bool) (t : SetLayout) (ts : List SetLayout) → count_sets p (t ∷ ts) ≡ 0 → (p t ≡ false) × (count_sets p ts ≡ 0)
 none_of p t ts h = by_test (p t) refl where

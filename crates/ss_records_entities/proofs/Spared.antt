@@ -1,9 +1,7 @@
 -- What holds once words of one set name alone were written.
 use Rattle.std.proofs.Common.{◌≡◌, ℕ, suc, ◌<◌, List, map, length, slice_get, Some, None, inl, inr, refl, sym, ap, subst, ◌∙◌, arith}
-use Rattle.std.specs.Prelude.{Option}
+use Rattle.ss_records_entities.proofs.Common.{AreFormed, AreOfClass, ArePartsKept, AreShowing, AreSpared, BlockPlace, by_same, Cells, class_at_place, Directory, entity_at, IsEntityOf, IsListedAt, IsNameKept, IsNumber, IsOfName, IsPermanent, kind_of, Layout, links_start, MayOwn, Members, members_of, Option, owner_at, plain, record_at, record_of, records_at, SetLayout, slots_of, word_at, Words, words_at, words_of}
 use denote.RawPtr.{Ptr}
-use Rattle.ss_records_entities.proofs.Common.{AreFormed, AreOfClass, ArePartsKept, AreShowing, BlockPlace, by_same, Cells, class_at_place, Directory, entity_at, IsEntityOf, IsListedAt, IsNameKept, IsNumber, IsOfName, IsPermanent, kind_of, Layout, links_start, MayOwn, Members, members_of, owner_at, plain, record_at, record_of, records_at, SetLayout, slots_of, word_at, Words, words_at, words_of}
-use Rattle.ss_records_words.specs.Slotted.{AreSpared}
 use Rattle.ss_records_entities.proofs.ReadWords.{record_same}
 use Rattle.ss_records_entities.proofs.Keeps.{map_same, made_same}
 use Rattle.ss_records_entities.proofs.Moved.{shows_moved}

@@ -1,8 +1,6 @@
 -- What a call that only reads leaves for the calls after it, and how many touches there are.
 use Rattle.std.proofs.Common.{◌≡◌, ℕ, ◌+◌, ◌≤◌, ◌<◌, ◌^◌, Bool, true, false, Fits, w64, length, slice_get, Some, sym, ap, subst, ◌∙◌, arith}
-use Rattle.std.proofs.lemmas.Option.{slice_get_within}
-use Rattle.ss_records_entities.proofs.Common.{CanJoin, contains, EntityBlock, false_is_not_true, is_filed, IsKept, IsOwnerBlock, IsSmall, Layout, members_of, Mode, modes_of, Records, uncounted}
-use Rattle.ss_records_blocks.specs.Cells.{Memory}
+use Rattle.ss_records_entities.proofs.Common.{CanJoin, contains, EntityBlock, false_is_not_true, is_filed, IsKept, IsOwnerBlock, IsSmall, Layout, members_of, Memory, Mode, modes_of, Records, slice_get_within, uncounted}
 
 -- a read of the blocks changes nothing but counts of touches
 pub reads_only : (r : Records) (b : Memory) → b.cells ≡ r.blocks.cells → uncounted (record r { blocks = b }) ≡ uncounted r

@@ -1,8 +1,7 @@
 -- What the writes of a removal do to the words of the set name.
 use Rattle.std.proofs.Common.{◌≡◌, ℕ, ◌-◌, ◌<◌, cond, ◌==◌, length, refl, sym, ap, subst, ◌∙◌}
 use denote.RawPtr.{Ptr}
-use Rattle.ss_records_entities.proofs.Common.{AreSlotsApart, Cells, counter, hooked, IsOfMember, IsOfOwner, length_put, link, put_other, put_word, Slots, unlinked_in, word_at, words_at, words_of}
-use Rattle.ss_records_words.specs.Links.{IsUnlinked}
+use Rattle.ss_records_entities.proofs.Common.{AreSlotsApart, Cells, counter, hooked, IsOfMember, IsOfOwner, IsUnlinked, length_put, link, put_other, put_word, Slots, unlinked_in, word_at, words_at, words_of}
 use Rattle.ss_records_entities.proofs.Hooks.{put_here, of_next, of_prev, of_owner, of_first, of_last, of_count, Hooked, hooks}
 
 module _ (w : Slots) (cs : Cells) (at home : ℕ → Ptr) (alive owns : ℕ → Type 0) (g : AreSlotsApart w cs at home alive owns) (o a x b n : ℕ) (lo : owns o) (lx : alive x) (la : (a ≡ 0 → ⊥) → alive a) (lb : (b ≡ 0 → ⊥) → alive b) where

@@ -4,21 +4,11 @@ use Rattle.std.specs.Prelude.{Option, Bool}
 use Rattle.std.proofs.Math.Dec.{ltb}
 use Rattle.std.proofs.lemmas.Bool.{ltb-true, ltb-false}
 use denote.RawPtr.{Ptr}
-use Rattle.ss_base.specs.declared.layout.Owner.{Owner}
-use Rattle.ss_base.specs.declared.layout.Owner.TheVariants.{System, Class}
-use Rattle.ss_base.specs.declared.layout.SetLayout.{SetLayout}
-use Rattle.ss_base.specs.declared.layout.Layout.{Layout}
-use Rattle.ss_records_blocks.specs.declared.store.BlockPlace.{BlockPlace}
-use Rattle.ss_records_blocks.specs.Cells.{Word, Cells, words_at, put_word}
-use Rattle.ss_world.specs.State.{Members}
+use Rattle.ss_records_words.proofs.Common.{ArePartsKept, block_words, BlockPlace, Cells, Class, class_at_place, count_before, count_sets, Directory, entity_at, IsListedAt, joins, Layout, links_start, listing, Members, owned_by, owned_start, Owner, owner_at, place_in_record, put_word, same, SetLayout, System, Word, words_at}
 use Rattle.ss_base.specs.Layout.{same_owner}
-use Rattle.ss_records_words.specs.Shape.{links_start, owned_start, block_words, joins, owned_by, count_before, count_sets}
-use Rattle.ss_records_words.specs.Places.{Directory, listing, IsListedAt, place_in_record, entity_at, owner_at, class_at_place}
-use Rattle.ss_records_words.specs.Kept.{ArePartsKept}
 use Rattle.ss_records_words.specs.Links.{AreSlotsApart, IsOfMember, IsOfOwner}
 use Rattle.ss_records_words.specs.Slotted.{member_base, owner_base, slots_of, is_entry, IsEntityOf, MayOwn, IsOfName, AreSpared}
 use Rattle.ss_records_words.specs.Reading.{class_in_words}
-use Rattle.ss_records_blocks.proofs.Same.{same}
 use Rattle.ss_records_words.proofs.Listing.{listed, lists_place}
 use Rattle.ss_records_blocks.proofs.Puts.{put_other, length_put}
 use Rattle.ss_records_blocks.proofs.Count.{blocks_put}

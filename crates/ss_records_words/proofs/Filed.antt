@@ -2,17 +2,8 @@
 use Rattle.std.proofs.Common.{◌≡◌, ℕ, zero, suc, Bool, true, false, ◌==◌, List, [], ◌∷◌, slice_get, drop, ◌+◌, Option, Some, None, ◌⊎◌, inl, inr, refl, sym, ap, subst, ◌∙◌, arith}
 use Rattle.std.specs.Prelude.{◌&&◌, ◌||◌, is_some}
 use denote.RawPtr.{Ptr}
-use Rattle.ss_base.specs.declared.layout.Owner.{Owner}
-use Rattle.ss_base.specs.declared.layout.Owner.TheVariants.{System, Class}
-use Rattle.ss_base.specs.declared.layout.SetLayout.{SetLayout}
-use Rattle.ss_base.specs.declared.layout.Layout.{Layout}
-use Rattle.ss_records_blocks.specs.Cells.{number, link, Cells, word_at}
+use Rattle.ss_records_words.proofs.Common.{ArePartsKept, by_same, Cells, Class, differs, Directory, entity_at, IsEntityOf, IsInList, IsNotInList, Layout, link, MayOwn, number, Owner, owner_at, place_in_record, same, SetLayout, slots_of, succ, System, word_at}
 use Rattle.ss_world.specs.State.{Members, members_of, contains, owner_among, owner_of, is_filed, has_members, in_a_set, owns_members, is_owner_class}
-use Rattle.ss_records_words.specs.Places.{Directory, place_in_record, entity_at, owner_at}
-use Rattle.ss_records_words.specs.Kept.{ArePartsKept}
-use Rattle.ss_world.specs.Lists.{succ, IsInList, IsNotInList}
-use Rattle.ss_records_words.specs.Slotted.{slots_of, IsEntityOf, MayOwn}
-use Rattle.ss_records_blocks.proofs.Same.{same, differs, by_same}
 use Rattle.ss_records_words.proofs.Splice.{not_and_in, succ_is, succ_differs}
 use Rattle.ss_records_words.proofs.Listing.{listed}
 use Rattle.ss_records_words.proofs.Disjoint.{entry_of}

@@ -1,12 +1,9 @@
 -- The words of a new block, part by part.
 use Rattle.std.proofs.Common.{ℕ, ◌∙◌, arith}
 use denote.RawPtr.{Ptr}
-use Rattle.ss_records_blocks.specs.Cells.{Cells}
+use Rattle.ss_records_words.proofs.Common.{block_words, Cells, Class, Layout, links_start, owned_start, System}
 use Rattle.ss_records_blocks.specs.Writes.{IsFilled, head_word, zeros, links_to, owned_from}
 use Rattle.ss_records_words.specs.Laid.{IsLaid, IsSystemLaid}
-use Rattle.ss_base.specs.declared.layout.Layout.{Layout}
-use Rattle.ss_base.specs.declared.layout.Owner.TheVariants.{System, Class}
-use Rattle.ss_records_words.specs.Shape.{links_start, owned_start, block_words}
 use Rattle.ss_records_blocks.proofs.Puts.{written_twice}
 
 module _ (l : Layout) (cs a b d e : Cells) (end p : Ptr) (c n : ℕ) where

@@ -1,3 +1,4 @@
+mod Common
 pub mod Disjoint
 pub mod Filed
 pub mod Fills

@@ -1,12 +1,8 @@
 -- Where the entities of a class are listed.
 use Rattle.std.proofs.Common.{◌≡◌, ℕ, zero, suc, ◌^◌, ◌<◌, List, [], ◌∷◌, map, length, slice_get, Option, Some, None, inl, inr, refl, sym, ap, subst, ◌∙◌, arith}
 use denote.RawPtr.{Ptr}
-use Rattle.ss_base.specs.declared.layout.Layout.{Layout}
-use Rattle.ss_records_blocks.specs.declared.store.BlockPlace.{BlockPlace}
-use Rattle.ss_records_blocks.specs.Cells.{Cells}
-use Rattle.ss_world.specs.State.{Members}
+use Rattle.ss_records_words.proofs.Common.{ArePartsKept, BlockPlace, Cells, Layout, Members}
 use Rattle.ss_records_words.specs.Places.{Directory, own_or, listing, IsListedAt, class_at_place}
-use Rattle.ss_records_words.specs.Kept.{ArePartsKept}
 
 pub unmapped : (ps : List BlockPlace) (i : ℕ) (p : BlockPlace) → slice_get (map Some ps) i ≡ Some (Some p) → slice_get ps i ≡ Some p
 unmapped [] i p h = cc

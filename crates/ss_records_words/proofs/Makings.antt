@@ -1,14 +1,9 @@
 -- The blocks of the permanent entities of a class, which lie together.
 use Rattle.std.proofs.Common.{◌≡◌, ℕ, suc, ◌+◌, ◌≤◌, List, length, slice_get, Some, refl, sym, ap, subst, ◌∙◌, arith}
 use denote.RawPtr.{Ptr}
-use Rattle.ss_base.specs.declared.layout.Layout.{Layout}
-use Rattle.ss_base.specs.declared.layout.Owner.TheVariants.{Class}
-use Rattle.ss_records_blocks.specs.declared.store.BlockPlace.{BlockPlace}
-use Rattle.ss_records_blocks.specs.Cells.{Cells, words_at, word_of}
-use Rattle.ss_records_words.specs.Shape.{block_words}
+use Rattle.ss_records_words.proofs.Common.{block_words, BlockPlace, by_same, Cells, Class, Layout, word_of, words_at}
 use Rattle.ss_records_words.specs.Laid.{IsLaid, IsBorn, AreLaidTo}
 use Rattle.ss_records_blocks.proofs.Placings.{AreApart}
-use Rattle.ss_records_blocks.proofs.Same.{by_same}
 
 -- a new block that stays as it was
 born_same : (l : Layout) (ds es : Cells) (end p : Ptr) (c n : ℕ) → words_at es p ≡ words_at ds p → IsBorn l ds end p c n → IsBorn l es end p c n

@@ -1,11 +1,6 @@
 -- A plan is worked out a class and a set at a time.
 use Rattle.std.proofs.Common.{◌≡◌, ℕ, ◌+◌, ◌<◌, List, [], ◌∷◌, ◌++◌, length, slice_get, Some, sym, ap, subst, ◌∙◌, arith, length-append}
-use Rattle.ss_base.specs.declared.layout.SetLayout.{SetLayout}
-use Rattle.ss_base.specs.declared.layout.Layout.{Layout}
-use Rattle.ss_records_words.specs.declared.plan.Extent.{Extent}
-use Rattle.ss_records_words.specs.declared.plan.Bases.{Bases}
-use Rattle.ss_records_words.specs.Plans.{extent_of, bases_of}
-use Rattle.ss_records_blocks.proofs.Same.{by_same}
+use Rattle.ss_records_words.proofs.Common.{Bases, bases_of, by_same, Extent, extent_of, Layout, SetLayout}
 use Rattle.ss_records_words.proofs.Planning.{get_front, get_last_pushed}
 
 pub one_longer : {A : Type 0} (xs ys : List A) (x : A) (n : ℕ) → ys ≡ xs ++ x ∷ [] → length xs ≡ n → length ys ≡ n + 1

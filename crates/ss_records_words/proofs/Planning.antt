@@ -1,23 +1,14 @@
 -- What a plan holds, and how far the words of a layout reach.
 use Rattle.std.proofs.Common.{◌≡◌, ℕ, zero, suc, ◌^◌, ◌<◌, ◌≤◌, nat_le, nat_lt, Bool, true, false, ◌&&◌, subst, List, [], ◌∷◌, ◌++◌, length, Some, slice_get, refl, ◌∙◌, arith}
 use Rattle.std.specs.Prelude.{cond, IsTrue, slice_index_or}
-use Rattle.std.specs.List.{list_all}
+use Rattle.ss_records_words.proofs.Common.{Bases, Class, count_before, count_sets, Extent, get_there, joins, Layout, links_start, list_all, member_base, owned_by, owned_start, Owner, owner_base, SetLayout, System}
 use Rattle.std.proofs.lemmas.Bool.{and_parts, leb-true, ltb-true}
 use Rattle.std.proofs.lemmas.Option.{slice_get_within, get_or_from_slice_get}
-use Rattle.ss_base.specs.declared.layout.Owner.{Owner}
-use Rattle.ss_base.specs.declared.layout.Owner.TheVariants.{System, Class}
-use Rattle.ss_base.specs.declared.layout.SetLayout.{SetLayout}
-use Rattle.ss_base.specs.declared.layout.Layout.{Layout}
 use Rattle.ss_base.specs.Layout.{is_layout, is_narrow, is_sound, names_classes, owns_among}
 use Rattle.ss_base.specs.Plain.{PlainClass}
-use Rattle.ss_records_words.specs.declared.plan.Extent.{Extent}
-use Rattle.ss_records_words.specs.declared.plan.Bases.{Bases}
 use Rattle.ss_world.specs.State.{kind_of, is_notice, modes_in}
-use Rattle.ss_records_words.specs.Shape.{links_start, owned_start, joins, owned_by, count_before, count_sets}
 use Rattle.ss_records_words.specs.Kept.{IsSmall}
-use Rattle.ss_records_words.specs.Slotted.{member_base, owner_base}
 use Rattle.ss_records_words.specs.Plans.{extent_of, bases_of, IsPlan}
-use Rattle.ss_records_blocks.proofs.Entries.{get_there}
 
 one : (b : Bool) → cond b 1 0 ≤ 1
 one true = omega arith

@@ -1,7 +1,7 @@
 -- A text comes out of its words as it went in.
 use Rattle.std.proofs.Common.{◌≡◌, ℕ, zero, suc, ◌+◌, ◌-◌, ◌≤◌, ◌<◌, true, List, [], ◌∷◌, ◌++◌, length, get_or, take, drop, refl, sym, subst, T, ◌∙◌, ap, arith, lit<, length-append, length-drop, length-take-le, take-append-drop, take_all, get_or-drop}
 use Rattle.std.specs.Prelude.{Option, Some, nat_le, replicate}
-use Rattle.std.specs.List.{list_all}
+use Rattle.ss_records_words.proofs.Common.{Alpha, list_all, Text, value_of_words}
 use Rattle.std.specs.Int.{from_be_bytes, to_be_bytes}
 use Rattle.std.specs.Option.{unwrap_or}
 use Rattle.std.proofs.lemmas.Nat.{be_bytes_8}
@@ -9,11 +9,8 @@ use Rattle.std.proofs.lemmas.Bool.{and_parts, le-leb}
 use Rattle.std.proofs.lemmas.List.{drop-replicate, length-replicate}
 use Rattle.std.proofs.Math.Facts.{leb_yes}
 use mir.Syntax.{w64}
-use Rattle.ss_base.specs.declared.value.Value.TheVariants.{Text}
 use Rattle.ss_base.specs.Values.{text_limit, is_text_byte, text_of, IsText}
 use Rattle.ss_base.specs.Room.{before_zero, padded_text}
-use Rattle.ss_base.specs.declared.layout.Mode.TheVariants.{Alpha}
-use Rattle.ss_records_words.specs.Reading.{value_of_words}
 
 before_zero-padded : (text : List ℕ) (k : ℕ) → list_all is_text_byte text ≡ true → before_zero (text ++ replicate k 0) ≡ text
 before_zero-padded [] zero h = refl

@@ -2,18 +2,8 @@
 use Rattle.std.proofs.Common.{◌≡◌, ℕ, zero, suc, ◌+◌, Bool, false, List, [], ◌∷◌, length, take, slice_get, Some, refl, sym, ap, subst, ◌∙◌, arith}
 use Rattle.std.specs.Prelude.{is_some, not, nat_eq}
 use denote.RawPtr.{Ptr}
-use Rattle.ss_base.specs.declared.layout.Owner.TheVariants.{Class}
-use Rattle.ss_base.specs.declared.layout.SetLayout.{SetLayout}
-use Rattle.ss_base.specs.declared.layout.Layout.{Layout}
-use Rattle.ss_records_blocks.specs.declared.store.BlockPlace.{BlockPlace}
+use Rattle.ss_records_words.proofs.Common.{ArePartsKept, BlockPlace, by_same, Class, class_at_place, count_before, count_sets, differs, Directory, entity_at, has_members, is_filed, IsEntityOf, IsListedAt, Layout, listing, MayOwn, member_base, Members, members_of, owner_at, owner_base, place_in_record, plain, SetLayout}
 use Rattle.ss_records_blocks.specs.Cells.{Word, number, counter, link, Cells, IsLink, IsCounter, word_at}
-use Rattle.ss_world.specs.State.{Members, members_of, is_filed, has_members}
-use Rattle.ss_records_words.specs.Shape.{count_before, count_sets}
-use Rattle.ss_records_words.specs.Reading.{plain}
-use Rattle.ss_records_words.specs.Places.{Directory, IsListedAt, listing, place_in_record, entity_at, owner_at, class_at_place}
-use Rattle.ss_records_words.specs.Kept.{ArePartsKept}
-use Rattle.ss_records_words.specs.Slotted.{member_base, owner_base, IsEntityOf, MayOwn}
-use Rattle.ss_records_blocks.proofs.Same.{differs, by_same}
 use Rattle.ss_records_words.proofs.Listing.{lists_place}
 use Rattle.ss_records_words.proofs.Disjoint.{is_of}
 use Rattle.ss_records_words.proofs.Filed.{Next, next_of}

@@ -4,14 +4,9 @@ use Rattle.std.specs.Prelude.{ℤ}
 use Rattle.std.specs.Int.{cast_signed}
 use mir.Syntax.{w64}
 use denote.RawPtr.{Ptr}
-use Rattle.ss_base.specs.declared.value.Value.{Value}
-use Rattle.ss_base.specs.declared.value.Value.TheVariants.{Whole, Text}
-use Rattle.ss_base.specs.declared.layout.Mode.{Mode}
-use Rattle.ss_base.specs.declared.layout.Mode.TheVariants.{Integer, Alpha}
+use Rattle.ss_records_words.proofs.Common.{Alpha, Integer, IsValuePut, Mode, plain, put_other, Text, Value, value_at, value_of_words, Whole}
 use Rattle.ss_records_blocks.specs.Cells.{Word, number, Cells, IsNumber, word_at, put_word}
-use Rattle.ss_records_words.specs.Reading.{plain, value_of_words, value_at, IsValuePut}
 use Rattle.ss_records_blocks.proofs.Numbers.{is_number, put_seen}
-use Rattle.ss_records_blocks.proofs.Puts.{put_other}
 
 pub whole_read : (cs : Cells) (p : Ptr) (k n : ℕ) (m : Mode) (v : Value) → v ≡ Whole (cast_signed w64 n) → word_at cs p k ≡ number n → m ≡ Integer → v ≡ value_at m cs p k
 whole_read cs p k n m v e h is =

@@ -1,12 +1,7 @@
 -- Which of two ranks after the other, by one key and those after it.
 use Rattle.std.proofs.Common.{◌≡◌, ℕ, ◌+◌, ◌<◌, List, length, drop, not, ap, ◌∙◌, sym, ℤ, Ordering, suc, arith}
-use Rattle.std.specs.Prelude.{slice_index_or}
-use Rattle.std.specs.Ordering.{match_ordering}
+use Rattle.ss_sets.proofs.Common.{match_ordering, RankKey, ranks_after, slice_index_or, State, value_cmp, value_of}
 use Rattle.std.proofs.Math.Seq.{drop-cons}
-use Rattle.ss_base.specs.Order.{value_cmp}
-use Rattle.ss_base.specs.declared.layout.RankKey.{RankKey}
-use Rattle.ss_world.specs.State.{State}
-use Rattle.ss_world.specs.Disciplines.{value_of, ranks_after}
 
 pub by_key : (st : State) (c i : ℕ) (ks : List RankKey) (k : RankKey) (y x : ℤ) (order : Ordering) → i < length ks → value_cmp (value_of st c (slice_index_or ks i k).field y) (value_of st c (slice_index_or ks i k).field x) ≡ order → ranks_after st c (drop i ks) y x ≡ ranks_after st c ks y x → match_ordering order (slice_index_or ks i k).high (ranks_after st c (drop (i + 1) ks) y x) (not (slice_index_or ks i k).high) ≡ ranks_after st c ks y x
 by_key st c i ks k y x order within is so =

@@ -1,8 +1,6 @@
 -- What a first call found, where another call goes on from it.
 use Rattle.std.proofs.Common.{◌≡◌, Ok, Err, refl, sym, ap}
-use Rattle.std.specs.Prelude.{Result}
-use Rattle.ss_base.specs.declared.fault.FaultKind.{FaultKind}
-use Rattle.ss_world.specs.State.{and_then}
+use Rattle.ss_sets.proofs.Common.{and_then, FaultKind, Result}
 
 pub went_on : {A B : Type 0} (r : Result A FaultKind) (f : A → Result B FaultKind) (b : B) → Ok b ≡ and_then r f → (a : A) × (r ≡ Ok a) × (f a ≡ Ok b)
 went_on (Ok a) f b h = (a, refl, sym h)

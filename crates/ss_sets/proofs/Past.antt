@@ -1,16 +1,8 @@
 -- The first member that ranks after x, where it is looked for by a test of its own.
 use Rattle.std.proofs.Common.{◌≡◌, ℕ, zero, suc, Bool, true, false, List, [], ◌∷◌, inl, inr, Some, refl, ap, ◌∙◌, arith}
 use Rattle.std.specs.Prelude.{ℤ, pos, not, ◌<◌, length}
-use Rattle.std.specs.Ordering.{match_ordering}
-use Rattle.ss_base.specs.Order.{value_cmp}
-use Rattle.ss_base.specs.declared.value.Value.{Value}
-use Rattle.ss_base.specs.declared.layout.RankKey.{RankKey}
-use Rattle.ss_world.specs.State.{State}
-use Rattle.ss_world.specs.Lists.{IsInList}
-use Rattle.ss_world.specs.Sets.{owner, member_class, AreMembersApart}
-use Rattle.ss_world.specs.Disciplines.{value_of, ranks_after, members_passed, owned}
+use Rattle.ss_sets.proofs.Common.{AreMembersApart, as_member, first_after, IsInList, match_ordering, member_class, members_passed, owned, owner, RankKey, ranks_after, State, Value, value_cmp, value_of}
 use Rattle.ss_records.specs.Passing.{ranks_past, first_where, before_where}
-use Rattle.ss_sets.specs.Walks.{first_after, as_member}
 use Rattle.ss_sets.proofs.Walking.{member_by}
 
 -- by whether a test holds

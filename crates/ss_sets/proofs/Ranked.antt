@@ -1,16 +1,13 @@
 -- Filing by ranks is filing before the first member that ranks after, or last.
 use Rattle.std.proofs.Common.{◌≡◌, ℕ, Bool, true, false, List, [], ◌∷◌, ◌++◌, ◌==◌, ◌<◌, length, Some, None, Ok, Err, inl, inr, refl, sym, ap, subst, ◌∙◌}
 use Rattle.std.specs.Prelude.{ℤ, pos, negsuc, Option, Result, MatchResult, if◌then◌else◌}
-use Rattle.ss_base.specs.declared.fault.FaultKind.{FaultKind}
+use Rattle.ss_sets.proofs.Common.{FaultKind, filed_at, first_after, IsInList, RankKey}
 use Rattle.ss_base.specs.declared.fault.FaultKind.TheVariants.{FiledTwice, NotFiled}
 use Rattle.ss_base.specs.declared.layout.ClassKind.{ClassKind}
 use Rattle.ss_base.specs.declared.layout.ClassKind.TheVariants.{Permanent, Temporary, Notice}
-use Rattle.ss_base.specs.declared.layout.RankKey.{RankKey}
 use Rattle.ss_world.specs.State.{State, Record, and_then, entity_in, entity_of_kind, kind_of, number_in, members_of, contains, owner_of, is_filed}
-use Rattle.ss_world.specs.Lists.{IsInList}
 use Rattle.ss_world.specs.Sets.{joiner, owner, member_class, as_number, owner_of_member, put_before, put_in, put_beside, with_list_of, filed_last, filed_before, AreMembersApart}
 use Rattle.ss_world.specs.Disciplines.{ranks_after, put_ranked, members_owned_by, owned, filed_ranked}
-use Rattle.ss_sets.specs.Walks.{first_after, filed_at}
 use Rattle.ss_records.proofs.Same.{same, differs, false_is_not_true}
 use Rattle.ss_sets.proofs.Members.{went_on, stopped}
 use Rattle.ss_sets.proofs.Walking.{member_by}

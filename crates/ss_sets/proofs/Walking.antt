@@ -1,19 +1,12 @@
 -- Walking along a set from member to member.
 use Rattle.std.proofs.Common.{◌≡◌, ℕ, Bool, zero, suc, ◌<◌, true, false, List, [], ◌∷◌, length, cond, not, arith, ◌==◌, Some, None, Ok, Err, inl, inr, refl, sym, ap, subst, ◌∙◌}
-use Rattle.std.specs.Prelude.{ℤ, pos, Option, Result, IsOk}
-use Rattle.ss_base.specs.declared.fault.FaultKind.{FaultKind}
-use Rattle.ss_base.specs.declared.layout.RankKey.{RankKey}
+use Rattle.ss_sets.proofs.Common.{as_member, FaultKind, first_after, IsOk, Layout, match_ordering, Option, pos, RankKey, Result, Value, value_cmp, ℤ}
 use Rattle.std.specs.declared.cmp.Ordering.{Ordering}
-use Rattle.std.specs.Ordering.{match_ordering}
-use Rattle.ss_base.specs.Order.{value_cmp}
-use Rattle.ss_base.specs.declared.value.Value.{Value}
 use Rattle.ss_world.specs.State.{State, and_then, members_of, number_in, value_in, modes_of}
 use Rattle.ss_world.specs.Lists.{head0, IsInList, IsNotInList, AreAllDistinct}
 use Rattle.ss_world.specs.Sets.{joiner, owner, member_class, follower, members_by, companions, first_in, next_in, AreMembersApart}
 use Rattle.std.proofs.lemmas.List.Elements.{All-head, All-tail}
-use Rattle.ss_base.specs.declared.layout.Layout.{Layout}
 use Rattle.ss_world.specs.Disciplines.{AreFields, value_of, value_or_zero, ranks_after, members_passed, members_owned_by, owned}
-use Rattle.ss_sets.specs.Walks.{first_after, as_member}
 use Rattle.ss_records.proofs.Same.{same, differs, by_same}
 use Rattle.ss_sets.proofs.Members.{stopped}
 

@@ -1,10 +1,6 @@
 -- The history of the system, which is stored apart from those of the other entities.
 use Rattle.std.proofs.Common.{◌≡◌, ℤ, pos, Bool, true, false, List, Option, Some, None, cond, int_eq, refl, sym, ap, ◌∙◌}
-use Rattle.std.proofs.Math.Path.{fun_ext}
-use Rattle.std.proofs.lemmas.Bool.Decides.{Decides-int_eq}
-use Rattle.ss_stats.specs.History.{History, restarted}
-use Rattle.ss_meaning.specs.Store.{Column}
-use Rattle.ss_stats_histories.specs.Records.{Rows, found_in, by_number, column_of, noted_value, noted_to, noted_column, renewed_to, renewed_column}
+use Rattle.ss_stats_histories.proofs.Common.{by_number, Column, column_of, Decides-int_eq, found_in, fun_ext, History, noted_column, noted_to, noted_value, renewed_column, renewed_to, restarted, Rows}
 use Rattle.ss_stats_histories.proofs.Rising.{found_by_number, same_by_number}
 
 -- that of the system, and those of the others by their numbers

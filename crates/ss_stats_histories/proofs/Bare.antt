@@ -1,11 +1,7 @@
 -- Statistics that keep their histories as they were.
 use Rattle.std.proofs.Common.{◌≡◌, zero, suc, ℤ, pos, Bool, true, false, cond, int_eq, List, [], ◌∷◌, map, get_or, All, Option, None, sym, ap, ◌∙◌, subst, refl, arith}
-use Rattle.std.proofs.Math.Path.{fun_ext}
-use Rattle.ss_stats.specs.History.{History}
-use Rattle.ss_program.specs.declared.sections.Statistic.{Statistic}
+use Rattle.ss_stats_histories.proofs.Common.{bare, column_of, columns_of, fun_ext, History, IsKeptUntil, IsUntil, none_in, none_yet, Recorded, Rows, rows_of, shown, Statistic, StatisticHistories}
 use Rattle.ss_meaning.specs.Histories.{no_histories}
-use Rattle.ss_stats_histories.specs.Records.{Recorded, Rows, column_of, columns_of, IsUntil, rows_of, none_yet, none_in}
-use Rattle.ss_stats_histories.specs.Each.{StatisticHistories, shown, bare, IsKeptUntil}
 use Rattle.ss_stats_histories.proofs.Columns.{head_of, tail_of, not_none, joined, none_is}
 
 pub until_bare : (latest : ℤ) (ks ns : List Recorded) → map bare ns ≡ map bare ks → All (IsKeptUntil latest) ks → All (IsKeptUntil latest) ns

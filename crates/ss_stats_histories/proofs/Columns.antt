@@ -1,20 +1,12 @@
 -- Histories until a moment, and lists of which one item is changed.
 use Rattle.std.proofs.Common.{◌≡◌, ℕ, zero, suc, Bool, true, false, ◌&&◌, ◌||◌, ◌<◌, ◌≤◌, ◌+◌, ◌≤ℤ◌, ◌+ℤ◌, int_le, ℤ, cond, List, [], ◌∷◌, ◌++◌, length, map, take, drop, Option, Some, None, slice_set, get_or, All, ◌∙◌, sym, ap, subst, int_eq, pos, refl, arith}
-use Rattle.std.proofs.lemmas.Int.{ints}
-use Rattle.std.proofs.lemmas.Bool.Decides.{Decides-int_eq}
-use Rattle.std.proofs.Math.Path.{fun_ext}
+use Rattle.ss_stats_histories.proofs.Common.{at_start, begun_in, changed_at, Column, Decides-int_eq, ended_in, fun_ext, HasRoom, HasRooms, ints, is_up_to, IsUntil, Layout, noted_column, noted_to, noted_value, Owner, Recorded, renewed_column, renewed_to, rooms_of, statistics_of}
 use Rattle.std.proofs.lemmas.List.{append-nil}
 use Rattle.std.proofs.Math.Seq.{take-length}
 use Rattle.std.proofs.Math.ListN.{drop_of_length-le}
-use Rattle.ss_base.specs.declared.layout.Owner.{Owner}
-use Rattle.ss_base.specs.declared.layout.Layout.{Layout}
 use Rattle.ss_base.specs.declared.words.Weighting.{Weighting}
 use Rattle.ss_base.specs.declared.words.Weighting.TheVariants as weightings
 use Rattle.ss_stats.specs.History.{History, Tally, Accumulate, Change, last_of, last_moment, is_full, with_noted_value, restarted}
-use Rattle.ss_meaning.specs.Store.{Column}
-use Rattle.ss_meaning.specs.Histories.{at_start, begun_in, ended_in}
-use Rattle.ss_stats_histories.specs.Records.{Recorded, IsUntil, noted_to, noted_value, noted_column, renewed_to, renewed_column, statistics_of, rooms_of, HasRooms, is_up_to}
-use Rattle.ss_stats_histories.specs.Each.{changed_at, HasRoom}
 
 -- ## Histories until a moment
 

@@ -1,14 +1,8 @@
 -- When a history takes no further value.
 use Rattle.std.proofs.Common.{◌≡◌, ℕ, zero, suc, true, false, ◌<◌, ◌+◌, if◌then◌else◌, ℤ, List, [], ◌∷◌, ◌++◌, length, map, take, get_or, Option, Some, None, is_some, slice_get, Result, Ok, Err, is_ok, subst, sym, ap, ◌∙◌, refl, arith}
-use Rattle.std.specs.Prelude.{⊤}
-use Rattle.std.specs.Option.{option_or}
-use Rattle.std.proofs.lemmas.List.{take_more}
+use Rattle.ss_stats_histories.proofs.Common.{column_of, first_at, has_at, option_or, Overflow, Recorded, refused_at, refused_in, shown, take_more, Unnoted, ⊤}
 use Rattle.ss_base.specs.declared.fault.FaultKind.{FaultKind}
-use Rattle.ss_base.specs.declared.fault.FaultKind.TheVariants.{Overflow}
 use Rattle.ss_stats.specs.History.{History, is_full, note_outcome}
-use Rattle.ss_stats_histories.specs.declared.unnoted.Unnoted.{Unnoted}
-use Rattle.ss_stats_histories.specs.Records.{Recorded, column_of}
-use Rattle.ss_stats_histories.specs.Each.{shown, refused_in, refused_at, first_at, has_at}
 
 not_both : true ≡ false → ⊥
 not_both e = cc

@@ -1,3 +1,4 @@
+mod Common
 pub mod Values
 mod Rising
 mod Apart

@@ -3,24 +3,15 @@ use Rattle.std.proofs.Common.{◌≡◌, ℕ, zero, suc, ◌<◌, length, All, a
 use Rattle.std.specs.Option.{option_map, option_or}
 use Rattle.ss_program.specs.declared.expression.Fold.{Fold}
 use Rattle.ss_program.specs.declared.expression.Fold.TheVariants.{Number, Sum, Maximum, Minimum}
-use Rattle.ss_base.specs.declared.fault.FaultKind.TheVariants.{Overflow}
+use Rattle.ss_stats_histories.proofs.Common.{bare, begun_shown, changed_at, Class, Column, ended_shown, first_at, has_at, is_about, Layout, noted_by, Overflow, Owner, places_where, refused_at, refused_in, renewed_one, shown, Statistic, StatisticHistories, stops_at, Subject, Unnoted}
 use Rattle.ss_base.specs.declared.value.Value.{Value}
 use Rattle.ss_base.specs.declared.value.Value.TheVariants.{Whole, Text}
-use Rattle.ss_base.specs.declared.layout.Owner.{Owner}
-use Rattle.ss_base.specs.declared.layout.Owner.TheVariants.{Class}
-use Rattle.ss_base.specs.declared.layout.Layout.{Layout}
 use Rattle.ss_stats.specs.History.{History, mean_of, is_full, with_noted_value, restarted}
-use Rattle.ss_program.specs.declared.sections.Subject.{Subject}
-use Rattle.ss_program.specs.declared.sections.Statistic.{Statistic}
 use Rattle.ss_meaning.specs.Values.{Failure, TypeError, if_ok, turned, due, sure, unless_fault}
-use Rattle.ss_meaning.specs.Store.{Column}
 use Rattle.ss_meaning.specs.Histories.{starting, ending, noting_in, all_noting, with_history, history_of_subject, folded, renewed}
-use Rattle.ss_stats_histories.specs.declared.unnoted.Unnoted.{Unnoted}
 use Rattle.ss_stats_histories.specs.declared.unnoted.Unnoted.TheVariants.{Full}
 use Rattle.ss_stats_histories.specs.declared.unnoted.Unnoted.TheVariants as unnoted
-use Rattle.ss_stats_histories.specs.Places.{places_where, is_about}
 use Rattle.ss_stats_histories.specs.Records.{Records, Recorded, Rows, column_of, columns_of, statistics_of, rows_of, rooms_of, noted_to, renewed_to, figure_of, figured, mean_in, why}
-use Rattle.ss_stats_histories.specs.Each.{StatisticHistories, shown, bare, begun_shown, ended_shown, noted_by, renewed_one, changed_at, refused_in, refused_at, stops_at, first_at, has_at}
 use Rattle.ss_stats_histories.proofs.Columns.{head_of, tail_of, not_none, joined}
 
 -- what a contract sees of the statistics and a moment

@@ -1,10 +1,7 @@
 -- What noting a number at one place changes.
 use Rattle.std.proofs.Common.{◌≡◌, ℕ, ℤ, List, [], ◌∷◌, length, map, fold, get_or, Ok, Err, Some, None, Result, sym, ap, ◌∙◌, arith}
 use Rattle.std.specs.Prelude.{MatchResult}
-use Rattle.ss_base.specs.declared.value.Value.TheVariants.{Whole}
-use Rattle.ss_stats_histories.specs.declared.unnoted.Unnoted.{Unnoted}
-use Rattle.ss_stats_histories.specs.Records.{Recorded}
-use Rattle.ss_stats_histories.specs.Each.{shown, refused_at, stops_at, first_at, noted_one, noted_by, changed_at}
+use Rattle.ss_stats_histories.proofs.Common.{changed_at, first_at, noted_by, noted_one, Recorded, refused_at, shown, stops_at, Unnoted, Whole}
 use Rattle.ss_stats_histories.proofs.Fullness.{or_none}
 
 pub the_one : (ps : List ℕ) (p : ℕ) → length ps ≡ 1 → p ≡ get_or ps 0 0 → ps ≡ p ∷ []

@@ -1,11 +1,9 @@
 -- Entities with their histories by rising numbers: lists that have the same histories are one list then.
 use Rattle.std.proofs.Common.{◌≡◌, ℤ, Bool, true, false, List, [], ◌∷◌, ◌<ℤ◌, Some, None, cond, if◌then◌else◌, int_eq, refl, sym, ap, ◌∙◌, subst, arith}
 use Rattle.std.specs.Prelude.{⊤, int_lt}
-use Rattle.std.proofs.lemmas.Int.{ints}
+use Rattle.ss_stats_histories.proofs.Common.{Decides-int_eq, History, ints}
 use Rattle.std.proofs.lemmas.Cmp.{int_eq_equiv}
-use Rattle.std.proofs.lemmas.Bool.Decides.{Decides-int_eq}
 use Rattle.std.proofs.lemmas.Option.{none-some, same_Some}
-use Rattle.ss_stats.specs.History.{History}
 use Rattle.ss_stats_histories.specs.Records.{found_in, placed_in, by_number}
 
 not_both : true ≡ false → ⊥

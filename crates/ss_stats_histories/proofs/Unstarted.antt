@@ -1,8 +1,6 @@
 -- Statistics of which no history started yet.
 use Rattle.std.proofs.Common.{◌≡◌, ℕ, ◌+◌, ◌<◌, List, [], ◌∷◌, ◌++◌, length, map, take, get_or, sym, ap, ◌∙◌}
-use Rattle.std.proofs.lemmas.List.{take_more, map-append}
-use Rattle.ss_program.specs.declared.sections.Statistic.{Statistic}
-use Rattle.ss_stats_histories.specs.Records.{Recorded, statistics_of, rows_of, none_yet, none_in}
+use Rattle.ss_stats_histories.proofs.Common.{map-append, none_in, none_yet, Recorded, rows_of, Statistic, statistics_of, take_more}
 
 pub statistic_more : (ks ns : List Recorded) (k : Recorded) (ss : List Statistic) (i : ℕ) (d : Statistic) → i < length ss → k.statistic ≡ get_or ss i d → ns ≡ ks ++ k ∷ [] →
     statistics_of ks ≡ take i ss → statistics_of ns ≡ take (i + 1) ss

@@ -1,11 +1,7 @@
 -- One breach, where a rule is broken, and names that are declared as two things.
 use Rattle.std.proofs.Common.{◌≡◌, not, nat_lt, Bool, true, false, cond, List, [], ◌∷◌, map, option_map, Option, Some, None, refl, ap, ◌∙◌}
-use Rattle.std.specs.List.{fold}
-use Rattle.ss_base.specs.declared.line.Line.{Line}
-use Rattle.ss_names_declarations.specs.Earliest.{earlier, earlier_of, unless}
+use Rattle.ss_tables_rules.proofs.Common.{earlier, earlier_of, fold, Line, table_error_order, TableError, unless}
 use Rattle.ss_names.specs.Filling.{sooner}
-use Rattle.ss_tables_rules.specs.Order.{table_error_order}
-use Rattle.ss_tables_rules.specs.declared.error.TableError.{TableError}
 use Rattle.ss_tables_rules.specs.declared.error.TableError.TheVariants as e
 
 -- the breach of a rule that is broken in this case

@@ -1,11 +1,8 @@
 -- A key is foreign to one of some classes exactly if the first of them isn't its own, or another is none of the first.
 use Rattle.std.proofs.Common.{◌≡◌, ℕ, inl, inr, nat_eq, not, ◌||◌, Bool, true, false, List, [], ◌∷◌, map, Option, Some, None, refl, sym, ap, subst, ◌∙◌}
 use Rattle.std.specs.List.{fold, list_any}
-use Rattle.std.specs.Option.{option_or}
+use Rattle.ss_tables_rules.proofs.Common.{is_foreign, is_foreign_to_any, member_named, NameBytes, option_or, Table}
 use Rattle.std.proofs.lemmas.Bool.Decides.{eqb_tells}
-use Rattle.ss_tree.specs.Names.{NameBytes}
-use Rattle.ss_names.specs.Table.{Table}
-use Rattle.ss_tables_rules.specs.Keys.{is_foreign, is_foreign_to_any, member_named}
 
 or_true : (b : Bool) → true ≡ (b || true)
 or_true true = refl

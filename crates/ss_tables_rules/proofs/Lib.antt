@@ -1,3 +1,4 @@
+mod Common
 mod Finding
 mod Repeats
 mod Foreign

@@ -1,21 +1,13 @@
 -- What may be said once, by keys.
 use Rattle.std.proofs.Common.{◌≡◌, ℕ, ◌+◌, ◌<◌, ◌||◌, Bool, true, false, cond, List, [], ◌∷◌, ◌++◌, length, get_or, map, drop, Option, Some, None, refl, sym, ap, ◌∙◌}
-use Rattle.std.specs.List.{fold}
+use Rattle.ss_tables_rules.proofs.Common.{Declaration, earlier, earlier_of, earlier_of_list, fold, fold-append, Line, Table, table_error_order, TableError}
 use Rattle.std.proofs.lemmas.List.{at_drop_more, map_push}
-use Rattle.std.proofs.lemmas.List.Sums.{fold-append}
-use Rattle.ss_base.specs.declared.line.Line.{Line}
-use Rattle.ss_names_declarations.specs.Earliest.{earlier, earlier_of}
 use Rattle.ss_names_declarations.specs.declared.declaration.Declared.{Declared}
-use Rattle.ss_names_declarations.specs.declared.declaration.Declaration.{Declaration}
-use Rattle.ss_names.specs.Table.{Table}
 use Rattle.ss_tables_rules.specs.declared.once.Once.{Once}
 use Rattle.ss_tables_rules.specs.declared.once.Once.TheVariants as o
-use Rattle.ss_tables_rules.specs.declared.error.TableError.{TableError}
 use Rattle.ss_tables_rules.specs.Keyed.{OnceKey, again_by_key, has_key, key_if, key_of, repeats_by_key, same_key, with_key}
 use Rattle.ss_tables_rules.specs.Once.{again, is_among, once_of, repeats_after, repeated_breach, same_once, once_added}
-use Rattle.ss_tables_rules.specs.Order.{table_error_order}
 use Rattle.std.specs.Prelude.{option_to_list}
-use Rattle.ss_names_scopes.proofs.Finding.{earlier_of_list}
 
 -- ---- keys
 

@@ -1,9 +1,7 @@
 use Rattle.std.proofs.Common.{◌≡◌, ℕ, nat_le, Bool, true, [], length, get_or, Option, sym, ap, ◌∙◌}
 use Rattle.std.specs.Prelude.{◌==◌}
 use Rattle.std.specs.Option.{option_map_or}
-use Rattle.ss_names_declarations.specs.NameTable.{place_in, value_for}
-use Rattle.ss_names.specs.declared.entry.RoutineSection.{RoutineSection}
-use Rattle.ss_names.specs.Table.{Table}
+use Rattle.ss_check_rules.proofs.Common.{place_in, RoutineSection, Table, value_for}
 use Rattle.ss_check_rules.specs.Counts.{suits_count}
 use Rattle.ss_check_rules.proofs.counts.suits_count.Goals as goal
 

@@ -1,10 +1,6 @@
 use Rattle.std.proofs.Common.{◌≡◌, ℕ, ◌+◌, Option, sym, ap, ◌∙◌}
-use Rattle.std.specs.Prelude.{option_and_then}
-use Rattle.ss_names_declarations.specs.NameTable.{place_in, value_for}
-use Rattle.ss_names.specs.declared.entry.RoutineSection.{RoutineSection}
-use Rattle.ss_names.specs.Table.{Table}
+use Rattle.ss_check_rules.proofs.Common.{option_and_then, place_in, RoutineSection, Table, value_for, view_scope}
 use Rattle.ss_names_scopes.specs.Scopes.{Scope, parameter_mode}
-use Rattle.ss_names_scopes.specs.Seen.{view_scope}
 use Rattle.ss_check_rules.specs.Modes.{attribute_mode, mode_of_use}
 use Rattle.ss_check_rules.proofs.places.mode_of_use.Goals as goal
 

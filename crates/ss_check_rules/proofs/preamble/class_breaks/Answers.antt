@@ -1,10 +1,6 @@
 use Rattle.std.proofs.Common.{is_some, sym, ap, ◌∙◌}
-use Rattle.std.specs.List.{fold}
+use Rattle.ss_check_rules.proofs.Common.{check_error_order, earlier, earlier_of, earlier_of_list, fold, unless, value_for}
 use Rattle.ss_base.specs.declared.layout.ClassKind.{ClassKind}
-use Rattle.ss_names_declarations.specs.Earliest.{earlier, earlier_of, unless}
-use Rattle.ss_names_declarations.specs.NameTable.{value_for}
-use Rattle.ss_names_scopes.proofs.Finding.{earlier_of_list}
-use Rattle.ss_check_rules.specs.Order.{check_error_order}
 use Rattle.ss_check_rules.specs.Refusal.{eventless_of}
 use Rattle.ss_check_rules.specs.declared.error.CheckError.TheVariants as e
 use Rattle.ss_check_rules.proofs.preamble.class_breaks.Goals as goal

@@ -1,9 +1,5 @@
 use Rattle.std.proofs.Common.{is_some, ap, ◌∙◌}
-use Rattle.ss_names_declarations.specs.Earliest.{earlier, earlier_of, unless}
-use Rattle.ss_names_declarations.specs.NameTable.{value_for}
-use Rattle.ss_names_scopes.proofs.Finding.{earlier_of_list, found_after}
-use Rattle.ss_check_rules.specs.Order.{check_error_order}
-use Rattle.ss_check_rules.specs.Refusal.{eventless}
+use Rattle.ss_check_rules.proofs.Common.{check_error_order, earlier, earlier_of, earlier_of_list, eventless, found_after, unless, value_for}
 use Rattle.ss_check_rules.specs.declared.error.CheckError.TheVariants as e
 use Rattle.ss_check_rules.proofs.preamble.notices_break.Goals as goal
 

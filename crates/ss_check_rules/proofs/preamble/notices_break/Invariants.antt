@@ -1,8 +1,5 @@
 use Rattle.std.proofs.Common.{◌≡◌, take}
-use Rattle.std.specs.List.{flat_map, fold}
-use Rattle.ss_names_declarations.specs.Earliest.{earlier}
-use Rattle.ss_check_rules.specs.Order.{check_error_order}
-use Rattle.ss_check_rules.specs.Refusal.{eventless}
+use Rattle.ss_check_rules.proofs.Common.{check_error_order, earlier, eventless, flat_map, fold}
 use Rattle.ss_check_rules.proofs.preamble.notices_break.Given as goal
 
 abbrev pub invariant-loop-class : goal.invariant-loop-class

@@ -1,8 +1,4 @@
-use Rattle.ss_tree.specs.View.{view_preamble}
-use Rattle.ss_names_declarations.specs.Earliest.{earlier}
-use Rattle.ss_names_scopes.proofs.Finding.{viewed_after}
-use Rattle.ss_check_rules.specs.Order.{check_error_order}
-use Rattle.ss_check_rules.specs.Refusal.{in_preamble}
+use Rattle.ss_check_rules.proofs.Common.{check_error_order, earlier, in_preamble, view_preamble, viewed_after}
 use Rattle.ss_check_rules.proofs.preamble.preamble_breaks.Goals as goal
 
 pub loop-statement-preserved : goal.loop-statement-preserved

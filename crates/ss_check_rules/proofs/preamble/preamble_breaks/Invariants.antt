@@ -1,9 +1,5 @@
 use Rattle.std.proofs.Common.{◌≡◌, map, take}
-use Rattle.std.specs.List.{flat_map, fold}
-use Rattle.ss_tree.specs.View.{view_preamble}
-use Rattle.ss_names_declarations.specs.Earliest.{earlier}
-use Rattle.ss_check_rules.specs.Order.{check_error_order}
-use Rattle.ss_check_rules.specs.Refusal.{in_preamble}
+use Rattle.ss_check_rules.proofs.Common.{check_error_order, earlier, flat_map, fold, in_preamble, view_preamble}
 use Rattle.ss_check_rules.proofs.preamble.preamble_breaks.Given as goal
 
 abbrev pub invariant-loop-statement : goal.invariant-loop-statement

@@ -1,12 +1,6 @@
 use Rattle.std.proofs.Common.{List, sym, ap, ◌∙◌}
-use Rattle.std.specs.List.{flat_map, fold}
+use Rattle.ss_check_rules.proofs.Common.{check_error_order, earlier, earlier_of, earlier_of_list, flat_map, fold, PreambleStatement, value_for, view_preamble}
 use Rattle.ss_tree.specs.Names.{NameBytes}
-use Rattle.ss_tree.specs.View.{view_preamble}
-use Rattle.ss_tree.specs.declared.preamble.PreambleStatement.{PreambleStatement}
-use Rattle.ss_names_declarations.specs.Earliest.{earlier, earlier_of}
-use Rattle.ss_names_declarations.specs.NameTable.{value_for}
-use Rattle.ss_names_scopes.proofs.Finding.{earlier_of_list}
-use Rattle.ss_check_rules.specs.Order.{check_error_order}
 use Rattle.ss_check_rules.specs.Refusal.{eventless, in_preamble, subject_breaks}
 use Rattle.ss_check_rules.proofs.preamble.statement_breaks.Goals as goal
 

@@ -1,8 +1,6 @@
 use Rattle.std.proofs.Common.{map, ap, ◌∙◌}
 use Rattle.std.proofs.lemmas.List.{map_push}
-use Rattle.ss_tree.specs.View.{view_section}
-use Rattle.ss_names_uses.specs.Uses.{uses}
-use Rattle.ss_names_scopes.specs.Locals.{uses_seen}
+use Rattle.ss_check_rules.proofs.Common.{uses, uses_seen, view_section}
 use Rattle.ss_names_scopes.proofs.Finding.{mapped_after}
 use Rattle.ss_check_rules.proofs.program.all_uses.Goals as goal
 

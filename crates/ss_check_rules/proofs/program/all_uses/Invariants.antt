@@ -1,7 +1,5 @@
 use Rattle.std.proofs.Common.{◌≡◌, map, take}
-use Rattle.ss_tree.specs.View.{view_section}
-use Rattle.ss_names_uses.specs.Uses.{uses}
-use Rattle.ss_names_scopes.specs.Locals.{uses_seen}
+use Rattle.ss_check_rules.proofs.Common.{uses, uses_seen, view_section}
 use Rattle.ss_check_rules.proofs.program.all_uses.Given as goal
 
 abbrev pub invariant-loop-section : goal.invariant-loop-section

@@ -1,15 +1,7 @@
 use Rattle.std.proofs.Common.{◌≡◌, List, length, map, sym, ap, ◌∙◌}
-use Rattle.std.specs.Global.{Vec}
-use Rattle.std.proofs.lemmas.List.{length-map}
+use Rattle.ss_check_rules.proofs.Common.{check_error_order, length-map, locals, locals_of, Moded, PreambleStatement, Section, Table, Use, uses, uses_seen, Vec}
 use Rattle.ss_tree.specs.View.{view_preamble, view_program_tree, view_section}
-use Rattle.ss_tree.specs.declared.preamble.PreambleStatement.{PreambleStatement}
-use Rattle.ss_tree.specs.declared.program.Section.{Section}
-use Rattle.ss_names.specs.Table.{Table}
 use Rattle.ss_names_declarations.specs.Earliest.{earliest}
-use Rattle.ss_names_uses.specs.Uses.{uses}
-use Rattle.ss_names_uses.specs.declared.used.Use.{Use}
-use Rattle.ss_names_scopes.specs.Locals.{Moded, locals, locals_of, uses_seen}
-use Rattle.ss_check_rules.specs.Order.{check_error_order}
 use Rattle.ss_check_rules.specs.Refusal.{breaches}
 use Rattle.ss_check_rules.proofs.SectionBreaks.{locals_by_uses}
 use Rattle.ss_check_rules.proofs.program.judge.Goals as goal

@@ -1,9 +1,5 @@
 use Rattle.std.proofs.Common.{◌≡◌, true, false, cond, [], ◌∷◌, map, sym, ap, ◌∙◌}
-use Rattle.std.specs.List.{fold, list_any}
-use Rattle.ss_tree.specs.View.{view_section}
-use Rattle.ss_names_declarations.specs.Earliest.{earlier}
-use Rattle.ss_check_rules.specs.Order.{check_error_order}
-use Rattle.ss_names_scopes.specs.Scopes.{is_main_section}
+use Rattle.ss_check_rules.proofs.Common.{check_error_order, earlier, fold, is_main_section, list_any, view_section}
 use Rattle.ss_check_rules.specs.declared.error.CheckError.TheVariants as e
 use Rattle.ss_check_rules.proofs.SectionBreaks.{any_viewed}
 use Rattle.ss_check_rules.proofs.program.program_breaks.Goals as goal

@@ -1,11 +1,7 @@
 use Rattle.std.proofs.Common.{◌++◌, Option, None, map, sym, ap, ◌∙◌}
-use Rattle.std.specs.List.{flat_map, fold}
+use Rattle.ss_check_rules.proofs.Common.{check_error_order, CheckError, earlier, flat_map, fold, view_preamble, view_section}
 use Rattle.std.proofs.lemmas.List.Sums.{fold-append}
-use Rattle.ss_tree.specs.View.{view_preamble, view_section}
-use Rattle.ss_names_declarations.specs.Earliest.{earlier}
-use Rattle.ss_check_rules.specs.Order.{check_error_order}
 use Rattle.ss_check_rules.specs.Refusal.{in_preamble, in_program, breaches_in_section}
-use Rattle.ss_check_rules.specs.declared.error.CheckError.{CheckError}
 use Rattle.ss_check_rules.proofs.program.program_judged.Goals as goal
 
 pub sections_break-requires : goal.sections_break-requires

@@ -1,13 +1,5 @@
 use Rattle.std.proofs.Common.{◌<◌, List, length, map, ap, ◌∙◌, arith}
-use Rattle.std.specs.List.{flat_map, fold}
-use Rattle.ss_tree.specs.View.{view_section}
-use Rattle.ss_names_declarations.specs.Earliest.{earlier}
-use Rattle.ss_names_uses.specs.declared.used.Use.{Use}
-use Rattle.ss_names_scopes.specs.Scopes.{Scope}
-use Rattle.ss_names_scopes.proofs.Finding.{viewed_after}
-use Rattle.ss_check_rules.specs.Order.{check_error_order}
-use Rattle.ss_check_rules.specs.Refusal.{breaks, breaches_in_section}
-use Rattle.ss_check_rules.specs.declared.error.CheckError.{CheckError}
+use Rattle.ss_check_rules.proofs.Common.{breaches_in_section, breaks, check_error_order, CheckError, earlier, flat_map, fold, Scope, Use, view_section, viewed_after}
 use Rattle.ss_check_rules.proofs.SectionBreaks.{section_more}
 use Rattle.ss_check_rules.proofs.program.sections_break.Goals as goal
 

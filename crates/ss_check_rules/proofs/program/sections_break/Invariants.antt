@@ -1,9 +1,5 @@
 use Rattle.std.proofs.Common.{◌≡◌, map, take}
-use Rattle.std.specs.List.{flat_map, fold}
-use Rattle.ss_tree.specs.View.{view_section}
-use Rattle.ss_names_declarations.specs.Earliest.{earlier}
-use Rattle.ss_check_rules.specs.Order.{check_error_order}
-use Rattle.ss_check_rules.specs.Refusal.{breaches_in_section}
+use Rattle.ss_check_rules.proofs.Common.{breaches_in_section, check_error_order, earlier, flat_map, fold, view_section}
 use Rattle.ss_check_rules.proofs.program.sections_break.Given as goal
 
 abbrev pub invariant-loop-number : goal.invariant-loop-number

@@ -1,8 +1,5 @@
 use Rattle.std.proofs.Common.{ap, ◌∙◌}
-use Rattle.ss_names_declarations.specs.Earliest.{earlier, earlier_of}
-use Rattle.ss_names_scopes.specs.Seen.{view_scope}
-use Rattle.ss_names_scopes.proofs.Finding.{earlier_of_list, found_after}
-use Rattle.ss_check_rules.specs.Order.{check_error_order}
+use Rattle.ss_check_rules.proofs.Common.{check_error_order, earlier, earlier_of, earlier_of_list, found_after, view_scope}
 use Rattle.ss_check_rules.specs.Refusal.{breaks, use_breaks}
 use Rattle.ss_check_rules.proofs.sections.section_breaks.Goals as goal
 

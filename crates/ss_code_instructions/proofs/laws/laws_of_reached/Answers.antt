@@ -1,7 +1,6 @@
-use Rattle.ss_meaning.proofs.Whole.{first_fits}
+use Rattle.ss_code_instructions.proofs.Common.{first_fits, ReachedFits}
 use Rattle.ss_code_instructions.proofs.ShapingPrograms.{has_shape as shape_so}
 use Rattle.ss_code_instructions.proofs.ShapeKept.{shape_stays as stays_so}
-use Rattle.ss_code_instructions.specs.Reached.{ReachedFits}
 use Rattle.ss_code_instructions.proofs.Arriving.{reached_fits as fits_so, reached_goes as goes_so}
 use Rattle.ss_code_instructions.proofs.Inputs.{input_stays as input_so}
 use Rattle.ss_code_instructions.proofs.Bounding.{steps_fall as fall_so}

@@ -2,10 +2,7 @@ use Rattle.std.proofs.Common.{ap, sym, ◌∙◌, Err, subst}
 use Rattle.std.specs.Prelude.{IfOk}
 use Rattle.ss_tree.specs.View.{view_program_tree as tree_seen}
 use Rattle.ss_program.specs.View.{view_program}
-use Rattle.ss_code.specs.Running.{IsFor}
-use Rattle.ss_code_instructions.specs.Running.{IsFaithful}
-use Rattle.ss_code_instructions.specs.Translation.{code_of}
-use Rattle.ss_engine.specs.Refusals.{coded, lexed, parsed, used}
+use Rattle.ss_engine.proofs.Common.{code_of, coded, IsFaithful, IsFor, lexed, parsed, used}
 use Rattle.ss_engine.specs.Accepting.{IsTreeOf, IsKeptBy, IsProgramOf, IsCompiledTo, IsRefusedWith}
 use Rattle.ss_engine.proofs.Fronts.{lexer_refused, parser_refused, tables_refused, checker_refused, generator_refused, refused_so}
 use Rattle.ss_engine.proofs.compiling.compile.Goals as goal

@@ -1,9 +1,5 @@
 use Rattle.std.proofs.Common.{◌≡◌, sym, ap, subst, ◌∙◌}
-use Rattle.ss_base.specs.Failures.{HasRisen}
-use Rattle.ss_machine.specs.declared.stop.Stop.TheVariants.{Memory, Output, Input}
-use Rattle.ss_engine.specs.Sessions.{session_machine, session_reader, session_writer}
-use Rattle.ss_engine.specs.Headline.{IsSimulated}
-use Rattle.ss_engine.specs.Cuts.{HasBeenCut}
+use Rattle.ss_engine.proofs.Common.{HasBeenCut, HasRisen, Input, IsSimulated, Memory, Output, session_machine, session_reader, session_writer}
 use Rattle.ss_engine.proofs.Headline.{nothing_simulated}
 use Rattle.ss_engine.proofs.Cuts.{nothing_cut}
 use Rattle.ss_engine.proofs.LastRun.{last_run}

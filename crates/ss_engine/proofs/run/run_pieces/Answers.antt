@@ -1,7 +1,5 @@
 use Rattle.std.proofs.Common.{rules, arith, ◌≡◌, ◌+◌, [], refl, sym, ap, ◌∙◌, take, drop, length, ◌∷◌}
-use Rattle.std.specs.List.{sum}
-use Rattle.ss_machine.specs.declared.stop.Stop.TheVariants.{Paused}
-use Rattle.ss_engine.specs.Sessions.{session_machine, last_stop}
+use Rattle.ss_engine.proofs.Common.{last_stop, Paused, session_machine, sum}
 use Rattle.ss_engine.proofs.Handing.{next_piece, next_run, no_runs, runs_so_far, some_used, more_used, all_used, no_sum, all_handed}
 use Rattle.ss_engine.proofs.Running.{kept_stop, runs_last}
 use Rattle.ss_engine.proofs.run.run_pieces.Goals as goal

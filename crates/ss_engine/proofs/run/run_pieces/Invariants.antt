@@ -1,9 +1,5 @@
 use Rattle.std.proofs.Common.{◌≡◌, ◌+◌, ◌≤◌, [], take}
-use Rattle.std.specs.List.{sum}
-use Rattle.ss_code.specs.Running.{Generated}
-use Rattle.ss_machine.specs.declared.stop.Stop.TheVariants.{Paused, Failed}
-use Rattle.ss_engine.specs.Headline.{handed_out}
-use Rattle.ss_engine.specs.Sessions.{IsNewSession, CanGoOn, HasRun, HasBeenRun, session_machine, last_stop}
+use Rattle.ss_engine.proofs.Common.{CanGoOn, Failed, Generated, handed_out, HasBeenRun, HasRun, IsNewSession, last_stop, Paused, session_machine, sum}
 use Rattle.ss_engine.proofs.run.run_pieces.Given as goal
 
 abbrev pub invariant-loop-ticks : goal.invariant-loop-ticks

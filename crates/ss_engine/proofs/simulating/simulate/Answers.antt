@@ -1,7 +1,5 @@
 use Rattle.std.proofs.Common.{subst}
-use Rattle.ss_base.specs.Failures.{HasRisen}
-use Rattle.ss_machine.specs.declared.stop.Stop.TheVariants.{Output, Input}
-use Rattle.ss_engine.specs.LastRun.{HasLastRun}
+use Rattle.ss_engine.proofs.Common.{HasLastRun, HasRisen, Input, Output}
 use Rattle.ss_engine.proofs.LastRun.{stopped_same}
 use Rattle.ss_engine.proofs.simulating.simulate.Goals as goal
 

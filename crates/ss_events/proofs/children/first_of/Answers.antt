@@ -1,7 +1,6 @@
 use Rattle.std.proofs.Common.{◌≡◌, ℕ, Bool, true, false, if◌then◌else◌}
 use mir.Val.{bool_byte}
-use Rattle.ss_world.specs.Order.{comes_before}
-use Rattle.ss_events_entries.proofs.EntryOrder.{entries_rank}
+use Rattle.ss_events.proofs.Common.{comes_before, entries_rank}
 use Rattle.ss_events_entries.proofs.Heaps.{first_by}
 use Rattle.ss_events.proofs.children.first_of.Goals as goal
 

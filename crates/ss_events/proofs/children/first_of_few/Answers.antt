@@ -1,7 +1,6 @@
 use Rattle.std.proofs.Common.{◌+◌, ap, subst, arith}
 use Rattle.ss_events_entries.specs.HeapOrder.{IsFirstOf}
-use Rattle.ss_world.specs.Order.{comes_before}
-use Rattle.ss_events_entries.proofs.EntryOrder.{entries_rank}
+use Rattle.ss_events.proofs.Common.{comes_before, entries_rank}
 use Rattle.ss_events_entries.proofs.Heaps.{only, pair, joined}
 use Rattle.ss_events.proofs.children.first_of_few.Goals as goal
 

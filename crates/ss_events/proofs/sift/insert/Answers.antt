@@ -1,9 +1,5 @@
 use Rattle.std.proofs.Common.{◌≡◌, ℤ, Bool, false, w64, to_z, of_z, sym, subst, to_z-of_z}
-use Rattle.ss_events_entries.specs.declared.entry.Entry.{Entry}
-use Rattle.ss_events_entries.specs.HeapEntries.{HeadsAndFollowers, heap_lines}
-use Rattle.ss_events_entries.specs.HeapOrder.{IsHeap}
-use Rattle.ss_world.specs.Order.{comes_before}
-use Rattle.ss_events.specs.Sifting.{HasGoneIn, HasStayedOut, IsInsertion}
+use Rattle.ss_events.proofs.Common.{comes_before, Entry, HasGoneIn, HasStayedOut, HeadsAndFollowers, heap_lines, IsHeap, IsInsertion}
 use Rattle.ss_events.proofs.Sifts.{retried}
 use Rattle.ss_events.proofs.sift.insert.Goals as goal
 use Rattle.ss_events.proofs.sift.insert.Goals.{After-insert_at_once}

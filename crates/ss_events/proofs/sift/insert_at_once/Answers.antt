@@ -1,14 +1,5 @@
 use Rattle.std.proofs.Common.{◌≡◌, ◌≢◌, ◌∷◌, ◌++◌, [], ◌∙◌, ℤ, List, true, IsPermutation, int_eq, length, w64, to_z, of_z, rules, ap, sym, subst, to_z-of_z, arith}
-use Rattle.std.specs.List.{list_any}
-use Rattle.std.proofs.lemmas.Bool.{or_from}
-use Rattle.std.proofs.lemmas.List.Sorted.{IsPermutation-append_right, IsPermutation-middle, IsPermutation-sym, IsPermutation-trans}
-use Rattle.ss_events_entries.specs.declared.entry.Entry.{Entry}
-use Rattle.ss_events_entries.specs.HeapEntries.{HeapEntries, HeadsAndFollowers, heap_lines, notices_of}
-use Rattle.ss_events_entries.specs.HeapOrder.{IsHeap}
-use Rattle.ss_world.specs.Order.{comes_before}
-use Rattle.ss_world.specs.PendingList.{scheduling_limit}
-use Rattle.ss_world.specs.SortKey.{SortKey}
-use Rattle.ss_events.specs.Sifting.{HasGoneIn, HasStayedOut}
+use Rattle.ss_events.proofs.Common.{comes_before, Entry, HasGoneIn, HasStayedOut, HeadsAndFollowers, heap_lines, HeapEntries, IsHeap, IsPermutation-append_right, IsPermutation-middle, IsPermutation-sym, IsPermutation-trans, list_any, notices_of, or_from, scheduling_limit, SortKey}
 use Rattle.ss_events.proofs.Sifts.{append_work, stays, retried, goes_in}
 use Rattle.ss_events.proofs.Agendas.{any-append}
 use Rattle.ss_events.proofs.sift.insert_at_once.Goals as goal

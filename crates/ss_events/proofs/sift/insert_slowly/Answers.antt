@@ -1,12 +1,6 @@
 use Rattle.std.proofs.Common.{◌≡◌, ◌≢◌, ◌∙◌, ℤ, Bool, true, false, int_eq, w64, to_z, of_z, ap, sym, subst, to_z-of_z, arith}
-use Rattle.std.specs.List.{list_any}
+use Rattle.ss_events.proofs.Common.{comes_before, Entry, HasGoneIn, HasStayedOut, HeadsAndFollowers, heap_lines, HeapEntries, IsHeap, IsInsertion, IsTried, list_any, notices_of, scheduling_limit}
 use Rattle.std.proofs.lemmas.Bool.{or_parts, or_from}
-use Rattle.ss_events_entries.specs.declared.entry.Entry.{Entry}
-use Rattle.ss_events_entries.specs.HeapEntries.{HeapEntries, HeadsAndFollowers, heap_lines, notices_of}
-use Rattle.ss_events_entries.specs.HeapOrder.{IsHeap}
-use Rattle.ss_world.specs.Order.{comes_before}
-use Rattle.ss_world.specs.PendingList.{scheduling_limit}
-use Rattle.ss_events.specs.Sifting.{IsTried, HasGoneIn, HasStayedOut, IsInsertion}
 use Rattle.ss_events.proofs.Sifts.{stays, retried, goes_in}
 use Rattle.ss_events.proofs.Agendas.{any-append}
 use Rattle.ss_events.proofs.sift.insert_slowly.Goals as goal

@@ -1,7 +1,5 @@
 use Rattle.std.proofs.Common.{◌∷◌, ◌++◌, ◌∙◌, length, List, IsPermutation, sym, subst, arith}
-use Rattle.std.proofs.lemmas.List.Sorted.{IsPermutation-append_left, IsPermutation-cons, IsPermutation-trans}
-use Rattle.ss_events_entries.specs.declared.entry.Entry.{Entry}
-use Rattle.ss_events_entries.specs.HeapEntries.{heap_lines, all_of}
+use Rattle.ss_events.proofs.Common.{all_of, Entry, heap_lines, IsPermutation-append_left, IsPermutation-cons, IsPermutation-trans}
 use Rattle.ss_events.proofs.Sifts.{take_work}
 use Rattle.ss_events.proofs.Taken.{removed_few, removed_heap, removed_end, removed_all}
 use Rattle.ss_events.proofs.sift.take_out.Goals as goal

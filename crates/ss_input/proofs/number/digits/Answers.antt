@@ -1,6 +1,5 @@
 use Rattle.std.proofs.Common.{rules, ◌≡◌, ◌+◌, ◌-◌, ◌*◌, min, true, ◌∙◌, slice_index_or}
-use Rattle.ss_input.specs.Words.{is_digit}
-use Rattle.ss_input.specs.Numbers.{cap}
+use Rattle.ss_input.proofs.Common.{cap, is_digit}
 use Rattle.ss_input.proofs.Digits.{one_more, capped_more}
 use Rattle.ss_input.proofs.number.digits.Goals as goal
 

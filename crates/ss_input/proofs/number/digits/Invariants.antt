@@ -1,7 +1,5 @@
 use Rattle.std.proofs.Common.{◌≡◌, take, min, true}
-use Rattle.std.specs.List.{list_all}
-use Rattle.ss_input.specs.Words.{is_digit, digits_from}
-use Rattle.ss_input.specs.Numbers.{cap}
+use Rattle.ss_input.proofs.Common.{cap, digits_from, is_digit, list_all}
 use Rattle.ss_input.proofs.number.digits.Given as goal
 
 abbrev pub invariant-loop-byte : goal.invariant-loop-byte

@@ -1,6 +1,5 @@
 use Rattle.std.proofs.Common.{◌≡◌, ◌≤◌, ◌<◌, true, length, take}
-use Rattle.std.specs.List.{list_all}
-use Rattle.ss_input.specs.Words.{is_digit, digits_from}
+use Rattle.ss_input.proofs.Common.{digits_from, is_digit, list_all}
 use Rattle.ss_input.proofs.number.leading_number.Given as goal
 
 abbrev pub invariant-loop-count : goal.invariant-loop-count

@@ -1,6 +1,5 @@
 use Rattle.std.proofs.Common.{◌≡◌, true, take}
-use Rattle.std.specs.List.{list_all}
-use Rattle.ss_input.specs.Words.{is_separator}
+use Rattle.ss_input.proofs.Common.{is_separator, list_all}
 use Rattle.ss_input.proofs.number.separators.Given as goal
 
 abbrev pub invariant-loop-count : goal.invariant-loop-count

@@ -1,6 +1,5 @@
 use Rattle.std.proofs.Common.{rules, arith, ◌≡◌, ◌+◌, [], subst, ◌∙◌}
-use Rattle.ss_input.specs.Sources.{HasPassed, IsGapPassed, IsNextWanted}
-use Rattle.ss_input.specs.Words.{is_separator, is_word_byte}
+use Rattle.ss_input.proofs.Common.{HasPassed, is_separator, is_word_byte, IsGapPassed, IsNextWanted}
 use Rattle.ss_input.proofs.Asked.{unasked_then}
 use Rattle.ss_input.proofs.Passages.{gap_more, gap_stays}
 use Rattle.ss_input.proofs.passing.pass_gap.Goals as goal

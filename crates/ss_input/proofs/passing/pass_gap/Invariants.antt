@@ -1,7 +1,5 @@
 use Rattle.std.proofs.Common.{◌≡◌}
-use Rattle.ss_input.specs.Blocks.{IsEndKnown}
-use Rattle.ss_input.specs.Sources.{IsGapPassed, IsEnough, IsUnasked}
-use Rattle.ss_input.specs.Words.{is_separator}
+use Rattle.ss_input.proofs.Common.{is_separator, IsEndKnown, IsEnough, IsGapPassed, IsUnasked}
 use Rattle.ss_input.proofs.passing.pass_gap.Given as goal
 
 abbrev pub invariant-loop-count : goal.invariant-loop-count

@@ -1,6 +1,5 @@
 use Rattle.std.proofs.Common.{rules, [], ◌∷◌, not, Some, None, refl, sym, ap, subst}
-use Rattle.ss_input.specs.Blocks.{HasPeeked}
-use Rattle.ss_input.specs.Words.{is_separator, is_word_byte}
+use Rattle.ss_input.proofs.Common.{HasPeeked, is_separator, is_word_byte}
 use Rattle.ss_input.proofs.Asked.{unasked_look, unasked_one}
 use Rattle.ss_input.proofs.Passages.{passes_one, passes_look, next_is, next_is_end}
 use Rattle.ss_input.proofs.passing.pass_separator.Goals as goal

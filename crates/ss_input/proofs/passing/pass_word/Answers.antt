@@ -1,9 +1,6 @@
 use Rattle.std.proofs.Common.{rules, arith, length, take, ◌≡◌, ◌<◌, ◌∷◌, ◌++◌, [], true, refl, subst, ◌∙◌}
-use Rattle.std.proofs.lemmas.List.{length-append}
+use Rattle.ss_input.proofs.Common.{HasPassed, is_separator, is_word_byte, IsNextWanted, IsWordPassed, length-append, list_all-append}
 use Rattle.std.proofs.lemmas.Result.{err_from_is_err_and}
-use Rattle.std.proofs.lemmas.List.Folds.{list_all-append}
-use Rattle.ss_input.specs.Sources.{HasPassed, IsWordPassed, IsNextWanted}
-use Rattle.ss_input.specs.Words.{is_separator, is_word_byte}
 use Rattle.ss_input.proofs.Asked.{unasked_then}
 use Rattle.ss_input.proofs.Passages.{word_more, word_stays, passes_then, gives_after, wants_after}
 use Rattle.ss_input.proofs.passing.pass_word.Goals as goal

@@ -1,7 +1,5 @@
 use Rattle.std.proofs.Common.{◌≡◌, length, take}
-use Rattle.ss_input.specs.Blocks.{IsEndKnown}
-use Rattle.ss_input.specs.Sources.{IsWordPassed, IsEnough, IsUnasked}
-use Rattle.ss_input.specs.Words.{is_word_byte}
+use Rattle.ss_input.proofs.Common.{is_word_byte, IsEndKnown, IsEnough, IsUnasked, IsWordPassed}
 use Rattle.ss_input.proofs.passing.pass_word.Given as goal
 
 abbrev pub invariant-loop-count : goal.invariant-loop-count

@@ -1,6 +1,5 @@
 use Rattle.std.proofs.Common.{rules, ◌≡◌, ◌+◌, ◌<◌, ◌≤◌, ◌^◌, length, arith}
-use Rattle.ss_machine_frames.specs.Rows.{cleared}
-use Rattle.ss_machine.specs.Beginning.{values_laid, firsts_laid, none_laid}
+use Rattle.ss_machine.proofs.Common.{cleared, firsts_laid, none_laid, values_laid}
 use Rattle.ss_machine.proofs.Starting.{main_sized, laid}
 use Rattle.ss_machine.proofs.first.first_rows.Goals as goal
 

@@ -1,7 +1,6 @@
 use Rattle.std.proofs.Common.{rules, sym, ap, subst}
 use Rattle.ss_code_instructions.specs.declared.instruction.Instruction.TheVariants.{Print as Runs}
-use Rattle.ss_machine_instructions.specs.Ways.{on_after}
-use Rattle.ss_machine.specs.Shown.{CanShow, CanTakeAll, HasSentAll, HasSentPart}
+use Rattle.ss_machine.proofs.Common.{CanShow, CanTakeAll, HasSentAll, HasSentPart, on_after}
 use Rattle.ss_machine.proofs.Written.{can_show, take_given, unsent}
 use Rattle.ss_machine.proofs.Sending.{Hands, all_sent, part_sent}
 use Rattle.ss_machine.proofs.printing.print.Goals as goal

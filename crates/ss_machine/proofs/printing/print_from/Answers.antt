@@ -1,6 +1,5 @@
 use Rattle.std.proofs.Common.{rules, ◌≡◌, [], refl, inl}
-use Rattle.std.specs.List.{flat_map, AllByRecursion}
-use Rattle.ss_machine.proofs.Common.{AreShown, IsPrintable, lines_with, picture_fields}
+use Rattle.ss_machine.proofs.Common.{AllByRecursion, AreShown, flat_map, IsPrintable, lines_with, picture_fields}
 use Rattle.ss_machine.proofs.Fields.{each_suits}
 use Rattle.ss_machine.proofs.Known.{took_nothing}
 use Rattle.ss_machine.proofs.Sending.{sent_all, sent_part}

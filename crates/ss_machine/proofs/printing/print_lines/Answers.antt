@@ -1,7 +1,6 @@
 use Rattle.std.proofs.Common.{rules, ◌≡◌, ◌+◌, ◌++◌, [], ◌∷◌, min, length, drop, refl, sym, ap, ◌∙◌, arith}
-use Rattle.std.proofs.lemmas.List.{append_assoc}
+use Rattle.ss_machine.proofs.Common.{append_assoc, filled, line_end, lines_with, picture_fields}
 use Rattle.std.proofs.lemmas.Result.{err_from_is_err_and}
-use Rattle.ss_machine.proofs.Common.{filled, line_end, lines_with, picture_fields}
 use Rattle.ss_machine.proofs.Known.{turn, took_both, part_after}
 use Rattle.ss_machine.proofs.Fields.{now_suits, later_suits}
 use Rattle.ss_machine.proofs.printing.print_lines.Goals as goal

@@ -1,8 +1,5 @@
 use Rattle.std.proofs.Common.{◌≡◌, ◌++◌, ℕ, List, drop}
-use Rattle.std.specs.Io.KnownBytes.{Appends}
-use Rattle.std.specs.List.{flat_map}
-use Rattle.ss_machine.proofs.Common.{HasRisenBy, lines_with, picture_fields}
-use Rattle.ss_picture.specs.Suited.{AreSuitedItems}
+use Rattle.ss_machine.proofs.Common.{Appends, AreSuitedItems, flat_map, HasRisenBy, lines_with, picture_fields}
 use Rattle.ss_machine.proofs.printing.print_lines.Given as goal
 
 abbrev pub invariant-loop-picture : goal.invariant-loop-picture

@@ -1,6 +1,5 @@
 use Rattle.std.proofs.Common.{rules, ◌≡◌, ℕ, zero, suc, ◌+◌, ◌-◌, [], ◌∷◌, ◌++◌, replicate, refl, ap, arith}
-use Rattle.ss_picture.specs.Sending.{HasSentFirst}
-use Rattle.ss_meaning.specs.Values.{line_end}
+use Rattle.ss_machine.proofs.Common.{HasSentFirst, line_end}
 use Rattle.ss_machine.proofs.Known.{first_of, part_after}
 use Rattle.ss_machine.proofs.printing.send_empty.Goals as goal
 

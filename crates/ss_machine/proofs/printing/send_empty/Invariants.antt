@@ -1,6 +1,5 @@
 use Rattle.std.proofs.Common.{replicate}
-use Rattle.std.specs.Io.KnownBytes.{Appends}
-use Rattle.ss_machine.proofs.Common.{HasRisenBy, line_end}
+use Rattle.ss_machine.proofs.Common.{Appends, HasRisenBy, line_end}
 use Rattle.ss_machine.proofs.printing.send_empty.Given as goal
 
 abbrev pub invariant-loop-line : goal.invariant-loop-line

@@ -1,10 +1,7 @@
 use Rattle.std.proofs.Common.{rules, ◌≡◌, true, replicate, inr, sym, ap, ◌∙◌, subst, w64, of_z, to_z, pos}
 use Rattle.std.specs.Prelude.{int_lt, ◌||◌}
-use Rattle.std.specs.Io.KnownBytes.{Appends}
-use Rattle.ss_base.specs.declared.fault.FaultKind.TheVariants.{BadCount}
-use Rattle.ss_machine.proofs.Common.{Breaks, Compiled, HasTakenPart, HasWritten, IsSending, line_end, line_or, NoOutput, on_after, Rest}
+use Rattle.ss_machine.proofs.Common.{Appends, BadCount, Breaks, Compiled, HasTakenPart, HasWritten, IsSending, IsUnsent, line_end, line_or, NoOutput, on_after, Rest}
 use Rattle.ss_code_instructions.specs.declared.instruction.Instruction.TheVariants.{Skip as Runs}
-use Rattle.ss_machine.specs.Writing.{IsUnsent}
 use Rattle.ss_machine.proofs.Known.{keeps_same}
 use Rattle.ss_machine.proofs.Written.{count_within, skip_fails, skip_sends, skip_on, few_lines, bad_lines, unsent}
 use Rattle.ss_machine.proofs.printing.skip.Goals as goal

@@ -1,9 +1,7 @@
 use Rattle.std.proofs.Common.{rules, ◌≡◌, [], Ok, Err, pos, refl, sym, ap, ◌∙◌, subst, w64, of_z, to_z}
-use Rattle.ss_base.specs.declared.layout.Mode.TheVariants.{Integer}
-use Rattle.ss_machine.proofs.Common.{on_after, place_at, value_given, Whole}
+use Rattle.ss_machine.proofs.Common.{Integer, on_after, put_within, value_given, Whole}
+use Rattle.ss_machine_frames.specs.Rows.{place_at, with_number}
 use Rattle.ss_code_instructions.specs.declared.instruction.Instruction.TheVariants.{Read as Runs}
-use Rattle.ss_machine_frames.specs.Rows.{with_number}
-use Rattle.ss_machine_instructions.proofs.Delivering.{put_within}
 use Rattle.ss_machine.proofs.Inputs.{reads_so, finds_so}
 use Rattle.ss_machine.proofs.Worded.{read_delivers, read_on, read_fails, missed_did}
 use Rattle.ss_machine.proofs.reading.read_number.Goals as goal

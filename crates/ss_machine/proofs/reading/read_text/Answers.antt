@@ -1,8 +1,7 @@
 use Rattle.std.proofs.Common.{◌≡◌, [], Ok, Err, refl, sym, ap, ◌∙◌, subst}
 use Rattle.ss_base.specs.declared.layout.Mode.TheVariants.{Alpha}
-use Rattle.ss_machine.proofs.Common.{on_after, Text, value_given}
+use Rattle.ss_machine.proofs.Common.{on_after, put_within, Text, value_given}
 use Rattle.ss_code_instructions.specs.declared.instruction.Instruction.TheVariants.{ReadText as Runs}
-use Rattle.ss_machine_instructions.proofs.Delivering.{put_within}
 use Rattle.ss_machine.proofs.Inputs.{reads_so, finds_so}
 use Rattle.ss_machine.proofs.Worded.{read_delivers, read_on, read_fails, missed_did}
 use Rattle.ss_machine.proofs.reading.read_text.Goals as goal

@@ -1,13 +1,9 @@
 use Rattle.std.proofs.Common.{◌≡◌, ◌+◌, Bool, true, false, Ok, Err, refl, sym, ap, ◌∙◌, subst}
 use Rattle.std.specs.Prelude.{not}
 use mathlib.Core.Bool.{beq}
-use Rattle.ss_meaning.specs.Words.{is_ended}
-use Rattle.ss_meaning.specs.Expressions.{not_if}
+use Rattle.ss_machine.proofs.Common.{HasRead, is_ended, not_if, on_if_at, past, tested_at}
 use Rattle.ss_code_instructions.specs.declared.instruction.Instruction.TheVariants.{UnlessEnded as Runs}
-use Rattle.ss_code_instructions.specs.States.{past}
-use Rattle.ss_machine_instructions.specs.Ways.{on_if_at, tested_at}
 use Rattle.ss_machine_instructions.proofs.Placing.{on_if_is}
-use Rattle.ss_machine.specs.Reading.{HasRead}
 use Rattle.ss_machine.proofs.Inputs.{reads_so, finds_so}
 use Rattle.ss_machine.proofs.Worded.{test_on, test_fails, missed_did, moved_to}
 use Rattle.ss_machine.proofs.reading.unless_ended.Goals as goal

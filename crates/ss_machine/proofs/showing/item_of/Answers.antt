@@ -1,8 +1,6 @@
 use Rattle.std.proofs.Common.{rules, ◌≡◌, Some, None, sym, subst, w64, of_z, to_z}
-use Rattle.ss_machine.proofs.Common.{Is, Whole}
+use Rattle.ss_machine.proofs.Common.{CanShowOne, Is, IsReferenceToSubject, IsShown, Whole}
 use Rattle.ss_code_instructions.specs.declared.item.ItemKind.TheVariants as shows
-use Rattle.ss_machine_world.specs.Numbers.{IsReferenceToSubject}
-use Rattle.ss_machine.specs.Shown.{CanShowOne, IsShown}
 use Rattle.ss_machine.proofs.Items.{number_first, text_first, mean_first, mean_of_first}
 use Rattle.ss_machine.proofs.showing.item_of.Goals as goal
 

@@ -1,9 +1,6 @@
 use Rattle.std.proofs.Common.{rules, ◌≡◌, refl, sym, ap, ◌∙◌, subst, w64, of_z, to_z}
 use Rattle.std.specs.Int.{w128}
-use Rattle.ss_picture.specs.declared.items.Item.TheVariants.{Mean}
-use Rattle.ss_meaning.specs.Statistics.{mean}
-use Rattle.ss_machine_world.specs.Seen.{with_seen}
-use Rattle.ss_machine_world.specs.Numbers.{IsReferenceToSubject}
+use Rattle.ss_machine.proofs.Common.{IsReferenceToSubject, Mean, mean, with_seen}
 use Rattle.ss_machine.proofs.Items.{item_for, mean_is}
 use Rattle.ss_machine.proofs.showing.mean_item.Goals as goal
 

@@ -1,6 +1,5 @@
 use Rattle.std.proofs.Common.{rules, ◌≡◌, ◌++◌, [], ◌∷◌, sym, subst, arith}
-use Rattle.std.specs.List.{AllByRecursion}
-use Rattle.ss_machine.specs.Shown.{IsPrintable}
+use Rattle.ss_machine.proofs.Common.{AllByRecursion, IsPrintable}
 use Rattle.ss_machine.proofs.Items.{AreSoFar, none_yet, can_now, can_then, small_then, one_more, all_shown, printable_more}
 use Rattle.ss_machine.proofs.showing.show.Goals as goal
 

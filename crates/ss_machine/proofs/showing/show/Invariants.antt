@@ -1,6 +1,5 @@
 use Rattle.std.proofs.Common.{◌<◌, ◌^◌, drop}
-use Rattle.std.specs.List.{AllByRecursion}
-use Rattle.ss_machine.specs.Shown.{IsPrintable, CanShow}
+use Rattle.ss_machine.proofs.Common.{AllByRecursion, CanShow, IsPrintable}
 use Rattle.ss_machine.proofs.Items.{AreSoFar}
 use Rattle.ss_machine.proofs.showing.show.Given as goal
 

@@ -1,6 +1,5 @@
 use Rattle.std.proofs.Common.{rules, ◌≡◌, Err, refl, ap, subst, to_z, of_z, w64}
-use Rattle.std.specs.Prelude.{MatchResult}
-use Rattle.ss_machine_instructions.proofs.Common.{changed_number, computed, IsChanged, operator_of, said_still, Seen, value_in}
+use Rattle.ss_machine_instructions.proofs.Common.{changed_number, computed, IsChanged, MatchResult, operator_of, said_still, Seen, value_in}
 use Rattle.ss_machine_instructions.proofs.attributes.change.Goals as goal
 
 pub invariant_of-world : goal.invariant_of-world

@@ -1,8 +1,6 @@
 use Rattle.std.proofs.Common.{◌≡◌, Err, sym, subst}
-use Rattle.std.specs.Prelude.{MatchResult}
+use Rattle.ss_machine_instructions.proofs.Common.{changed_number, computed, IsChanged, MatchResult, operator_of, Sign, value_in}
 use Rattle.std.proofs.lemmas.Int.{to_z-of_z}
-use Rattle.ss_machine_instructions.proofs.Common.{changed_number, computed, IsChanged, operator_of, value_in}
-use Rattle.ss_base.specs.declared.words.Sign.{Sign}
 use Rattle.ss_machine_instructions.proofs.attributes.change_whole.Goals as goal
 
 pub returns-in-Plus-clause-done : goal.returns-in-Plus-clause-done

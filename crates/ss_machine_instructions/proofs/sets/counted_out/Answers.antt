@@ -1,7 +1,6 @@
 use Rattle.std.proofs.Common.{rules, ◌≡◌, ℤ, Err, refl, sym, subst, to_z, of_z, w64}
 use Rattle.std.specs.Prelude.{Result as OkOr}
-use Rattle.ss_machine_instructions.proofs.Common.{count_noted, FaultKind, HasChangedIf, IsCountedOut}
-use Rattle.ss_machine_world.specs.Seen.{number_if}
+use Rattle.ss_machine_instructions.proofs.Common.{count_noted, FaultKind, HasChangedIf, IsCountedOut, number_if}
 use Rattle.ss_machine_instructions.proofs.sets.counted_out.Goals as goal
 
 pub returns-in-Err : goal.returns-in-Err

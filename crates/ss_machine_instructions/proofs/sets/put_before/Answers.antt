@@ -1,6 +1,5 @@
 use Rattle.std.proofs.Common.{rules, ◌≡◌, ◌<◌, ℤ, length, refl, ap, sym, ◌∙◌, subst, to_z, of_z, w64}
-use Rattle.ss_machine_instructions.proofs.Common.{HasFiled, IsCounted, JustBefore, Layout, said_still, Seen, seen_of, Whole}
-use Rattle.ss_world.specs.Sets.{filed_before}
+use Rattle.ss_machine_instructions.proofs.Common.{filed_before, HasFiled, IsCounted, JustBefore, Layout, said_still, Seen, seen_of, Whole}
 use Rattle.ss_world.specs.State.{State}
 use Rattle.ss_machine_instructions.proofs.Filing.{rearranged, within_there, before_filed}
 use Rattle.ss_machine_instructions.proofs.sets.put_before.Goals as goal

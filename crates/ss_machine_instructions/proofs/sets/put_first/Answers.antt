@@ -1,6 +1,5 @@
 use Rattle.std.proofs.Common.{rules, ◌≡◌, ◌<◌, ℤ, length, refl, ap, sym, ◌∙◌, subst, to_z, of_z, w64}
-use Rattle.ss_machine_instructions.proofs.Common.{Foremost, HasFiled, IsCounted, Layout, said_still, Seen, seen_of}
-use Rattle.ss_world.specs.Sets.{filed_first}
+use Rattle.ss_machine_instructions.proofs.Common.{filed_first, Foremost, HasFiled, IsCounted, Layout, said_still, Seen, seen_of}
 use Rattle.ss_world.specs.State.{State}
 use Rattle.ss_machine_instructions.proofs.Filing.{rearranged, within_there, first_filed}
 use Rattle.ss_machine_instructions.proofs.sets.put_first.Goals as goal

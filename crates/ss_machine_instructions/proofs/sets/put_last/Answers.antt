@@ -1,6 +1,5 @@
 use Rattle.std.proofs.Common.{rules, ◌≡◌, ◌<◌, ℤ, length, refl, ap, sym, ◌∙◌, subst, to_z, of_z, w64}
-use Rattle.ss_machine_instructions.proofs.Common.{HasFiled, Hindmost, IsCounted, Layout, said_still, Seen, seen_of}
-use Rattle.ss_world.specs.Sets.{filed_last}
+use Rattle.ss_machine_instructions.proofs.Common.{filed_last, HasFiled, Hindmost, IsCounted, Layout, said_still, Seen, seen_of}
 use Rattle.ss_world.specs.State.{State}
 use Rattle.ss_machine_instructions.proofs.Filing.{rearranged, within_there, last_filed}
 use Rattle.ss_machine_instructions.proofs.sets.put_last.Goals as goal

@@ -1,7 +1,5 @@
 use Rattle.std.proofs.Common.{rules, ◌≡◌, ◌<◌, ℤ, length, sym, ◌∙◌, subst, to_z, of_z, w64}
-use Rattle.ss_machine_instructions.proofs.Common.{Discipline, IsCounted, Layout}
-use Rattle.ss_world.specs.Disciplines.{HasMemberKeys, filed}
-use Rattle.ss_machine_world.specs.Seen.{HasRearranged}
+use Rattle.ss_machine_instructions.proofs.Common.{Discipline, filed, HasMemberKeys, HasRearranged, IsCounted, Layout}
 use Rattle.ss_machine_instructions.proofs.Filing.{one, within_there, ruled_layout, ruled_filed}
 use Rattle.ss_machine_instructions.proofs.sets.put_ranked.Goals as goal
 

@@ -1,6 +1,5 @@
 use Rattle.std.proofs.Common.{rules, ◌≡◌, ◌<◌, ℤ, length, refl, ap, sym, ◌∙◌, subst, to_z, of_z, w64}
-use Rattle.ss_machine_instructions.proofs.Common.{HasRemoved, IsCounted, Layout, said_still, Seen, seen_of}
-use Rattle.ss_world.specs.Sets.{removed}
+use Rattle.ss_machine_instructions.proofs.Common.{HasRemoved, IsCounted, Layout, removed, said_still, Seen, seen_of}
 use Rattle.ss_world.specs.State.{State}
 use Rattle.ss_machine_instructions.proofs.Filing.{rearranged, within_there, member_removed}
 use Rattle.ss_machine_instructions.proofs.sets.take_out.Goals as goal

@@ -1,12 +1,5 @@
 use Rattle.std.proofs.Common.{ℕ, rules, ◌≡◌, ◌+◌, ◌<◌, ℤ, List, Some, Ok, Err, length, refl, ap, sym, ◌∙◌, subst, to_z, of_z, w64, arith}
-use Rattle.std.specs.Prelude.{IfSome, slice_get}
-use Rattle.std.proofs.lemmas.Option.{slice_get_read}
-use Rattle.ss_machine_notices.proofs.Common.{HasEntered, HasReceived, Here, is_single, Mode, modes_of, Notices, one, SectionEntry, Seen, State, TakeEvent}
-use Rattle.ss_machine_instructions.specs.Ways.{begun_event_at}
-use Rattle.ss_machine_frames.proofs.Entering.{cleared_long}
-use Rattle.ss_machine_notices.specs.Beginning.{IsUnbegun}
-use Rattle.ss_machine_instructions.specs.Entered.{IsOutOfMemory}
-use Rattle.ss_machine_instructions.proofs.Placing.{small}
+use Rattle.ss_machine_notices.proofs.Common.{begun_event_at, cleared_long, HasEntered, HasReceived, Here, IfSome, is_single, IsOutOfMemory, IsUnbegun, Mode, modes_of, Notices, one, SectionEntry, Seen, slice_get, slice_get_read, small, State, TakeEvent}
 use Rattle.ss_machine_notices.proofs.Beginning.{saved_within, receives_not}
 use Rattle.ss_machine_notices.proofs.Begun.{begun_class, begun_single, begun_rank, begun_said, begun_saved, begun_modes, begun_entry_within, begun_frame, frame_within}
 use Rattle.ss_machine_notices.proofs.Started.{entry_is, begins, begins_fault, unbegun_as}

@@ -1,7 +1,5 @@
 use Rattle.std.proofs.Common.{rules, ◌≡◌, ◌<◌, ℤ, length, refl, ap, sym, ◌∙◌, subst, to_z, of_z, w64}
-use Rattle.std.specs.Prelude.{pos, IfSome}
-use Rattle.ss_machine_notices.proofs.Common.{HasChanged, HasLetGo, noted, OfVariable, TwoRows, Whole, with_number}
-use Rattle.ss_meaning.specs.Entities.{gone}
+use Rattle.ss_machine_notices.proofs.Common.{gone, HasChanged, HasLetGo, IfSome, noted, OfVariable, pos, TwoRows, Whole, with_number}
 use Rattle.ss_machine_notices.proofs.Giving.{got_at}
 use Rattle.ss_machine_notices.proofs.events.let_go.Goals as goal
 

@@ -1,7 +1,5 @@
 use Rattle.std.proofs.Common.{◌≡◌, ◌<◌, Some, length, refl, ap, sym, ◌∙◌, arith}
-use Rattle.std.specs.Prelude.{slice_get}
-use Rattle.std.proofs.lemmas.Option.{slice_get_read}
-use Rattle.ss_machine_notices.proofs.Common.{Notices, one, Seen}
+use Rattle.ss_machine_notices.proofs.Common.{Notices, one, Seen, slice_get, slice_get_read}
 use Rattle.ss_machine_notices.proofs.events.line_of.Goals as goal
 
 pub bounds-notices-rank : goal.bounds-notices-rank

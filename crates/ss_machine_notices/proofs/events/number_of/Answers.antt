@@ -1,6 +1,5 @@
 use Rattle.std.proofs.Common.{rules, ◌≡◌, Ok, Err, subst, to_z, of_z, w64}
-use Rattle.std.specs.Prelude.{MatchResult}
-use Rattle.ss_machine_notices.proofs.Common.{Seen, value_in, Whole}
+use Rattle.ss_machine_notices.proofs.Common.{MatchResult, Seen, value_in, Whole}
 use Rattle.ss_machine_notices.proofs.events.number_of.Goals as goal
 
 pub returns : goal.returns

@@ -1,8 +1,7 @@
 use Rattle.std.proofs.Common.{Option, rules, ◌≡◌, ℤ, Some, None, true, false, ap, sym, ◌∙◌, subst, to_z, of_z, w64}
-use Rattle.ss_machine_notices.proofs.Common.{act, frame_small, HasOneTick, Here, is_due, IsNextEvent, least_event, living, Seen, State}
+use Rattle.ss_machine_notices.proofs.Common.{act, frame_small, HasOneTick, Here, is_due, IsNextEvent, IsNextNotice, least_event, living, Seen, State}
 use Rattle.ss_code_instructions.specs.declared.instruction.Instruction.TheVariants.{TakeEvent as Runs}
 use Rattle.ss_machine_instructions.specs.Ways.{led, begun_event_at, led_to}
-use Rattle.ss_machine_events.specs.Events.{IsNextNotice}
 use Rattle.ss_machine_instructions.proofs.Leading.{led_stopped, begun_is}
 use Rattle.ss_machine_instructions.proofs.Ticking.{pauses, ticks}
 use Rattle.ss_machine_notices.proofs.Beginning.{goes_past, lives_as, next_taken}

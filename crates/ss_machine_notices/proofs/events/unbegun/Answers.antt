@@ -1,6 +1,5 @@
 use Rattle.std.proofs.Common.{rules, ◌≡◌, ◌<◌, ℤ, Ok, Err, length, ap, sym, ◌∙◌, subst, to_z, of_z, w64, arith}
-use Rattle.std.specs.Prelude.{slice_get}
-use Rattle.ss_machine_notices.proofs.Common.{HasLetGo, Seen}
+use Rattle.ss_machine_notices.proofs.Common.{HasLetGo, Seen, slice_get}
 use Rattle.ss_machine_notices.proofs.Giving.{got_at}
 use Rattle.ss_machine_notices.proofs.Beginning.{lets_go_ticks, lets_go_not}
 use Rattle.ss_machine_notices.proofs.events.unbegun.Goals as goal

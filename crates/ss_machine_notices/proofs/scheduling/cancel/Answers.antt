@@ -1,6 +1,5 @@
 use Rattle.std.proofs.Common.{rules, ◌≡◌, ℤ, subst, to_z, of_z, w64, ap}
-use Rattle.ss_machine_notices.proofs.Common.{HasChanged, on_after, Whole}
-use Rattle.ss_meaning.specs.Events.{unscheduled}
+use Rattle.ss_machine_notices.proofs.Common.{HasChanged, on_after, unscheduled, Whole}
 use Rattle.ss_code_instructions.specs.declared.instruction.Instruction.TheVariants.{Cancel as Runs}
 use Rattle.ss_machine_notices.proofs.Times.{cancels_in, cancels}
 use Rattle.ss_machine_notices.proofs.scheduling.cancel.Goals as goal

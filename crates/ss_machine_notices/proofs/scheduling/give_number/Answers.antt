@@ -1,8 +1,6 @@
 use Rattle.std.proofs.Common.{rules, ◌≡◌, ◌<◌, ℤ, Some, Ok, Err, length, ap, sym, ◌∙◌, subst, to_z, of_z, w64}
-use Rattle.std.specs.Prelude.{slice_get}
+use Rattle.ss_machine_notices.proofs.Common.{attribute_noted, HasChangedIf, HasSetField, Integer, IsReadBack, modes_of, slice_get, Whole}
 use Rattle.ss_base.specs.declared.layout.Layout.{Layout}
-use Rattle.ss_machine_notices.proofs.Common.{attribute_noted, HasChangedIf, HasSetField, Integer, modes_of, Whole}
-use Rattle.ss_machine_notices.specs.Giving.{IsReadBack}
 use Rattle.ss_machine_notices.proofs.Giving.{suits_class, suits_mode, set_not, set_noted}
 use Rattle.ss_machine_notices.proofs.scheduling.give_number.Goals as goal
 

@@ -1,9 +1,6 @@
 use Rattle.std.proofs.Common.{arith, rules, ◌≡◌, ◌+◌, ℤ, sym, ◌∙◌, subst, to_z, of_z, w64}
-use Rattle.ss_machine_notices.proofs.Common.{Integer, IsSettledIn, one, Text, Value, Whole}
-use Rattle.ss_base.specs.declared.layout.Mode.TheVariants.{Alpha}
-use Rattle.ss_meaning.specs.Places.{assigned_attribute}
+use Rattle.ss_machine_notices.proofs.Common.{Alpha, assigned_attribute, Integer, IsSettledIn, IsSuitable, one, Text, Value, Whole}
 use Rattle.ss_machine_frames.proofs.Places.{number_is, text_is}
-use Rattle.ss_machine_notices.specs.Giving.{IsSuitable}
 use Rattle.ss_machine_notices.proofs.Giving.{suiting_as, suits_class, suits_field, suits_mode}
 use Rattle.ss_machine_notices.proofs.scheduling.give_one.Goals as goal
 

@@ -1,9 +1,6 @@
 use Rattle.std.proofs.Common.{rules, ◌≡◌, ℤ, Bool, Ok, Err, ap, sym, ◌∙◌, subst, to_z, of_z, w64}
 use Rattle.std.specs.Prelude.{Result as OkOr, if◌then◌else◌}
-use Rattle.ss_machine_notices.proofs.Common.{and_then, FaultKind, Seen}
-use Rattle.ss_base.specs.declared.fault.FaultKind.TheVariants.{AlreadyScheduled}
-use Rattle.ss_world.specs.PendingList.{is_pending}
-use Rattle.ss_world.specs.State.{known_in}
+use Rattle.ss_machine_notices.proofs.Common.{AlreadyScheduled, and_then, FaultKind, is_pending, known_in, Seen}
 use Rattle.ss_machine_notices.proofs.scheduling.look_unpended.Goals as goal
 
 -- what is left to see once the notice is there

@@ -1,7 +1,6 @@
 use Rattle.std.proofs.Common.{rules, ◌≡◌, ◌+◌, ℤ, Some, Ok, Err, ap, sym, ◌∙◌, subst, to_z, of_z, w64, arith}
-use Rattle.std.specs.Prelude.{slice_get}
+use Rattle.ss_machine_notices.proofs.Common.{act, as_value, frame_small, HasGivenValues, IsDelivering, IsNoticeMade, on_after, slice_get, TwoRows, with_number}
 use Rattle.ss_code_instructions.specs.declared.instruction.Instruction.TheVariants.{MakeNotice as Runs}
-use Rattle.ss_machine_notices.proofs.Common.{act, as_value, frame_small, HasGivenValues, IsDelivering, IsNoticeMade, on_after, TwoRows, with_number}
 use Rattle.ss_machine_notices.proofs.Notices.{makes_in, make_gives, make_core, make_delivers, makes, makes_not}
 use Rattle.ss_machine_notices.proofs.scheduling.make_notice.Goals as goal
 

@@ -1,7 +1,6 @@
 use Rattle.std.proofs.Common.{rules, ◌≡◌, ℤ, sym, subst, to_z, of_z, w64}
 use Rattle.std.specs.Prelude.{Result as OkOr}
-use Rattle.ss_machine_notices.proofs.Common.{IsNoticeMade, IsSettledIn, prepared, Refused, Whole}
-use Rattle.ss_machine_notices.specs.Giving.{number_or}
+use Rattle.ss_machine_notices.proofs.Common.{IsNoticeMade, IsSettledIn, number_or, prepared, Refused, Whole}
 use Rattle.ss_machine_notices.proofs.Giving.{create_class, create_single, gives_after, made, not_made}
 use Rattle.ss_machine_notices.proofs.scheduling.new_notice.Goals as goal
 

@@ -1,6 +1,5 @@
 use Rattle.std.proofs.Common.{rules, ◌≡◌, ◌+◌, ℤ, Some, sym, subst, to_z, of_z, w64, arith, ap}
-use Rattle.std.specs.Prelude.{slice_get}
-use Rattle.ss_machine_notices.proofs.Common.{frame_small, HasGivenValues, IsSettledWithMemory, on_after, rescheduled, Whole}
+use Rattle.ss_machine_notices.proofs.Common.{frame_small, HasGivenValues, IsSettledWithMemory, on_after, rescheduled, slice_get, Whole}
 use Rattle.ss_code_instructions.specs.declared.instruction.Instruction.TheVariants.{Reschedule as Runs}
 use Rattle.ss_machine_notices.proofs.Notices.{again_in, again_gives, reschedules}
 use Rattle.ss_machine_notices.proofs.scheduling.reschedule.Goals as goal

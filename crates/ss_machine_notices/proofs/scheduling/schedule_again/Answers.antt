@@ -1,6 +1,5 @@
 use Rattle.std.proofs.Common.{rules, ◌≡◌, ℤ, Ok, Err, subst, to_z, of_z, w64}
-use Rattle.ss_base.specs.declared.value.Value.TheVariants.{Whole}
-use Rattle.ss_machine_notices.specs.Giving.{IsSettledWithMemory, refiled, unpended}
+use Rattle.ss_machine_notices.proofs.Common.{IsSettledWithMemory, refiled, unpended, Whole}
 use Rattle.ss_machine_notices.proofs.Giving.{create_class, again_not, again}
 use Rattle.ss_machine_notices.proofs.scheduling.schedule_again.Goals as goal
 

@@ -1,6 +1,6 @@
 use Rattle.std.proofs.Common.{rules, ◌≡◌, refl, subst, to_z, of_z, w64}
-use Rattle.ss_machine_notices.proofs.Common.{HasRearranged, said_still, Seen, seen_of, timed}
-use Rattle.ss_world.specs.State.{State}
+use Rattle.ss_machine_notices.proofs.Common.{HasRearranged, said_still, Seen, seen_of}
+use Rattle.ss_world.specs.State.{timed, State}
 use Rattle.ss_machine_instructions.proofs.Filing.{rearranged}
 use Rattle.ss_machine_notices.proofs.scheduling.set_time.Goals as goal
 

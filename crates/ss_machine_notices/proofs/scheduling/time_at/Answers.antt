@@ -1,7 +1,6 @@
 use Rattle.std.proofs.Common.{rules, ◌≡◌, ℤ, ap, subst, to_z, of_z, w64}
-use Rattle.ss_meaning.specs.Events.{not_past}
+use Rattle.ss_machine_notices.proofs.Common.{act, calm, HasAnswer, is_due, not_past, on_after}
 use Rattle.ss_code_instructions.specs.declared.instruction.Instruction.TheVariants.{At as Runs}
-use Rattle.ss_machine_notices.proofs.Common.{act, calm, HasAnswer, is_due, on_after}
 use Rattle.ss_machine_notices.proofs.Times.{at_in, ats}
 use Rattle.ss_machine_notices.proofs.scheduling.time_at.Goals as goal
 

@@ -1,7 +1,6 @@
 use Rattle.std.proofs.Common.{rules, ◌≡◌, ℤ, ap, subst, to_z, of_z, w64}
 use Rattle.ss_code_instructions.specs.declared.instruction.Instruction.TheVariants.{In as Runs}
-use Rattle.ss_machine_notices.proofs.Common.{act, calm, HasAnswer, is_due, on_after}
-use Rattle.ss_machine_events.specs.Scheduled.{time_after}
+use Rattle.ss_machine_notices.proofs.Common.{act, calm, HasAnswer, is_due, on_after, time_after}
 use Rattle.ss_machine_notices.proofs.Times.{in_in, ins}
 use Rattle.ss_machine_notices.proofs.scheduling.time_in.Goals as goal
 

@@ -1,7 +1,5 @@
 use Rattle.std.proofs.Common.{arith, ◌≡◌, ◌-◌, ◌+◌, List, length, drop, Some, refl, sym, subst}
-use Rattle.std.specs.Prelude.{slice_get}
-use Rattle.std.proofs.lemmas.Option.{slice_get_read}
-use Rattle.ss_machine_world.proofs.Common.{AreSaidFrom, Notices}
+use Rattle.ss_machine_world.proofs.Common.{AreSaidFrom, Notices, slice_get, slice_get_read}
 use Rattle.ss_machine_world.proofs.Said.{drop_one, drop_all, one_ranked, unranked}
 use Rattle.ss_machine_world.proofs.class.note_ranks.Goals as goal
 

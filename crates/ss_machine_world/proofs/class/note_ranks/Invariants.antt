@@ -1,6 +1,5 @@
 use Rattle.std.proofs.Common.{◌≤◌, List, [], length, drop}
-use Rattle.ss_base.specs.Plain.{PlainLayout}
-use Rattle.ss_machine_world.proofs.Common.{AreSaid, AreSaidFrom, Statistic}
+use Rattle.ss_machine_world.proofs.Common.{AreSaid, AreSaidFrom, PlainLayout, Statistic}
 use Rattle.ss_machine_world.proofs.class.note_ranks.Given as goal
 
 abbrev pub invariant-loop-rank : goal.invariant-loop-rank

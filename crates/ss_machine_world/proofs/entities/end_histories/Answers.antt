@@ -1,6 +1,5 @@
 use Rattle.std.proofs.Common.{◌≡◌, false, sym, ◌∙◌}
-use Rattle.std.specs.List.{list_any}
-use Rattle.ss_machine_world.proofs.Common.{Class, columns, is_home}
+use Rattle.ss_machine_world.proofs.Common.{Class, columns, is_home, list_any}
 use Rattle.ss_machine_world.proofs.Said.{none_end}
 use Rattle.ss_machine_world.proofs.entities.end_histories.Goals as goal
 

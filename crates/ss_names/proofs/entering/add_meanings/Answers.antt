@@ -1,11 +1,6 @@
 use Rattle.std.proofs.Common.{refl, ap, ◌∙◌}
-use Rattle.std.specs.List.{fold}
-use Rattle.std.proofs.lemmas.Result.{on_ok_weaker}
-use Rattle.ss_base.specs.declared.line.Line.{Line}
-use Rattle.ss_names_declarations.specs.NameTable.{entry_if}
-use Rattle.ss_names_declarations.specs.declared.declaration.Declared.{Declared}
+use Rattle.ss_names.proofs.Common.{Declared, enter_name, entered, Entering, entry_if, fold, Line, on_ok_weaker}
 use Rattle.ss_names.specs.Table.{Table, declares, variable_meaning}
-use Rattle.ss_names.specs.Filling.{Entering, enter_name, entered}
 use Rattle.ss_names.proofs.Steps.{stepped}
 use Rattle.ss_names.proofs.entering.add_meanings.Goals as goal
 

@@ -1,6 +1,5 @@
 use Rattle.std.proofs.Common.{ap, ◌∙◌}
-use Rattle.std.proofs.lemmas.Result.{on_ok_weaker}
-use Rattle.ss_names.specs.Filling.{clash_after, entered}
+use Rattle.ss_names.proofs.Common.{clash_after, entered, on_ok_weaker}
 use Rattle.ss_names.proofs.entering.enter.Goals as goal
 
 pub returns : goal.returns

@@ -1,6 +1,5 @@
 use Rattle.std.proofs.Common.{◌≡◌, take}
-use Rattle.std.specs.List.{fold}
-use Rattle.ss_names.specs.Filling.{entered, meanings_pass}
+use Rattle.ss_names.proofs.Common.{entered, fold, meanings_pass}
 use Rattle.ss_names.proofs.entering.enter_all.Given as goal
 
 abbrev pub invariant-loop-declaration : goal.invariant-loop-declaration

@@ -1,11 +1,7 @@
 use Rattle.std.proofs.Common.{◌≡◌, sym, ◌∙◌}
-use Rattle.std.specs.List.{fold}
-use Rattle.std.proofs.lemmas.List.Sums.{fold-append}
-use Rattle.std.proofs.lemmas.Result.{on_ok_weaker}
-use Rattle.ss_names_declarations.specs.NameTable.{entry_if}
+use Rattle.ss_names.proofs.Common.{enter_name, entered, entry_if, fold, fold-append, on_ok_weaker}
 use Rattle.ss_names.specs.Entries.{count_name}
 use Rattle.ss_names.specs.Table.{class_entry, count_entry}
-use Rattle.ss_names.specs.Filling.{enter_name, entered}
 use Rattle.ss_names.proofs.entering.enter_class.Goals as goal
 
 pub returns : goal.returns

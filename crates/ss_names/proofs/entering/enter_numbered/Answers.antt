@@ -1,11 +1,9 @@
 use Rattle.std.proofs.Common.{ap, ◌∙◌}
-use Rattle.std.proofs.lemmas.Result.{on_ok_weaker}
+use Rattle.ss_names.proofs.Common.{enter_name, entered, NameBytes, on_ok_weaker}
 use Rattle.ss_program.specs.declared.expression.SetQuery.TheVariants.{FirstMember, LastMember, MemberCount}
 use Rattle.ss_program.specs.declared.expression.MemberQuery.TheVariants.{Predecessor, Successor, Membership}
-use Rattle.ss_tree.specs.Names.{NameBytes}
 use Rattle.ss_names.specs.declared.meaning.Meaning.TheVariants as m
 use Rattle.ss_names.specs.Table.{derived_name}
-use Rattle.ss_names.specs.Filling.{enter_name, entered}
 use Rattle.ss_names.proofs.Steps.{one_further}
 use Rattle.ss_names.proofs.entering.enter_numbered.Goals as goal
 

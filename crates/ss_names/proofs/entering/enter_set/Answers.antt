@@ -1,8 +1,6 @@
 use Rattle.std.proofs.Common.{sym, ap, ◌∙◌}
-use Rattle.std.specs.List.{fold}
-use Rattle.std.proofs.lemmas.Result.{on_ok_weaker}
+use Rattle.ss_names.proofs.Common.{enter_name, entered, fold, on_ok_weaker}
 use Rattle.ss_names.specs.Table.{set_meanings}
-use Rattle.ss_names.specs.Filling.{enter_name, entered}
 use Rattle.ss_names.proofs.entering.enter_set.Goals as goal
 
 pub returns-in-Some : goal.returns-in-Some

@@ -1,10 +1,5 @@
 use Rattle.std.proofs.Common.{◌≡◌, List, None, ap, ◌∙◌}
-use Rattle.std.specs.List.{fold}
-use Rattle.ss_tree.specs.Names.{NameBytes}
-use Rattle.ss_names.specs.declared.meaning.Meaning.{Meaning}
-use Rattle.ss_names.specs.Table.{Table}
-use Rattle.ss_names.specs.View.{view_table}
-use Rattle.ss_names.specs.Filling.{Entering, all_entered, entered, meanings_pass, with_meanings}
+use Rattle.ss_names.proofs.Common.{all_entered, entered, Entering, fold, Meaning, meanings_pass, NameBytes, Table, view_table, with_meanings}
 use Rattle.ss_names.proofs.entering.fill_meanings.Goals as goal
 
 pub returns-clause-names : goal.returns-clause-names

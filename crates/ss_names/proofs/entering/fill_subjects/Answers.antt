@@ -1,7 +1,5 @@
 use Rattle.std.proofs.Common.{ap, ◌∙◌}
-use Rattle.ss_names.specs.Table.{subjects_by}
-use Rattle.ss_names.specs.Filling.{with_subjects}
-use Rattle.ss_names.specs.View.{view_table}
+use Rattle.ss_names.proofs.Common.{subjects_by, view_table, with_subjects}
 use Rattle.ss_names.proofs.entering.fill_subjects.Goals as goal
 
 pub returns : goal.returns

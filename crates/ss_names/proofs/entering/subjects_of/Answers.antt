@@ -1,7 +1,6 @@
 use Rattle.std.proofs.Common.{◌≡◌, Option, ap, ◌∙◌}
-use Rattle.ss_tree.specs.Names.{NameBytes}
+use Rattle.ss_names.proofs.Common.{NameBytes, value_for}
 use Rattle.ss_program.specs.declared.sections.Subject.{Subject}
-use Rattle.ss_names_declarations.specs.NameTable.{value_for}
 use Rattle.ss_names.specs.Table.{subject_of}
 use Rattle.ss_names.proofs.Steps.{mapped_after}
 use Rattle.ss_names.proofs.entering.subjects_of.Goals as goal

@@ -1,11 +1,5 @@
 use Rattle.std.proofs.Common.{ap, ◌∙◌}
-use Rattle.std.specs.List.{fold}
-use Rattle.std.proofs.lemmas.Result.{on_ok_weaker}
-use Rattle.ss_names_declarations.specs.NameTable.{with_first}
-use Rattle.ss_names.specs.Table.{Table}
-use Rattle.ss_names.specs.Entries.{class_variables, notice_number, number_added}
-use Rattle.ss_names.specs.Filling.{with_ranks, with_variables}
-use Rattle.ss_names.specs.View.{view_table}
+use Rattle.ss_names.proofs.Common.{class_variables, fold, notice_number, number_added, on_ok_weaker, Table, view_table, with_first, with_ranks, with_variables}
 use Rattle.ss_names.proofs.filling.add_class.Goals as goal
 
 pub returns : goal.returns

@@ -1,11 +1,6 @@
 use Rattle.std.proofs.Common.{◌∙◌, sym, ap}
-use Rattle.std.specs.List.{fold}
-use Rattle.std.proofs.lemmas.Result.{on_ok_weaker}
-use Rattle.ss_base.specs.declared.layout.ClassKind.{ClassKind}
+use Rattle.ss_names.proofs.Common.{class_variables, ClassKind, fold, NameBytes, on_ok_weaker, with_first}
 use Rattle.ss_base.specs.declared.layout.Mode.TheVariants.{Integer}
-use Rattle.ss_tree.specs.Names.{NameBytes}
-use Rattle.ss_names_declarations.specs.NameTable.{with_first}
-use Rattle.ss_names.specs.Entries.{class_variables}
 use Rattle.ss_names.proofs.filling.add_class_variables.Goals as goal
 
 pub returns-in-Permanent : goal.returns-in-Permanent

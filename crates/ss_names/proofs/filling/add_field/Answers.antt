@@ -1,7 +1,5 @@
 use Rattle.std.proofs.Common.{◌≡◌, true, false, cond, is_some, sym, ap, ◌∙◌}
-use Rattle.std.proofs.lemmas.Result.{on_ok_weaker}
-use Rattle.ss_names_declarations.specs.NameTable.{value_for}
-use Rattle.ss_names.specs.Filling.{field_pushed, table_fields, mode_named, with_fields}
+use Rattle.ss_names.proofs.Common.{field_pushed, mode_named, on_ok_weaker, table_fields, value_for, with_fields}
 use Rattle.ss_names.proofs.Steps.{none_of_not_some}
 use Rattle.ss_names.proofs.filling.add_field.Goals as goal
 

@@ -1,8 +1,6 @@
 use Rattle.std.proofs.Common.{ap, ◌∙◌}
-use Rattle.std.proofs.lemmas.Result.{on_ok_weaker}
-use Rattle.ss_names_declarations.specs.NameTable.{with_first}
+use Rattle.ss_names.proofs.Common.{on_ok_weaker, view_table, with_first}
 use Rattle.ss_names.specs.Filling.{add_names}
-use Rattle.ss_names.specs.View.{view_table}
 use Rattle.ss_names.proofs.Steps.{stepped}
 use Rattle.ss_names.proofs.filling.add_names.Goals as goal
 

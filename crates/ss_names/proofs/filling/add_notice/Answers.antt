@@ -1,11 +1,5 @@
 use Rattle.std.proofs.Common.{◌≡◌, ℕ, List, [], ◌∷◌, sym, ap, ◌∙◌}
-use Rattle.std.specs.List.{fold}
-use Rattle.std.proofs.lemmas.Result.{on_ok_weaker}
-use Rattle.std.specs.Prelude.{option_to_list}
-use Rattle.ss_names.specs.Entries.{notice_number, number_added}
-use Rattle.ss_names.specs.Table.{Table}
-use Rattle.ss_names.specs.Filling.{with_ranks}
-use Rattle.ss_names.specs.View.{view_table}
+use Rattle.ss_names.proofs.Common.{fold, notice_number, number_added, on_ok_weaker, option_to_list, Table, view_table, with_ranks}
 use Rattle.ss_names.proofs.filling.add_notice.Goals as goal
 
 pub returns-in-Some : goal.returns-in-Some

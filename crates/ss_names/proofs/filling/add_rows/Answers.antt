@@ -1,9 +1,5 @@
 use Rattle.std.proofs.Common.{[], map, ap, ◌∙◌}
-use Rattle.ss_tree.specs.Names.{NameBytes}
-use Rattle.ss_names.specs.declared.entry.Set.{Set}
-use Rattle.ss_names.specs.Entries.{fields_by_class}
-use Rattle.ss_names.specs.Filling.{no_set, with_rows}
-use Rattle.ss_names.specs.View.{view_table}
+use Rattle.ss_names.proofs.Common.{fields_by_class, NameBytes, no_set, Set, view_table, with_rows}
 use Rattle.ss_names.proofs.filling.add_rows.Goals as goal
 
 pub returns : goal.returns

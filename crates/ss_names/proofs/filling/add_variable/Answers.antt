@@ -1,10 +1,5 @@
 use Rattle.std.proofs.Common.{◌≡◌, true, false, cond, [], ◌∷◌, is_some, sym, ap, ◌∙◌}
-use Rattle.std.specs.List.{fold}
-use Rattle.std.proofs.lemmas.Result.{on_ok_weaker}
-use Rattle.ss_names_declarations.specs.NameTable.{value_for, with_first}
-use Rattle.ss_names.specs.Table.{Table}
-use Rattle.ss_names.specs.Filling.{with_variables}
-use Rattle.ss_names.specs.View.{view_table}
+use Rattle.ss_names.proofs.Common.{fold, on_ok_weaker, Table, value_for, view_table, with_first, with_variables}
 use Rattle.ss_names.proofs.filling.add_variable.Goals as goal
 
 pub returns-then-has_attribute : goal.returns-then-has_attribute

@@ -1,6 +1,5 @@
 use Rattle.std.proofs.Common.{sym, ap, subst, ◌∙◌}
-use Rattle.ss_names.specs.Table.{Table}
-use Rattle.ss_names.specs.Filling.{HasRows, all_entered, with_all_meanings, with_subjects}
+use Rattle.ss_names.proofs.Common.{all_entered, HasRows, Table, with_all_meanings, with_subjects}
 use Rattle.ss_names.proofs.Passes.{clash_filled, filled_is_declared, rows_made, three_passed}
 use Rattle.ss_names.proofs.filling.fill.Goals as goal
 

@@ -1,6 +1,5 @@
 use Rattle.std.proofs.Common.{◌≡◌, take}
-use Rattle.std.specs.List.{fold}
-use Rattle.ss_names.specs.Filling.{names_pass}
+use Rattle.ss_names.proofs.Common.{fold, names_pass}
 use Rattle.ss_names.proofs.filling.fill_names.Given as goal
 
 abbrev pub invariant-loop-declaration : goal.invariant-loop-declaration

@@ -1,7 +1,5 @@
 use Rattle.std.proofs.Common.{◌≡◌, ◌<◌, Some, length, sym, ap, ◌∙◌, arith}
-use Rattle.ss_names.specs.Table.{Table}
-use Rattle.ss_names.specs.Filling.{merged_if, with_sets}
-use Rattle.ss_names.specs.View.{view_table}
+use Rattle.ss_names.proofs.Common.{merged_if, Table, view_table, with_sets}
 use Rattle.ss_names.proofs.Fields.{place_below}
 use Rattle.ss_names.proofs.filling.merge_set.Goals as goal
 

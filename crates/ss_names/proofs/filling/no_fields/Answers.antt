@@ -1,7 +1,6 @@
 use Rattle.std.proofs.Common.{◌++◌, [], ◌∷◌, map, sym, ap, ◌∙◌, arith}
-use Rattle.std.proofs.lemmas.List.{map_push}
+use Rattle.ss_names.proofs.Common.{attributes_of_class, map_push, row_of}
 use Rattle.std.proofs.lemmas.List.FromFn.{map-range_with_len_more}
-use Rattle.ss_names.specs.Entries.{attributes_of_class, row_of}
 use Rattle.ss_names.proofs.filling.no_fields.Goals as goal
 
 pub loop-number-preserved : goal.loop-number-preserved

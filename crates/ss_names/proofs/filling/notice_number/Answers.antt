@@ -1,6 +1,5 @@
 use Rattle.std.proofs.Common.{◌≡◌, true, false, cond, [], sym, ap, ◌∙◌}
-use Rattle.ss_names_declarations.specs.NameTable.{place_in, value_for}
-use Rattle.std.specs.Prelude.{option_to_list}
+use Rattle.ss_names.proofs.Common.{option_to_list, place_in, value_for}
 use Rattle.ss_names.specs.Entries.{is_notice_class}
 use Rattle.ss_names.proofs.filling.notice_number.Goals as goal
 

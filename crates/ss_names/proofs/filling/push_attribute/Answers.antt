@@ -1,10 +1,5 @@
 use Rattle.std.proofs.Common.{◌≡◌, None, length, get_or, map, [], ap, ◌∙◌, arith}
-use Rattle.std.proofs.lemmas.List.{length-map}
-use Rattle.std.proofs.lemmas.Result.{on_ok_weaker}
-use Rattle.ss_names_declarations.specs.NameTable.{value_for}
-use Rattle.ss_names.specs.Entries.{row_of}
-use Rattle.ss_names.specs.Table.{Table}
-use Rattle.ss_names.specs.View.{view_table}
+use Rattle.ss_names.proofs.Common.{length-map, on_ok_weaker, row_of, Table, value_for, view_table}
 use Rattle.ss_names.proofs.Steps.{attribute_pushed}
 use Rattle.ss_names.proofs.filling.push_attribute.Goals as goal
 

@@ -1,10 +1,7 @@
 use Rattle.std.proofs.Common.{◌≡◌, ℕ, ◌<◌, List, ap, subst, ◌∙◌, Err}
-use Rattle.ss_lex.specs.declared.token.Token.{Token}
-use Rattle.ss_parse_expressions.specs.declared.failure.ParseFault.{ParseFault}
+use Rattle.ss_parse.proofs.Common.{Has_no_tree, Is_spelling, ParseFault, Token}
 use Rattle.ss_tree.specs.View.{view_program_tree}
-use Rattle.ss_parse.specs.SpelledPrograms.{Is_spelling}
 use Rattle.ss_parse_expressions.specs.Openers.{nesting_limit, openers}
-use Rattle.ss_parse.specs.Promise.{Has_no_tree}
 use Rattle.ss_parse.specs.ReadPrograms.{program_of}
 use Rattle.ss_parse.proofs.Whole.{program_sound, none_at_all, none_within, tokens_there}
 use Rattle.ss_parse.proofs.parser.parse.Goals as goal

@@ -1,9 +1,6 @@
 use Rattle.std.proofs.Common.{sym, ap, subst, ◌∙◌}
-use Rattle.std.proofs.lemmas.Result.{err_from_is_err_and}
-use Rattle.ss_tree.specs.View.{view_conjunction_tree}
-use Rattle.ss_parse_expressions.specs.ReadConditions.{conjunction_in}
+use Rattle.ss_parse_expressions.proofs.Common.{conjunction_in, err_from_is_err_and, HasFailedReading, view_conjunction_tree}
 use Rattle.ss_parse_expressions.proofs.ConditionLaws.{condition_loop}
-use Rattle.ss_parse_expressions.specs.Reading.{HasFailedReading}
 use Rattle.ss_parse_expressions.proofs.Rows.{grows, breaks, is_done}
 use Rattle.ss_parse_expressions.proofs.conditions.condition.Goals as goal
 

@@ -1,8 +1,6 @@
 use Rattle.std.proofs.Common.{◌≡◌, length, map}
 use Rattle.ss_lex.specs.declared.word.Word.TheVariants as words
-use Rattle.ss_tree.specs.View.{view_conjunction_tree}
-use Rattle.ss_parse_expressions.specs.Reading.{rows, word, begins, skip}
-use Rattle.ss_parse_expressions.specs.ReadConditions.{conjunction_in, condition_in}
+use Rattle.ss_parse_expressions.proofs.Common.{begins, condition_in, conjunction_in, rows, skip, view_conjunction_tree, word}
 use Rattle.ss_parse_expressions.proofs.Rows.{with_front}
 use Rattle.ss_parse_expressions.proofs.conditions.condition.Given as goal
 

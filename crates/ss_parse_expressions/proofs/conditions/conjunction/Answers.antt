@@ -1,9 +1,6 @@
 use Rattle.std.proofs.Common.{sym, ap, subst, ◌∙◌}
-use Rattle.std.proofs.lemmas.Result.{err_from_is_err_and}
-use Rattle.ss_tree.specs.View.{view_test_tree}
-use Rattle.ss_parse_expressions.specs.ReadConditions.{test_in}
+use Rattle.ss_parse_expressions.proofs.Common.{err_from_is_err_and, HasFailedReading, test_in, view_test_tree}
 use Rattle.ss_parse_expressions.proofs.ConditionLaws.{conjunction_loop}
-use Rattle.ss_parse_expressions.specs.Reading.{HasFailedReading}
 use Rattle.ss_parse_expressions.proofs.Rows.{grows, breaks, is_done}
 use Rattle.ss_parse_expressions.proofs.conditions.conjunction.Goals as goal
 

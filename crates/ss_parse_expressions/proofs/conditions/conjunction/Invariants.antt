@@ -1,8 +1,6 @@
 use Rattle.std.proofs.Common.{◌≡◌, length, map}
 use Rattle.ss_lex.specs.declared.word.Word.TheVariants as words
-use Rattle.ss_tree.specs.View.{view_test_tree}
-use Rattle.ss_parse_expressions.specs.Reading.{rows, word, begins, skip}
-use Rattle.ss_parse_expressions.specs.ReadConditions.{test_in, conjunction_in}
+use Rattle.ss_parse_expressions.proofs.Common.{begins, conjunction_in, rows, skip, test_in, view_test_tree, word}
 use Rattle.ss_parse_expressions.proofs.Rows.{with_front}
 use Rattle.ss_parse_expressions.proofs.conditions.conjunction.Given as goal
 

@@ -1,6 +1,5 @@
 use Rattle.std.proofs.Common.{sym, ap, ◌∙◌}
-use Rattle.ss_parse_expressions.specs.ReadConditions.{reference_of}
-use Rattle.ss_tree.specs.View.{view_expression_tree}
+use Rattle.ss_parse_expressions.proofs.Common.{reference_of, view_expression_tree}
 use Rattle.ss_parse_expressions.proofs.References.{named_some, named_none}
 use Rattle.ss_parse_expressions.proofs.conditions.reference_of.Goals as goal
 

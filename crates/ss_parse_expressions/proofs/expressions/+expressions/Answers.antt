@@ -1,10 +1,5 @@
 use Rattle.std.proofs.Common.{sym, ap, subst, ◌∙◌, Ok}
-use Rattle.ss_tree.specs.Tree.{ExpressionTree}
-use Rattle.ss_tree.specs.Views.{view_named_made}
-use Rattle.std.proofs.lemmas.Result.{err_from_is_err_and}
-use Rattle.ss_tree.specs.View.{view_expression_tree, view_term}
-use Rattle.ss_parse_expressions.specs.Reading.{HasFailedReading}
-use Rattle.ss_parse_expressions.specs.ReadExpressions.{factor_with, sum_in}
+use Rattle.ss_parse_expressions.proofs.Common.{err_from_is_err_and, ExpressionTree, factor_with, HasFailedReading, sum_in, view_expression_tree, view_named_made, view_term}
 use Rattle.ss_parse_expressions.proofs.Rows.{grows, breaks, is_done}
 use Rattle.ss_parse_expressions.proofs.Sums.{further_factors_loop, further_terms_loop, sums_loop}
 use Rattle.ss_parse_expressions.proofs.expressions.+expressions.Goals as goal

@@ -1,6 +1,5 @@
 use Rattle.std.proofs.Common.{◌≡◌, ◌+◌, ◌*◌, length, map}
-use Rattle.ss_tree.specs.View.{view_expression_tree, view_term}
-use Rattle.ss_parse_expressions.specs.Reading.{begins, begins_more, skip, skip_separator, rows}
+use Rattle.ss_parse_expressions.proofs.Common.{begins, begins_more, rows, skip, skip_separator, view_expression_tree, view_term}
 use Rattle.ss_parse_expressions.specs.ReadExpressions.{star, begins_sign, begins_sum, arguments_with, factor_with, further_factors_with, signed_term_with, further_terms_with, sum_in}
 use Rattle.ss_parse_expressions.proofs.Rows.{with_front}
 use Rattle.ss_parse_expressions.proofs.expressions.+expressions.Given as goal

@@ -1,6 +1,5 @@
 use Rattle.std.proofs.Common.{◌≡◌, length, map}
-use Rattle.ss_tree.specs.View.{view_guard_tree}
-use Rattle.ss_parse_expressions.specs.Reading.{rows, skip_comma}
+use Rattle.ss_parse_expressions.proofs.Common.{rows, skip_comma, view_guard_tree}
 use Rattle.ss_parse_expressions.specs.ReadHeads.{begins_guard, guard_in, further_guards}
 use Rattle.ss_parse_expressions.proofs.Rows.{with_front}
 use Rattle.ss_parse_expressions.proofs.heads.guards.Given as goal

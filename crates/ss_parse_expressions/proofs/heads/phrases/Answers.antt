@@ -1,9 +1,6 @@
 use Rattle.std.proofs.Common.{sym, ap, subst, ◌∙◌}
-use Rattle.std.proofs.lemmas.Result.{err_from_is_err_and}
-use Rattle.ss_tree.specs.View.{view_phrase_tree}
-use Rattle.ss_parse_expressions.specs.ReadHeads.{phrase_in}
+use Rattle.ss_parse_expressions.proofs.Common.{err_from_is_err_and, HasFailedReading, phrase_in, view_phrase_tree}
 use Rattle.ss_parse_expressions.proofs.HeadLaws.{phrases_loop}
-use Rattle.ss_parse_expressions.specs.Reading.{HasFailedReading}
 use Rattle.ss_parse_expressions.proofs.Rows.{grows, breaks, is_done}
 use Rattle.ss_parse_expressions.proofs.heads.phrases.Goals as goal
 

@@ -1,7 +1,5 @@
 use Rattle.std.proofs.Common.{◌≡◌, length, map}
-use Rattle.ss_tree.specs.View.{view_phrase_tree}
-use Rattle.ss_parse_expressions.specs.Reading.{rows, skip_comma}
-use Rattle.ss_parse_expressions.specs.ReadHeads.{begins_phrase, phrase_in, phrases_in}
+use Rattle.ss_parse_expressions.proofs.Common.{begins_phrase, phrase_in, phrases_in, rows, skip_comma, view_phrase_tree}
 use Rattle.ss_parse_expressions.proofs.Rows.{with_front}
 use Rattle.ss_parse_expressions.proofs.heads.phrases.Given as goal
 

@@ -1,6 +1,5 @@
 use Rattle.std.proofs.Common.{◌≡◌, length}
-use Rattle.ss_parse_expressions.specs.Reading.{rows, begins_more, skip_separator}
-use Rattle.ss_parse_expressions.specs.ReadWords.{begins_item, articled_name, items}
+use Rattle.ss_parse_expressions.proofs.Common.{articled_name, begins_item, begins_more, items, rows, skip_separator}
 use Rattle.ss_parse_expressions.proofs.Rows.{with_front}
 use Rattle.ss_parse_expressions.proofs.names.items.Given as goal
 

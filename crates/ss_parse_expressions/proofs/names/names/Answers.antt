@@ -1,6 +1,5 @@
 use Rattle.std.proofs.Common.{sym, ap, subst, ◌∙◌}
-use Rattle.std.proofs.lemmas.Result.{err_from_is_err_and}
-use Rattle.ss_parse_expressions.specs.Reading.{taken, name_in_token, HasFailedReading}
+use Rattle.ss_parse_expressions.proofs.Common.{err_from_is_err_and, HasFailedReading, name_in_token, taken}
 use Rattle.ss_parse_expressions.proofs.WordLaws.{names_loop}
 use Rattle.ss_parse_expressions.proofs.Rows.{first_taken, grows_plain, breaks_plain, is_done_plain}
 use Rattle.ss_parse_expressions.proofs.names.names.Goals as goal

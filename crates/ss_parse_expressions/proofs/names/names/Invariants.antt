@@ -1,6 +1,5 @@
 use Rattle.std.proofs.Common.{◌≡◌, length}
-use Rattle.ss_parse_expressions.specs.Reading.{rows, begins_more, skip_separator, taken, name_in_token}
-use Rattle.ss_parse_expressions.specs.ReadWords.{begins_name, names}
+use Rattle.ss_parse_expressions.proofs.Common.{begins_more, begins_name, name_in_token, names, rows, skip_separator, taken}
 use Rattle.ss_parse_expressions.proofs.Rows.{with_front}
 use Rattle.ss_parse_expressions.proofs.names.names.Given as goal
 

@@ -1,9 +1,6 @@
 use Rattle.std.proofs.Common.{sym, ap, subst, ◌∙◌}
-use Rattle.std.proofs.lemmas.Result.{err_from_is_err_and}
-use Rattle.ss_tree.specs.View.{view_named}
-use Rattle.ss_parse_expressions.specs.ReadPlaces.{target_in}
+use Rattle.ss_parse_expressions.proofs.Common.{err_from_is_err_and, HasFailedReading, target_in, view_named}
 use Rattle.ss_parse_expressions.proofs.PlaceLaws.{targets_loop}
-use Rattle.ss_parse_expressions.specs.Reading.{HasFailedReading}
 use Rattle.ss_parse_expressions.proofs.Rows.{grows, breaks, is_done}
 use Rattle.ss_parse_expressions.proofs.places.targets.Goals as goal
 

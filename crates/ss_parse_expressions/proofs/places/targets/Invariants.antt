@@ -1,7 +1,5 @@
 use Rattle.std.proofs.Common.{◌≡◌, length, map}
-use Rattle.ss_tree.specs.View.{view_named}
-use Rattle.ss_parse_expressions.specs.Reading.{rows, begins_more, skip_separator}
-use Rattle.ss_parse_expressions.specs.ReadPlaces.{begins_target, target_in, targets_in}
+use Rattle.ss_parse_expressions.proofs.Common.{begins_more, begins_target, rows, skip_separator, target_in, targets_in, view_named}
 use Rattle.ss_parse_expressions.proofs.Rows.{with_front}
 use Rattle.ss_parse_expressions.proofs.places.targets.Given as goal
 

@@ -1,8 +1,6 @@
 use Rattle.std.proofs.Common.{rules, ◌≡◌, sym, ap, subst, ◌∙◌, arith, w64, to_z, of_z}
 use Rattle.std.specs.Prelude.{IfOk, OnOk}
-use Rattle.ss_records.specs.declared.commands.Command.TheVariants.{CreateAll}
-use Rattle.ss_world.specs.State.{destroyed, assigned, timed}
-use Rattle.ss_world.specs.Sets.{filed_first, filed_last, filed_before, filed_after, removed}
+use Rattle.ss_records.proofs.Common.{assigned, CreateAll, destroyed, filed_after, filed_before, filed_first, filed_last, removed, timed}
 use Rattle.ss_records.specs.Commands.{IsFittingCommand, command_answer, after_command}
 use Rattle.ss_records.proofs.Outcomes.{outcome_is, is_left}
 use Rattle.ss_records.proofs.commands.make.Goals as goal

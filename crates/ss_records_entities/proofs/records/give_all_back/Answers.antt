@@ -1,8 +1,5 @@
 use Rattle.std.proofs.Common.{◌≡◌, ℕ, inl, drop, ◌+◌, ◌-◌, ◌*◌, ◌/◌, ◌<◌, ◌≤◌, length, slice_get, None, sym, ap, subst, ◌∙◌, arith}
-use Rattle.ss_records_entities.proofs.Common.{Class, class_at_place, class_in_words, IsNumber, lying, plain, word_of}
-use Rattle.ss_records_blocks.specs.Places.{living_count}
-use Rattle.ss_records_blocks.specs.Pages.{in_page}
-use Rattle.ss_records_blocks.proofs.Paging.{quot, rem}
+use Rattle.ss_records_entities.proofs.Common.{Class, class_at_place, class_in_words, in_page, IsNumber, living_count, lying, plain, quot, rem, word_of}
 use Rattle.ss_records_entities.proofs.Living.{Left, living_drop, rows_held, is_there, left_given, left_past}
 use Rattle.ss_records_entities.proofs.records.give_all_back.Goals as goal
 use Rattle.ss_records_entities.proofs.records.give_all_back.Goals.{in-Some, in-None}

@@ -1,7 +1,5 @@
 use Rattle.std.proofs.Common.{◌≡◌, sym, subst, rules, ℤ, w64, to_z, of_z}
-use Rattle.ss_base.specs.declared.value.Value.{Value}
-use Rattle.ss_base.specs.declared.value.Value.TheVariants.{Whole}
-use Rattle.ss_records_words.specs.Reading.{IsValuePut}
+use Rattle.ss_records_words.proofs.Common.{IsValuePut, Value, Whole}
 use Rattle.ss_records_words.proofs.attributes.set_value.Goals as goal
 
 pub returns-in-Whole-clause-written : goal.returns-in-Whole-clause-written

@@ -1,6 +1,5 @@
 use Rattle.std.proofs.Common.{sym, ap, ◌∙◌}
-use Rattle.ss_base.specs.declared.layout.Mode.{Mode}
-use Rattle.ss_records_words.specs.Reading.{value_at}
+use Rattle.ss_records_words.proofs.Common.{Mode, value_at}
 use Rattle.ss_records_words.proofs.ValueWords.{whole_read}
 use Rattle.ss_records_words.proofs.attributes.value.Goals as goal
 

@@ -1,6 +1,5 @@
 use Rattle.std.proofs.Common.{rules, ◌≡◌, ℤ, refl, ap, ◌∙◌, w64, to_z, of_z}
-use Rattle.ss_base.specs.declared.value.Value.TheVariants.{Whole}
-use Rattle.ss_base.specs.declared.layout.Mode.TheVariants.{Integer}
+use Rattle.ss_records_words.proofs.Common.{Integer, Whole}
 use Rattle.ss_records_words.proofs.ValueWords.{whole_read}
 use Rattle.ss_records_words.proofs.attributes.whole.Goals as goal
 

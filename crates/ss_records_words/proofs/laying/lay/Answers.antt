@@ -1,8 +1,5 @@
 use Rattle.std.proofs.Common.{◌+◌, ◌*◌, arith, subst}
-use Rattle.ss_base.specs.declared.layout.Owner.TheVariants.{Class}
-use Rattle.ss_records_words.specs.Shape.{links_start, owned_start}
-use Rattle.ss_records_blocks.specs.Writes.{IsFilled, zeros, links_to, owned_from}
-use Rattle.ss_records_blocks.proofs.Fills.{blank_above}
+use Rattle.ss_records_words.proofs.Common.{blank_above, Class, IsFilled, links_start, links_to, owned_from, owned_start, zeros}
 use Rattle.ss_records_words.proofs.Fills.{laid_from}
 use Rattle.ss_records_words.proofs.laying.lay.Goals as goal
 

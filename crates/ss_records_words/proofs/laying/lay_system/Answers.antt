@@ -1,6 +1,5 @@
 use Rattle.std.proofs.Common.{◌+◌, ◌*◌, arith, subst}
-use Rattle.ss_records_blocks.specs.Writes.{IsFilled, owned_from}
-use Rattle.ss_records_blocks.proofs.Fills.{blank_above}
+use Rattle.ss_records_words.proofs.Common.{blank_above, IsFilled, owned_from}
 use Rattle.ss_records_words.proofs.Fills.{laid_system_from}
 use Rattle.ss_records_words.proofs.laying.lay_system.Goals as goal
 

@@ -1,8 +1,5 @@
 use Rattle.std.proofs.Common.{◌≡◌, ◌*◌, length, ap, subst, ◌∙◌, arith}
-use Rattle.ss_base.specs.declared.layout.Owner.TheVariants.{Class}
-use Rattle.ss_records_blocks.specs.Cells.{word_of}
-use Rattle.ss_records_words.specs.Shape.{set_places}
-use Rattle.ss_records_words.specs.Laid.{AreLaidTo}
+use Rattle.ss_records_words.proofs.Common.{AreLaidTo, Class, set_places, word_of}
 use Rattle.ss_records_blocks.proofs.Puts.{word_blank, length-blanks}
 use Rattle.ss_records_blocks.proofs.Placings.{place_at}
 use Rattle.ss_records_words.proofs.Makings.{laid_none, laid_more}

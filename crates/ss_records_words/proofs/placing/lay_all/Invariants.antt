@@ -1,7 +1,5 @@
 use Rattle.std.proofs.Common.{◌≡◌, ◌+◌, ◌*◌, ◌≤◌}
-use Rattle.ss_base.specs.declared.layout.Owner.TheVariants.{Class}
-use Rattle.ss_records_words.specs.Shape.{set_places}
-use Rattle.ss_records_words.specs.Laid.{AreLaidTo}
+use Rattle.ss_records_words.proofs.Common.{AreLaidTo, Class, set_places}
 use Rattle.ss_records_words.proofs.placing.lay_all.Given as goal
 
 abbrev pub invariant-loop-i : goal.invariant-loop-i

@@ -1,7 +1,5 @@
 use Rattle.std.proofs.Common.{length, ap, arith}
-use Rattle.std.proofs.lemmas.Option.{slice_get_within}
-use Rattle.ss_base.specs.declared.layout.Layout.{Layout}
-use Rattle.ss_records_words.specs.declared.plan.Bases.{Bases}
+use Rattle.ss_records_words.proofs.Common.{Bases, Layout, slice_get_within}
 use Rattle.ss_records_words.proofs.Planned.{one_longer, bases_more}
 use Rattle.ss_records_words.proofs.plan.all_bases.Goals as goal
 

@@ -1,6 +1,5 @@
 use Rattle.std.proofs.Common.{◌≡◌, ℕ, ◌<◌, length, slice_get, Some}
-use Rattle.ss_base.specs.declared.layout.SetLayout.{SetLayout}
-use Rattle.ss_records_words.specs.Plans.{bases_of}
+use Rattle.ss_records_words.proofs.Common.{bases_of, SetLayout}
 use Rattle.ss_records_words.proofs.plan.all_bases.Given as goal
 
 abbrev pub invariant-loop-s : goal.invariant-loop-s

@@ -1,6 +1,5 @@
 use Rattle.std.proofs.Common.{◌+◌, ◌*◌, take, ap, ◌∙◌}
-use Rattle.ss_base.specs.declared.layout.Layout.{Layout}
-use Rattle.ss_records_words.specs.Shape.{owned_start, owned_by, count_before, count_sets}
+use Rattle.ss_records_words.proofs.Common.{count_before, count_sets, Layout, owned_by, owned_start}
 use Rattle.ss_records_words.proofs.Tied.{count_taken}
 use Rattle.ss_records_words.proofs.shape.owner_base.Goals as goal
 

@@ -1,10 +1,5 @@
 use Rattle.std.proofs.Common.{rules, ◌≡◌, List, Err, sym, ap, subst, ◌∙◌, w64, to_z, of_z, ℤ}
-use Rattle.std.specs.Prelude.{IsOk}
-use Rattle.ss_base.specs.declared.layout.RankKey.{RankKey}
-use Rattle.ss_world.specs.State.{State}
-use Rattle.ss_world.specs.Sets.{owner, member_class, owner_of_member}
-use Rattle.ss_world.specs.Disciplines.{owned, filed_ranked}
-use Rattle.ss_sets.specs.Walks.{first_after, filed_at}
+use Rattle.ss_sets.proofs.Common.{filed_at, filed_ranked, first_after, IsOk, member_class, owned, owner, owner_of_member, RankKey, State}
 use Rattle.ss_sets.proofs.Ranked.{ranked_at, no_owner_ranked, no_member_ranked, same_outcome}
 use Rattle.ss_sets.proofs.ranking.file_ranked.Goals as goal
 

@@ -1,10 +1,5 @@
 use Rattle.std.proofs.Common.{rules, ◌≡◌, List, length, Ok, Err, sym, subst, w64, to_z, of_z, ℤ}
-use Rattle.std.specs.Prelude.{IsOk}
-use Rattle.ss_base.specs.declared.layout.RankKey.{RankKey}
-use Rattle.ss_world.specs.State.{and_then}
-use Rattle.ss_world.specs.Sets.{owner, first_in, member_class}
-use Rattle.ss_world.specs.Disciplines.{owned, AreFields}
-use Rattle.ss_sets.specs.Walks.{as_member}
+use Rattle.ss_sets.proofs.Common.{and_then, AreFields, as_member, first_in, IsOk, member_class, owned, owner, RankKey}
 use Rattle.ss_sets.proofs.Walking.{found_first, not_found, none_after}
 use Rattle.ss_sets.proofs.ranking.first_after.Goals as goal
 

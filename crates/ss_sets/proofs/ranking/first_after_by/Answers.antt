@@ -1,13 +1,5 @@
 use Rattle.std.proofs.Common.{rules, ◌≡◌, ◌+◌, ◌≤◌, ℤ, List, ◌∷◌, Some, Err, sym, ap, subst, ◌∙◌, arith, w64, to_z, of_z}
-use Rattle.std.specs.Prelude.{slice_get, MatchResult, IsOk}
-use Rattle.std.proofs.lemmas.Int.{to_z-of_z}
-use Rattle.ss_base.specs.declared.value.Value.TheVariants.{Whole}
-use Rattle.ss_base.specs.declared.layout.Mode.TheVariants.{Integer}
-use Rattle.ss_base.specs.declared.layout.RankKey.{RankKey}
-use Rattle.ss_world.specs.State.{modes_of}
-use Rattle.ss_world.specs.Sets.{member_class, owner}
-use Rattle.ss_world.specs.Disciplines.{value_of, members_passed, owned}
-use Rattle.ss_sets.specs.Walks.{first_after}
+use Rattle.ss_sets.proofs.Common.{first_after, Integer, IsOk, MatchResult, member_class, members_passed, modes_of, owned, owner, RankKey, slice_get, to_z-of_z, value_of, Whole}
 use Rattle.ss_sets.proofs.Past.{none_below}
 use Rattle.ss_sets.proofs.Walking.{first_field}
 use Rattle.ss_sets.proofs.ranking.first_after_by.Goals as goal

@@ -1,7 +1,5 @@
 use Rattle.std.proofs.Common.{rules, ◌≡◌, w64, to_z, of_z, ap, ◌∙◌, arith}
-use Rattle.std.proofs.lemmas.Int.{to_z-of_z}
-use Rattle.ss_base.specs.declared.value.Value.TheVariants.{Whole}
-use Rattle.ss_sets.specs.Walks.{as_member}
+use Rattle.ss_sets.proofs.Common.{as_member, to_z-of_z, Whole}
 use Rattle.ss_sets.proofs.Past.{found_past, passed_past}
 use Rattle.ss_sets.proofs.ranking.first_after_number.Goals as goal
 

@@ -1,12 +1,5 @@
 use Rattle.std.proofs.Common.{rules, ◌≡◌, ◌<◌, ℕ, List, ◌∷◌, length, Some, Ok, Err, true, false, refl, sym, ap, subst, ◌∙◌, arith, w64, to_z, of_z, ℤ, pos}
-use Rattle.std.specs.Prelude.{IsOk}
-use Rattle.ss_base.specs.declared.layout.RankKey.{RankKey}
-use Rattle.ss_base.specs.declared.layout.Layout.{Layout}
-use Rattle.ss_world.specs.State.{State, and_then, modes_of}
-use Rattle.ss_world.specs.Lists.{head0}
-use Rattle.ss_world.specs.Sets.{owner, first_in, member_class}
-use Rattle.ss_world.specs.Disciplines.{members_passed, owned, AreFields}
-use Rattle.ss_sets.specs.Walks.{first_after, as_member}
+use Rattle.ss_sets.proofs.Common.{and_then, AreFields, as_member, first_after, first_in, head0, IsOk, Layout, member_class, members_passed, modes_of, owned, owner, RankKey, State}
 use Rattle.ss_sets.proofs.Walking.{onward, leader, onward_all, first_leads, reached_member, next_is, stops, passes, found_first, not_found, Looked, looked, never_lost, first_field, other_fields}
 use Rattle.ss_sets.proofs.ranking.first_after_value.Goals as goal
 

@@ -1,16 +1,6 @@
 use Rattle.std.proofs.Common.{rules, ◌≡◌, ◌<◌, ℕ, List, ◌∷◌, length, Some, Ok, Err, true, false, sym, ap, subst, ◌∙◌, arith, w64, to_z, of_z, ℤ, pos}
-use Rattle.std.specs.Prelude.{IsOk, slice_get}
+use Rattle.ss_sets.proofs.Common.{and_then, AreFields, as_member, first_after, first_in, head0, Integer, IsOk, Layout, member_class, members_passed, modes_of, owned, owner, RankKey, slice_get, State, value_cmp, value_of, Whole}
 use Rattle.std.specs.Ordering.{int_cmp}
-use Rattle.ss_base.specs.Order.{value_cmp}
-use Rattle.ss_base.specs.declared.value.Value.TheVariants.{Whole}
-use Rattle.ss_base.specs.declared.layout.Mode.TheVariants.{Integer}
-use Rattle.ss_base.specs.declared.layout.RankKey.{RankKey}
-use Rattle.ss_base.specs.declared.layout.Layout.{Layout}
-use Rattle.ss_world.specs.State.{State, and_then, modes_of}
-use Rattle.ss_world.specs.Lists.{head0}
-use Rattle.ss_world.specs.Sets.{owner, first_in, member_class}
-use Rattle.ss_world.specs.Disciplines.{value_of, members_passed, owned, AreFields}
-use Rattle.ss_sets.specs.Walks.{first_after, as_member}
 use Rattle.ss_sets.proofs.Walking.{onward, leader, onward_all, first_leads, reached_member, next_is, stops, passes, found_first, not_found, Looked, looked, never_lost, other_fields}
 use Rattle.ss_sets.proofs.ranking.first_after_whole.Goals as goal
 

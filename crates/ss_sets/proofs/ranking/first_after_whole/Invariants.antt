@@ -1,7 +1,5 @@
 use Rattle.std.proofs.Common.{◌≡◌, ◌+◌, ◌≤◌, ◌∷◌, length}
-use Rattle.ss_world.specs.Sets.{member_class}
-use Rattle.ss_world.specs.Disciplines.{members_passed, owned}
-use Rattle.ss_sets.specs.Walks.{first_after}
+use Rattle.ss_sets.proofs.Common.{first_after, member_class, members_passed, owned}
 use Rattle.ss_sets.proofs.Walking.{onward, leader}
 use Rattle.ss_sets.proofs.ranking.first_after_whole.Given as goal
 

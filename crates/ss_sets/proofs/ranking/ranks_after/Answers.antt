@@ -1,8 +1,6 @@
 use Rattle.std.proofs.Common.{rules, ◌≡◌, Less, Equal, Greater, w64, to_z, of_z}
 use Rattle.std.specs.Prelude.{slice_index_or, false}
-use Rattle.ss_base.specs.Order.{value_cmp}
-use Rattle.ss_base.specs.declared.layout.RankKey.{RankKey}
-use Rattle.ss_world.specs.Disciplines.{value_of}
+use Rattle.ss_sets.proofs.Common.{RankKey, value_cmp, value_of}
 use Rattle.ss_sets.proofs.Keys.{by_key}
 use Rattle.ss_sets.proofs.ranking.ranks_after.Goals as goal
 

@@ -1,6 +1,5 @@
 use Rattle.std.proofs.Common.{◌<◌, length, map, to_z, of_z, w64, arith}
-use Rattle.ss_stats_histories.specs.Records.{is_up_to}
-use Rattle.ss_stats_histories.specs.Each.{shown, IsKeptUntil, HasRoom, begun_shown}
+use Rattle.ss_stats_histories.proofs.Common.{begun_shown, HasRoom, is_up_to, IsKeptUntil, shown}
 use Rattle.ss_stats_histories.proofs.Columns.{all_written, one_further, from_on}
 use Rattle.ss_stats_histories.proofs.each.begin_all_each.Goals as goal
 

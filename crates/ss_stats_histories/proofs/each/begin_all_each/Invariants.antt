@@ -1,6 +1,5 @@
 use Rattle.std.proofs.Common.{◌≡◌, ℕ, ◌≤◌, ◌<◌, ◌++◌, length, map, take, drop, get_or, All}
-use Rattle.ss_stats_histories.specs.Records.{Recorded, is_up_to}
-use Rattle.ss_stats_histories.specs.Each.{shown, IsKeptUntil, HasRoom, begun_shown}
+use Rattle.ss_stats_histories.proofs.Common.{begun_shown, HasRoom, is_up_to, IsKeptUntil, Recorded, shown}
 use Rattle.ss_stats_histories.proofs.each.begin_all_each.Given as goal
 
 abbrev pub invariant-loop-place : goal.invariant-loop-place

@@ -1,6 +1,5 @@
 use Rattle.std.proofs.Common.{◌≡◌, to_z, of_z, w64, sym, subst, arith}
-use Rattle.std.proofs.lemmas.Int.{ints}
-use Rattle.ss_stats_histories.specs.Records.{IsUntil}
+use Rattle.ss_stats_histories.proofs.Common.{ints, IsUntil}
 use Rattle.ss_stats_histories.proofs.Columns.{until_put, start_until}
 use Rattle.ss_stats_histories.proofs.each.begin_all_one.Goals as goal
 

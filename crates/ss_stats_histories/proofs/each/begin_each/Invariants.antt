@@ -1,6 +1,5 @@
 use Rattle.std.proofs.Common.{◌≡◌, ℕ, ◌≤◌, ◌<◌, ◌++◌, length, map, pos, take, drop, get_or, int_eq, All}
-use Rattle.ss_stats_histories.specs.Records.{Recorded}
-use Rattle.ss_stats_histories.specs.Each.{shown, IsKeptUntil, HasRoom, begun_shown}
+use Rattle.ss_stats_histories.proofs.Common.{begun_shown, HasRoom, IsKeptUntil, Recorded, shown}
 use Rattle.ss_stats_histories.proofs.each.begin_each.Given as goal
 
 abbrev pub invariant-loop-place : goal.invariant-loop-place

@@ -1,7 +1,5 @@
 use Rattle.std.proofs.Common.{◌<◌, to_z, of_z, w64, length, map, sym, ap, ◌∙◌, get_or}
-use Rattle.std.specs.Option.{option_or}
-use Rattle.ss_stats_histories.specs.Records.{Recorded, column_of}
-use Rattle.ss_stats_histories.specs.Each.{shown, refused_in, refused_at}
+use Rattle.ss_stats_histories.proofs.Common.{column_of, option_or, Recorded, refused_at, refused_in, shown}
 use Rattle.ss_stats_histories.proofs.Fullness.{refused_there, next_reason}
 use Rattle.ss_stats_histories.proofs.each.first_refused.Goals as goal
 

@@ -1,7 +1,5 @@
 use Rattle.std.proofs.Common.{◌≡◌, sym, ◌∙◌, to_z, of_z, w64, arith}
-use Rattle.std.proofs.lemmas.Int.{ints}
-use Rattle.std.proofs.lemmas.Option.{slice_get_past}
-use Rattle.std.proofs.lemmas.Bool.{ltb-true}
+use Rattle.ss_stats_histories.proofs.Common.{ints, ltb-true, slice_get_past}
 use Rattle.ss_stats_histories.proofs.Tables.{at_index}
 use Rattle.ss_stats_histories.proofs.Fullness.{has_there, has_nowhere}
 use Rattle.ss_stats_histories.proofs.each.has_at.Goals as goal

@@ -1,7 +1,6 @@
 use Rattle.std.proofs.Common.{◌≡◌, ◌<◌, length, map, get_or, to_z, of_z, w64, sym, ap, subst, ◌∙◌, arith}
 use Rattle.std.proofs.lemmas.List.Sums.{fold_more}
-use Rattle.ss_stats_histories.specs.Records.{IsUntil, column_of}
-use Rattle.ss_stats_histories.specs.Each.{shown, IsKeptUntil, noted_one, changed_at}
+use Rattle.ss_stats_histories.proofs.Common.{changed_at, column_of, IsKeptUntil, IsUntil, noted_one, shown}
 use Rattle.ss_stats_histories.proofs.Columns.{until_noted, all_written, one_changed}
 use Rattle.ss_stats_histories.proofs.each.note_each.Goals as goal
 

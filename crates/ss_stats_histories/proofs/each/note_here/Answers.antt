@@ -1,7 +1,5 @@
 use Rattle.std.proofs.Common.{◌≡◌, subst, sym, to_z, of_z, w64, arith, get_or, ◌∙◌}
-use Rattle.std.proofs.lemmas.Int.{ints}
-use Rattle.ss_stats_histories.specs.Records.{IsUntil, column_of}
-use Rattle.ss_stats_histories.specs.Each.{shown, noted_one, IsKeptUntil}
+use Rattle.ss_stats_histories.proofs.Common.{column_of, ints, IsKeptUntil, IsUntil, noted_one, shown}
 use Rattle.ss_stats_histories.proofs.Columns.{one_changed, all_written, until_noted}
 use Rattle.ss_stats_histories.proofs.Fullness.{refused_there}
 use Rattle.ss_stats_histories.proofs.each.note_here.Goals as goal

@@ -1,7 +1,5 @@
 use Rattle.std.proofs.Common.{◌≡◌, ◌<◌, subst, length, sym, to_z, of_z, w64, arith, get_or}
-use Rattle.std.proofs.lemmas.Int.{ints}
-use Rattle.ss_stats_histories.specs.Records.{IsUntil, column_of}
-use Rattle.ss_stats_histories.specs.Each.{shown, renewed_one, IsKeptUntil}
+use Rattle.ss_stats_histories.proofs.Common.{column_of, ints, IsKeptUntil, IsUntil, renewed_one, shown}
 use Rattle.ss_stats_histories.proofs.Columns.{one_changed, all_written, until_renewed}
 use Rattle.ss_stats_histories.proofs.Fullness.{has_within}
 use Rattle.ss_stats_histories.proofs.each.renew_at.Goals as goal

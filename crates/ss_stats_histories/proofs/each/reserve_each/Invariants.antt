@@ -1,6 +1,5 @@
 use Rattle.std.proofs.Common.{◌≡◌, ℕ, ◌<◌, map, get_or}
-use Rattle.ss_stats_histories.specs.Records.{Recorded}
-use Rattle.ss_stats_histories.specs.Each.{bare, HasRoom}
+use Rattle.ss_stats_histories.proofs.Common.{bare, HasRoom, Recorded}
 use Rattle.ss_stats_histories.proofs.each.reserve_each.Given as goal
 
 abbrev pub invariant-loop-place : goal.invariant-loop-place

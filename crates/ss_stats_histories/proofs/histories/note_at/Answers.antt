@@ -1,8 +1,5 @@
 use Rattle.std.proofs.Common.{◌≡◌, List, map, Ok, Option, Some, None, sym, ap, ◌∙◌, refl, to_z, of_z, w64, arith}
-use Rattle.std.proofs.lemmas.Int.{ints}
-use Rattle.ss_stats_histories.specs.declared.unnoted.Unnoted.{Unnoted}
-use Rattle.ss_stats_histories.specs.Each.{StatisticHistories, shown}
-use Rattle.ss_stats_histories.specs.Records.{Recorded, statistics_of}
+use Rattle.ss_stats_histories.proofs.Common.{ints, Recorded, shown, StatisticHistories, statistics_of, Unnoted}
 use Rattle.ss_stats_histories.proofs.Noted.{same_statistics, seconds, stops_known, noted_known, noted_statistic, noted_where, noted_is, unless}
 use Rattle.ss_stats_histories.proofs.histories.note_at.Goals as goal
 

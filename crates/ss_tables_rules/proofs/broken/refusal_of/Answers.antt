@@ -1,16 +1,9 @@
 use Rattle.std.proofs.Common.{◌≡◌, ◌++◌, List, Option, None, map, option_map, sym, ap, ◌∙◌}
-use Rattle.std.specs.List.{flat_map, fold}
-use Rattle.std.proofs.lemmas.List.Sums.{fold-append}
+use Rattle.ss_tables_rules.proofs.Common.{Declaration, earlier, flat_map, fold, fold-append, misranked, repeats, table_error_order, TableError}
 use Rattle.std.proofs.lemmas.Result.{IfOk-weaker}
 use Rattle.ss_tree.specs.View.{view_preamble, view_program_tree, view_section}
-use Rattle.ss_names_declarations.specs.Earliest.{earlier}
-use Rattle.ss_names_declarations.specs.declared.declaration.Declaration.{Declaration}
 use Rattle.ss_names.specs.Table.{Table, clashes, declared}
 use Rattle.ss_tables_rules.specs.Broken.{table_breaches, declaration_breaches, unmoded}
-use Rattle.ss_tables_rules.specs.Keys.{misranked}
-use Rattle.ss_tables_rules.specs.Once.{repeats}
-use Rattle.ss_tables_rules.specs.Order.{table_error_order}
-use Rattle.ss_tables_rules.specs.declared.error.TableError.{TableError}
 use Rattle.ss_tables_rules.specs.declared.error.TableError.TheVariants as e
 use Rattle.ss_tables_rules.proofs.Finding.{twice_first}
 use Rattle.ss_tables_rules.proofs.broken.refusal_of.Goals as goal

@@ -1,7 +1,6 @@
 use Rattle.std.proofs.Common.{◌≡◌, ℕ, Bool, not, Option, sym, ap, ◌∙◌}
-use Rattle.ss_names.specs.Table.{Table}
+use Rattle.ss_tables_rules.proofs.Common.{Table, unless}
 use Rattle.ss_names_declarations.specs.NameTable.{is_one_of, place_in}
-use Rattle.ss_names_declarations.specs.Earliest.{unless}
 use Rattle.ss_tables_rules.specs.Rules.{broken_in, is_too_many}
 use Rattle.ss_tables_rules.specs.declared.error.TableError.TheVariants as e
 use Rattle.ss_tables_rules.proofs.declarations.broken_in.Goals as goal

@@ -1,9 +1,6 @@
 use Rattle.std.proofs.Common.{ap, ◌∙◌}
-use Rattle.ss_names_declarations.specs.Earliest.{earlier, earlier_of}
-use Rattle.ss_tables_rules.specs.Broken.{declaration_breaches}
-use Rattle.ss_tables_rules.specs.Order.{table_error_order}
+use Rattle.ss_tables_rules.proofs.Common.{declaration_breaches, earlier, earlier_of, earlier_of_list, found_after, table_error_order}
 use Rattle.ss_tables_rules.specs.Rules.{broken_by}
-use Rattle.ss_names_scopes.proofs.Finding.{earlier_of_list, found_after}
 use Rattle.ss_tables_rules.proofs.declarations.declared_breaks.Goals as goal
 
 pub loop-declaration-preserved : goal.loop-declaration-preserved

@@ -1,8 +1,5 @@
 use Rattle.std.proofs.Common.{◌≡◌, take}
-use Rattle.std.specs.List.{flat_map, fold}
-use Rattle.ss_names_declarations.specs.Earliest.{earlier}
-use Rattle.ss_tables_rules.specs.Broken.{declaration_breaches}
-use Rattle.ss_tables_rules.specs.Order.{table_error_order}
+use Rattle.ss_tables_rules.proofs.Common.{declaration_breaches, earlier, flat_map, fold, table_error_order}
 use Rattle.ss_tables_rules.proofs.declarations.declared_breaks.Given as goal
 
 abbrev pub invariant-loop-declaration : goal.invariant-loop-declaration

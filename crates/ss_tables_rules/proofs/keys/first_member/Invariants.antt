@@ -1,7 +1,5 @@
 use Rattle.std.proofs.Common.{◌≡◌, None, map, take}
-use Rattle.std.specs.List.{fold}
-use Rattle.std.specs.Option.{option_or}
-use Rattle.ss_tables_rules.specs.Keys.{member_named}
+use Rattle.ss_tables_rules.proofs.Common.{fold, member_named, option_or}
 use Rattle.ss_tables_rules.proofs.keys.first_member.Given as goal
 
 abbrev pub invariant-loop-set : goal.invariant-loop-set

@@ -1,11 +1,8 @@
 use Rattle.std.proofs.Common.{◌≡◌, ◌||◌, cond, [], ◌∷◌, ap, ◌∙◌}
-use Rattle.std.specs.List.{fold}
-use Rattle.ss_names_declarations.specs.Earliest.{earlier, earlier_of}
+use Rattle.ss_tables_rules.proofs.Common.{earlier, earlier_of, fold, found_after, table_error_order}
 use Rattle.ss_names_declarations.specs.NameTable.{value_for}
 use Rattle.ss_tables_rules.specs.Keys.{class_of, is_foreign, is_foreign_to_any, misranked_key}
-use Rattle.ss_tables_rules.specs.Order.{table_error_order}
 use Rattle.ss_tables_rules.specs.declared.error.TableError.TheVariants as e
-use Rattle.ss_names_scopes.proofs.Finding.{found_after}
 use Rattle.ss_tables_rules.proofs.Finding.{earlier_if}
 use Rattle.ss_tables_rules.proofs.Foreign.{foreign_by_first}
 use Rattle.ss_tables_rules.proofs.keys.keys_break.Goals as goal

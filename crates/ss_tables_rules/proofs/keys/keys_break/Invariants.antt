@@ -1,8 +1,5 @@
 use Rattle.std.proofs.Common.{◌≡◌, take}
-use Rattle.std.specs.List.{flat_map, fold}
-use Rattle.ss_names_declarations.specs.Earliest.{earlier}
-use Rattle.ss_tables_rules.specs.Keys.{misranked_key}
-use Rattle.ss_tables_rules.specs.Order.{table_error_order}
+use Rattle.ss_tables_rules.proofs.Common.{earlier, flat_map, fold, misranked_key, table_error_order}
 use Rattle.ss_tables_rules.proofs.keys.keys_break.Given as goal
 
 abbrev pub invariant-loop-key : goal.invariant-loop-key

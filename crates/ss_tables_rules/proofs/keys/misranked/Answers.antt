@@ -1,8 +1,4 @@
-use Rattle.ss_tree.specs.View.{view_preamble}
-use Rattle.ss_names_declarations.specs.Earliest.{earlier}
-use Rattle.ss_tables_rules.specs.Keys.{misranked_in}
-use Rattle.ss_tables_rules.specs.Order.{table_error_order}
-use Rattle.ss_names_scopes.proofs.Finding.{viewed_after}
+use Rattle.ss_tables_rules.proofs.Common.{earlier, misranked_in, table_error_order, view_preamble, viewed_after}
 use Rattle.ss_tables_rules.proofs.keys.misranked.Goals as goal
 
 pub loop-statement-preserved : goal.loop-statement-preserved

@@ -1,12 +1,7 @@
 use Rattle.std.proofs.Common.{List, sym, ap, ◌∙◌}
-use Rattle.std.specs.List.{flat_map, fold}
-use Rattle.ss_tree.specs.Names.{NameBytes}
-use Rattle.ss_tree.specs.View.{view_preamble}
+use Rattle.ss_tables_rules.proofs.Common.{earlier, flat_map, fold, misranked_in, misranked_key, NameBytes, table_error_order, view_preamble}
 use Rattle.ss_tree.specs.declared.preamble.NamedKey.{NamedKey}
 use Rattle.ss_tree.specs.declared.preamble.PreambleStatement.{PreambleStatement}
-use Rattle.ss_names_declarations.specs.Earliest.{earlier}
-use Rattle.ss_tables_rules.specs.Keys.{misranked_in, misranked_key}
-use Rattle.ss_tables_rules.specs.Order.{table_error_order}
 use Rattle.ss_tables_rules.proofs.keys.statement_breaks.Goals as goal
 
 pub returns-in-DefineSets : goal.returns-in-DefineSets

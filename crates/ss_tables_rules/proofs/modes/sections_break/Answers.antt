@@ -1,8 +1,4 @@
-use Rattle.ss_tree.specs.View.{view_section}
-use Rattle.ss_names_declarations.specs.Earliest.{earlier}
-use Rattle.ss_tables_rules.specs.Order.{table_error_order}
-use Rattle.ss_tables_rules.specs.Rules.{unmoded_in}
-use Rattle.ss_names_scopes.proofs.Finding.{viewed_after}
+use Rattle.ss_tables_rules.proofs.Common.{earlier, table_error_order, unmoded_in, view_section, viewed_after}
 use Rattle.ss_tables_rules.proofs.modes.sections_break.Goals as goal
 
 pub loop-section-preserved : goal.loop-section-preserved

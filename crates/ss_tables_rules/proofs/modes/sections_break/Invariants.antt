@@ -1,9 +1,5 @@
 use Rattle.std.proofs.Common.{◌≡◌, map, take}
-use Rattle.std.specs.List.{flat_map, fold}
-use Rattle.ss_tree.specs.View.{view_section}
-use Rattle.ss_names_declarations.specs.Earliest.{earlier}
-use Rattle.ss_tables_rules.specs.Order.{table_error_order}
-use Rattle.ss_tables_rules.specs.Rules.{unmoded_in}
+use Rattle.ss_tables_rules.proofs.Common.{earlier, flat_map, fold, table_error_order, unmoded_in, view_section}
 use Rattle.ss_tables_rules.proofs.modes.sections_break.Given as goal
 
 abbrev pub invariant-loop-section : goal.invariant-loop-section

@@ -1,10 +1,7 @@
 use Rattle.std.proofs.Common.{List, ap, ◌∙◌}
-use Rattle.std.specs.List.{flat_map, fold}
-use Rattle.ss_names_declarations.specs.Earliest.{earlier}
+use Rattle.ss_tables_rules.proofs.Common.{earlier, flat_map, fold, table_error_order, unmoded_use}
 use Rattle.ss_names_uses.specs.declared.used.Use.{Use}
 use Rattle.ss_names_scopes.specs.Locals.{Moded, locals}
-use Rattle.ss_tables_rules.specs.Order.{table_error_order}
-use Rattle.ss_tables_rules.specs.Rules.{unmoded_use}
 use Rattle.ss_tables_rules.proofs.modes.unmoded_in.Goals as goal
 
 pub returns : goal.returns

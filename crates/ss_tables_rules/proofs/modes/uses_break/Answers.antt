@@ -1,10 +1,8 @@
 use Rattle.std.proofs.Common.{ap, ◌∙◌}
-use Rattle.ss_names_declarations.specs.Earliest.{earlier, earlier_of}
+use Rattle.ss_tables_rules.proofs.Common.{earlier, earlier_of, found_after, table_error_order}
 use Rattle.ss_names_scopes.specs.Locals.{local_of}
-use Rattle.ss_tables_rules.specs.Order.{table_error_order}
 use Rattle.ss_tables_rules.specs.Rules.{lacks_mode, unmoded_use}
 use Rattle.ss_tables_rules.specs.declared.error.TableError.TheVariants as e
-use Rattle.ss_names_scopes.proofs.Finding.{found_after}
 use Rattle.ss_tables_rules.proofs.Finding.{earlier_if}
 use Rattle.ss_tables_rules.proofs.modes.uses_break.Goals as goal
 

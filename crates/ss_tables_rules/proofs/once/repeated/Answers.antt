@@ -1,11 +1,6 @@
 use Rattle.std.proofs.Common.{◌≡◌, [], List, sym, ap, ◌∙◌}
-use Rattle.std.specs.List.{fold}
+use Rattle.ss_tables_rules.proofs.Common.{again_by_key, Declaration, earlier, earlier_of, fold, key_if, once_of, repeats_by_key, table_error_order, with_key}
 use Rattle.std.proofs.lemmas.List.{at_drop_all}
-use Rattle.ss_names_declarations.specs.Earliest.{earlier, earlier_of}
-use Rattle.ss_names_declarations.specs.declared.declaration.Declaration.{Declaration}
-use Rattle.ss_tables_rules.specs.Keyed.{again_by_key, key_if, repeats_by_key, with_key}
-use Rattle.ss_tables_rules.specs.Once.{once_of}
-use Rattle.ss_tables_rules.specs.Order.{table_error_order}
 use Rattle.ss_tables_rules.proofs.Repeats.{repeat_more, repeats_keyed}
 use Rattle.ss_tables_rules.proofs.once.repeated.Goals as goal
 

@@ -1,9 +1,5 @@
 use Rattle.std.proofs.Common.{◌≡◌, drop}
-use Rattle.std.specs.List.{fold}
-use Rattle.ss_names_declarations.specs.Earliest.{earlier}
-use Rattle.ss_tables_rules.specs.Keyed.{repeats_by_key}
-use Rattle.ss_tables_rules.specs.Once.{repeats}
-use Rattle.ss_tables_rules.specs.Order.{table_error_order}
+use Rattle.ss_tables_rules.proofs.Common.{earlier, fold, repeats, repeats_by_key, table_error_order}
 use Rattle.ss_tables_rules.proofs.once.repeated.Given as goal
 
 abbrev pub invariant-loop-declaration : goal.invariant-loop-declaration

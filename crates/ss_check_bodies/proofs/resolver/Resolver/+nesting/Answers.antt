@@ -1,6 +1,5 @@
 use Rattle.ss_program.specs.View.{view_body, view_statement as view_resolved}
-use Rattle.ss_names_meaning.proofs.Steps.{failed, fails_then}
-use Rattle.ss_check_bodies.specs.Results.{scope_in}
+use Rattle.ss_check_bodies.proofs.Common.{failed, fails_then, scope_in}
 use Rattle.ss_check_bodies.proofs.Nested.{if_is, loop_is, find_if_is, no_statements, statements_fail, statements_next}
 use Rattle.ss_check_bodies.proofs.Seen.{after_failed, both_fail, next_made}
 use Rattle.ss_check_bodies.proofs.resolver.Resolver.+nesting.Goals as goal

@@ -1,9 +1,7 @@
 use Rattle.std.proofs.Common.{◌≡◌, map, take, Some}
-use Rattle.ss_tree.specs.Tree.{statement_row}
+use Rattle.ss_check_bodies.proofs.Common.{scope_in, statement_row, view_body}
 use Rattle.ss_tree.specs.View.{view_statement_tree}
-use Rattle.ss_program.specs.View.{view_body}
 use Rattle.ss_names_meaning.specs.Statements.{statements}
-use Rattle.ss_check_bodies.specs.Results.{scope_in}
 use Rattle.ss_check_bodies.proofs.resolver.Resolver.+nesting.Given as goal
 
 abbrev pub invariant-resolve_body-loop-tree : goal.invariant-resolve_body-loop-tree

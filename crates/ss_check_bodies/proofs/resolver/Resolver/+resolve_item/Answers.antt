@@ -1,8 +1,5 @@
 use Rattle.std.proofs.Common.{subst}
-use Rattle.ss_program.specs.View.{view_item}
-use Rattle.ss_names_meaning.specs.Answers.{HasGiven}
-use Rattle.ss_names_meaning.specs.Expressions.{item}
-use Rattle.ss_check_bodies.specs.Results.{scope_in}
+use Rattle.ss_check_bodies.proofs.Common.{HasGiven, item, scope_in, view_item}
 use Rattle.ss_check_bodies.proofs.Trees.{named_is}
 use Rattle.ss_check_bodies.proofs.resolver.Resolver.+resolve_item.Goals as goal
 

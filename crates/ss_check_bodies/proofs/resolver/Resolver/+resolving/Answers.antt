@@ -1,11 +1,6 @@
 use Rattle.std.proofs.Common.{refl, subst}
 use Rattle.ss_program.specs.View.{view_expression as view_resolved}
-use Rattle.ss_program.specs.Views.{with_operation}
-use Rattle.std.specs.List.{fold}
-use Rattle.ss_names_meaning.specs.Answers.{HasGiven}
-use Rattle.ss_names_meaning.specs.Expressions.{expression}
-use Rattle.ss_names_meaning.proofs.Steps.{failed, fails_then}
-use Rattle.ss_check_bodies.specs.Results.{scope_in}
+use Rattle.ss_check_bodies.proofs.Common.{expression, failed, fails_then, fold, HasGiven, scope_in, with_operation}
 use Rattle.ss_check_bodies.proofs.Trees.{named_is, call_is, product_fails, sum_fails, product_made, sum_made, subscript_is, subscripts_none, one_is, not_one, two_is, less_than_two, more_than_two, factors_fail, terms_fail, no_factors, no_terms, factors_next, terms_next}
 use Rattle.ss_check_bodies.proofs.resolver.Resolver.+resolving.Goals as goal
 use Rattle.std.specs.Option.{option_map}

@@ -1,11 +1,6 @@
 use Rattle.std.proofs.Common.{◌≡◌, map, take, Some}
-use Rattle.std.specs.List.{fold}
-use Rattle.ss_tree.specs.Tree.{expression_row, term_row}
-use Rattle.ss_tree.specs.View.{view_expression_tree, view_term}
-use Rattle.ss_program.specs.Program.{Expression}
-use Rattle.ss_program.specs.Views.{with_operation}
+use Rattle.ss_check_bodies.proofs.Common.{Expression, expression_row, fold, scope_in, term_row, view_expression_tree, view_term, with_operation}
 use Rattle.ss_names_meaning.specs.Expressions.{factors, terms}
-use Rattle.ss_check_bodies.specs.Results.{scope_in}
 use Rattle.ss_check_bodies.proofs.resolver.Resolver.+resolving.Given as goal
 
 abbrev pub invariant-resolve_factors-loop-tree : goal.invariant-resolve_factors-loop-tree

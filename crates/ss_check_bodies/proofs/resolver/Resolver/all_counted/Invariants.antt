@@ -1,7 +1,6 @@
 use Rattle.std.proofs.Common.{◌≡◌, take, Some}
-use Rattle.ss_names_meaning.specs.Answers.{each}
+use Rattle.ss_check_bodies.proofs.Common.{each, scope_in}
 use Rattle.ss_names_meaning.specs.Classes.{counted}
-use Rattle.ss_check_bodies.specs.Results.{scope_in}
 use Rattle.ss_check_bodies.proofs.resolver.Resolver.all_counted.Given as goal
 
 abbrev pub invariant-loop-tree : goal.invariant-loop-tree

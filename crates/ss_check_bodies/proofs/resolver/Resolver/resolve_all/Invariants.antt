@@ -1,9 +1,6 @@
 use Rattle.std.proofs.Common.{◌≡◌, map, take, Some}
-use Rattle.ss_tree.specs.View.{view_expression_tree}
+use Rattle.ss_check_bodies.proofs.Common.{each, expression, scope_in, view_expression_tree}
 use Rattle.ss_program.specs.View.{view_expression as view_resolved}
-use Rattle.ss_names_meaning.specs.Answers.{each}
-use Rattle.ss_names_meaning.specs.Expressions.{expression}
-use Rattle.ss_check_bodies.specs.Results.{scope_in}
 use Rattle.ss_check_bodies.proofs.resolver.Resolver.resolve_all.Given as goal
 
 abbrev pub invariant-loop-tree : goal.invariant-loop-tree

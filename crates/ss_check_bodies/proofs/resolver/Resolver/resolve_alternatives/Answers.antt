@@ -1,5 +1,4 @@
-use Rattle.ss_names_meaning.proofs.Each.{no_items, each_fails, each_next}
-use Rattle.ss_names_meaning.proofs.Steps.{failed}
+use Rattle.ss_check_bodies.proofs.Common.{each_fails, each_next, failed, no_items}
 use Rattle.ss_check_bodies.proofs.Seen.{after_failed, next_made}
 use Rattle.ss_check_bodies.proofs.resolver.Resolver.resolve_alternatives.Goals as goal
 

@@ -1,9 +1,8 @@
 use Rattle.std.proofs.Common.{◌≡◌, map, take, Some}
 use Rattle.ss_tree.specs.View.{view_conjunction_tree}
 use Rattle.ss_program.specs.View.{view_conjunction as conjunction_seen}
-use Rattle.ss_names_meaning.specs.Answers.{each}
+use Rattle.ss_check_bodies.proofs.Common.{each, scope_in}
 use Rattle.ss_names_meaning.specs.Conditions.{conjunction}
-use Rattle.ss_check_bodies.specs.Results.{scope_in}
 use Rattle.ss_check_bodies.proofs.resolver.Resolver.resolve_alternatives.Given as goal
 
 abbrev pub invariant-loop-tree : goal.invariant-loop-tree

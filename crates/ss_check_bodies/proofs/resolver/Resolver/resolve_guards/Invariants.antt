@@ -1,9 +1,6 @@
 use Rattle.std.proofs.Common.{◌≡◌, map, take, Some}
-use Rattle.ss_tree.specs.View.{view_guard_tree}
+use Rattle.ss_check_bodies.proofs.Common.{each, guard, scope_in, view_guard_tree}
 use Rattle.ss_program.specs.View.{view_guard as guard_seen}
-use Rattle.ss_names_meaning.specs.Answers.{each}
-use Rattle.ss_names_meaning.specs.Heads.{guard}
-use Rattle.ss_check_bodies.specs.Results.{scope_in}
 use Rattle.ss_check_bodies.proofs.resolver.Resolver.resolve_guards.Given as goal
 
 abbrev pub invariant-loop-tree : goal.invariant-loop-tree

@@ -1,9 +1,7 @@
 use Rattle.std.proofs.Common.{◌≡◌, map, take, Some}
 use Rattle.ss_tree.specs.View.{view_phrase_tree}
 use Rattle.ss_program.specs.View.{view_phrase as phrase_seen}
-use Rattle.ss_names_meaning.specs.Answers.{each}
-use Rattle.ss_names_meaning.specs.Heads.{resolved_phrase}
-use Rattle.ss_check_bodies.specs.Results.{scope_in}
+use Rattle.ss_check_bodies.proofs.Common.{each, resolved_phrase, scope_in}
 use Rattle.ss_check_bodies.proofs.resolver.Resolver.resolve_phrases.Given as goal
 
 abbrev pub invariant-loop-tree : goal.invariant-loop-tree

@@ -1,7 +1,6 @@
 use Rattle.std.proofs.Common.{map, ap, subst, ◌∙◌}
 use Rattle.ss_program.specs.View.{view_item, view_statement as view_resolved}
-use Rattle.ss_names_meaning.specs.Answers.{HasGiven}
-use Rattle.ss_names_meaning.proofs.Steps.{failed}
+use Rattle.ss_check_bodies.proofs.Common.{failed, HasGiven}
 use Rattle.ss_check_bodies.proofs.Nested.{find_is, lines_of, print_fails, print_made}
 use Rattle.ss_check_bodies.proofs.Seen.{next_failed, next_made}
 use Rattle.ss_check_bodies.proofs.resolver.Resolver.resolve_simple.Goals as goal

@@ -1,9 +1,7 @@
 use Rattle.std.proofs.Common.{◌≡◌, map, take, Some}
-use Rattle.ss_tree.specs.View.{view_named}
+use Rattle.ss_check_bodies.proofs.Common.{each, scope_in, view_named}
 use Rattle.ss_program.specs.View.{view_place}
-use Rattle.ss_names_meaning.specs.Answers.{each}
 use Rattle.ss_names_meaning.specs.Expressions.{target}
-use Rattle.ss_check_bodies.specs.Results.{scope_in}
 use Rattle.ss_check_bodies.proofs.resolver.Resolver.resolve_targets.Given as goal
 
 abbrev pub invariant-loop-tree : goal.invariant-loop-tree

@@ -1,9 +1,8 @@
 use Rattle.std.proofs.Common.{◌≡◌, ◌+◌, ◌-◌, ◌<◌, length, take, ap, ◌∙◌, arith}
-use Rattle.std.proofs.lemmas.Result.{on_ok_weaker}
+use Rattle.ss_code_generator.proofs.Common.{Final, IsAround, IsLocated, on_ok_weaker, with_operations}
 use Rattle.ss_program.specs.View.{view_expression}
 use Rattle.ss_program.specs.Views.{view_calculate_made}
 use Rattle.ss_code_instructions.specs.Translation.{Site as At}
-use Rattle.ss_code_generator.proofs.Common.{Final, IsAround, IsLocated, with_operations}
 use Rattle.ss_code_generator.proofs.Emitting.{grows_same}
 use Rattle.ss_code_pieces.proofs.Leafs.{alone_is, none_counted}
 use Rattle.ss_code_generator.proofs.Values.{constant_emitted, fetch_emitted, system_set_emitted, figure_emitted, attribute_emitted, set_emitted, member_emitted, time_emitted, figure_of_emitted, signed_emitted, unary_emitted, operation_emitted, more_emitted, next_reads, folded_taken, folded_last, field_known, variable_known}

@@ -1,16 +1,12 @@
 use Rattle.std.proofs.Common.{◌≡◌, ◌+◌, [], ◌∷◌, ◌++◌, map, take, refl, sym, ap, ◌∙◌, subst}
-use Rattle.std.proofs.lemmas.Result.{on_ok_weaker}
-use Rattle.std.proofs.lemmas.List.{take_more, take_all, map-append}
+use Rattle.ss_code_generator.proofs.Common.{after_values, CanTakeMode, change_code, creates_code, file_code, gives_code, HasEmittedBlock, height, Integer, IsTypedRestart, IsTypedStatement, let_code, line_or_none, map-append, on_ok_weaker, place, reads_code, remove_code, remove_end_code, restarts_code, schedule_code, schedule_new_code, take_all, take_more, to_place_code, values_code, with_operand}
 use Rattle.std.specs.List.{AllByRecursion as Every}
-use Rattle.ss_code_generator.proofs.Common.{after_values, CanTakeMode, creates_code, HasEmittedBlock, height, Integer, IsTypedRestart, IsTypedStatement, place, reads_code, restarts_code, to_place_code, values_code, view_body, view_condition, view_expression, view_guard, view_item, view_owner, view_phrase, view_place, view_restart, view_target, view_when, with_operand}
+use Rattle.ss_program.specs.View.{view_body, view_condition, view_expression, view_guard, view_item, view_owner, view_phrase, view_place, view_restart, view_target, view_when, view_position, view_head, view_statement, block_of}
 use Rattle.ss_program.specs.Program as p
-use Rattle.ss_program.specs.View.{view_position, view_head, view_statement, block_of}
 use Rattle.ss_program.specs.Views.{view_if_made, view_loop_made, view_for_made, view_find_made}
 use Rattle.ss_code_instructions.specs.Instructions as i
-use Rattle.ss_code_instructions.specs.Translation.{gives_code, let_code, change_code, file_code, remove_end_code, remove_code, schedule_new_code, schedule_code}
 use Rattle.ss_code_generator.specs.declared.generator.Site.{Site as Here}
 use Rattle.ss_code_generator.specs.Notices.{simulate_code}
-use Rattle.ss_code_generator.specs.Printed.{line_or_none}
 use Rattle.ss_code_generator.proofs.Bodies.{let_seen, change_seen, call_seen, return_seen, stop_seen, read_seen, simulate_seen, create_seen, create_every_seen, destroy_seen, file_seen, remove_end_seen, remove_seen, schedule_new_seen, schedule_seen, cancel_seen, reset_seen, print_seen, skip_seen, said, put_said, loop_said, for_said, if_said, find_said, print_said, body_none, body_more}
 use Rattle.ss_code_generator.proofs.generator.Generator.+statements.Goals as goal
 

@@ -1,6 +1,5 @@
 use Rattle.std.proofs.Common.{drop, map}
-use Rattle.ss_program.specs.View.{view_conjunction}
-use Rattle.ss_code_generator.proofs.Common.{condition_code, HasEmitted, IsTypedCondition, no_code}
+use Rattle.ss_code_generator.proofs.Common.{condition_code, HasEmitted, IsTypedCondition, no_code, view_conjunction}
 use Rattle.ss_code_generator.proofs.generator.Generator.alternatives.Given as goal
 
 abbrev pub invariant-loop-i : goal.invariant-loop-i

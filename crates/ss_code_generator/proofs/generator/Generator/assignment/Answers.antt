@@ -1,6 +1,4 @@
-use Rattle.std.proofs.lemmas.Result.{on_ok_weaker}
-use Rattle.ss_program.specs.View.{view_expression}
-use Rattle.ss_code_instructions.specs.Facts.{must_look}
+use Rattle.ss_code_generator.proofs.Common.{must_look, on_ok_weaker, view_expression}
 use Rattle.ss_code_generator.proofs.Spotted.{attribute_looked}
 use Rattle.ss_code_generator.proofs.Letting.{let_of_variable, let_of_attribute, let_of_count}
 use Rattle.ss_code_generator.proofs.generator.Generator.assignment.Goals as goal

@@ -1,6 +1,5 @@
-use Rattle.std.proofs.lemmas.Result.{on_ok_weaker}
+use Rattle.ss_code_generator.proofs.Common.{on_ok_weaker, view_condition}
 use Rattle.std.proofs.Common.{◌≡◌, ◌+◌, length, ap, ◌∙◌, arith}
-use Rattle.ss_program.specs.View.{view_condition}
 use Rattle.ss_code_generator.proofs.Bodies.{one_sided, two_sided}
 use Rattle.ss_code_generator.proofs.generator.Generator.branches.Goals as goal
 

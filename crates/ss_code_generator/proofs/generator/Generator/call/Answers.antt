@@ -1,7 +1,5 @@
 use Rattle.std.proofs.Common.{◌+◌, ◌≤◌, length, map, arith}
-use Rattle.std.proofs.lemmas.List.{length-map}
-use Rattle.std.proofs.lemmas.Result.{on_ok_weaker}
-use Rattle.ss_program.specs.View.{view_expression, view_place}
+use Rattle.ss_code_generator.proofs.Common.{length-map, on_ok_weaker, view_expression, view_place}
 use Rattle.ss_code_generator.proofs.Called.{called}
 use Rattle.ss_code_generator.proofs.generator.Generator.call.Goals as goal
 

@@ -1,6 +1,5 @@
 use Rattle.std.proofs.Common.{refl}
-use Rattle.std.proofs.lemmas.Result.{on_ok_weaker}
-use Rattle.ss_code_generator.proofs.Common.{Integer, view_place}
+use Rattle.ss_code_generator.proofs.Common.{Integer, on_ok_weaker, view_place}
 use Rattle.ss_code_instructions.specs.declared.instruction.Instruction.TheVariants as r
 use Rattle.ss_code_instructions.specs.Instructions as i
 use Rattle.ss_code_generator.proofs.Letting.{to_place_made}

@@ -1,6 +1,5 @@
 use Rattle.std.proofs.Common.{◌≡◌, ◌+◌, [], ◌∷◌, ◌++◌, take, get_or}
-use Rattle.std.proofs.lemmas.List.{take_more}
-use Rattle.ss_program.specs.declared.statement.CountedClass.{CountedClass}
+use Rattle.ss_code_generator.proofs.Common.{CountedClass, take_more}
 use Rattle.ss_code_generator.proofs.Listed.{creates_step}
 use Rattle.ss_code_generator.proofs.generator.Generator.creates.Goals as goal
 

@@ -1,7 +1,6 @@
 use Rattle.std.proofs.Common.{refl}
-use Rattle.std.proofs.lemmas.Result.{on_ok_weaker}
+use Rattle.ss_code_generator.proofs.Common.{IsTypedStatement, on_ok_weaker, operand, view_expression}
 use Rattle.ss_program.specs.Program as p
-use Rattle.ss_code_generator.proofs.Common.{IsTypedStatement, operand, view_expression}
 use Rattle.ss_code_instructions.specs.declared.instruction.Instruction.TheVariants as r
 use Rattle.ss_code_instructions.specs.Instructions as i
 use Rattle.ss_code_generator.proofs.Called.{of_one}

@@ -1,5 +1,4 @@
-use Rattle.std.proofs.lemmas.Result.{on_ok_weaker}
-use Rattle.ss_program.specs.View.{view_expression, view_owner}
+use Rattle.ss_code_generator.proofs.Common.{on_ok_weaker, view_expression, view_owner}
 use Rattle.ss_code_generator.proofs.Filed.{filed_by_discipline, filed_first, filed_last}
 use Rattle.ss_code_generator.proofs.generator.Generator.file.Goals as goal
 

@@ -1,6 +1,5 @@
 use Rattle.std.proofs.Common.{◌+◌, map, ap, ◌∙◌}
-use Rattle.std.proofs.lemmas.Result.{on_ok_weaker}
-use Rattle.ss_program.specs.View.{view_head, view_phrase}
+use Rattle.ss_code_generator.proofs.Common.{on_ok_weaker, view_head, view_phrase}
 use Rattle.ss_code_generator.proofs.Rounds.{found_or_not}
 use Rattle.ss_code_generator.proofs.generator.Generator.find.Goals as goal
 

@@ -1,11 +1,8 @@
 use Rattle.std.proofs.Common.{ℕ, Some, ap}
-use Rattle.std.proofs.lemmas.Result.{on_ok_weaker}
-use Rattle.ss_code_generator.proofs.Common.{Each, for_code, IsTypedHead, view_expression}
-use Rattle.ss_code_generator.specs.Looped.{item_loop_code}
+use Rattle.ss_code_generator.proofs.Common.{Each, for_code, IsTypedHead, item_loop_code, on_ok_weaker, option_map, view_expression}
 use Rattle.ss_code_generator.proofs.Testing.{around_for}
 use Rattle.ss_code_generator.proofs.Rounds.{range_looped}
 use Rattle.ss_code_generator.proofs.generator.Generator.for_loop.Goals as goal
-use Rattle.std.specs.Option.{option_map}
 
 pub returns-in-Numbers : goal.returns-in-Numbers
 returns-in-Numbers c =

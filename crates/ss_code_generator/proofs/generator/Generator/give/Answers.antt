@@ -1,5 +1,4 @@
-use Rattle.std.proofs.lemmas.Result.{on_ok_weaker}
-use Rattle.ss_program.specs.View.{view_place}
+use Rattle.ss_code_generator.proofs.Common.{on_ok_weaker, view_place}
 use Rattle.ss_code_generator.proofs.Letting.{given_made}
 use Rattle.ss_code_generator.proofs.generator.Generator.give.Goals as goal
 

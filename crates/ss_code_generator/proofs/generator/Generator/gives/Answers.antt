@@ -1,9 +1,6 @@
 use Rattle.std.proofs.Common.{◌≡◌, ◌<◌, Some, length, map, refl, sym, ap, ◌∙◌, arith}
-use Rattle.std.specs.Prelude.{slice_get}
-use Rattle.std.specs.Option.{option_map}
-use Rattle.std.proofs.lemmas.List.{length-map}
+use Rattle.ss_code_generator.proofs.Common.{length-map, option_map, slice_get, view_place}
 use Rattle.std.proofs.lemmas.Option.{slice_get_read, slice_get-map}
-use Rattle.ss_program.specs.View.{view_place}
 use Rattle.ss_code_generator.proofs.Emitting.{around_old}
 use Rattle.ss_code_generator.proofs.Called.{gives_more, gives_all}
 use Rattle.ss_code_generator.proofs.generator.Generator.gives.Goals as goal

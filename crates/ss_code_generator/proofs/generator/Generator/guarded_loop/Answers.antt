@@ -1,6 +1,5 @@
 use Rattle.std.proofs.Common.{◌∙◌, map}
-use Rattle.std.proofs.lemmas.Result.{on_ok_weaker}
-use Rattle.ss_program.specs.View.{view_guard}
+use Rattle.ss_code_generator.proofs.Common.{on_ok_weaker, view_guard}
 use Rattle.ss_code_generator.proofs.Rounds.{looped}
 use Rattle.ss_code_generator.proofs.generator.Generator.guarded_loop.Goals as goal
 

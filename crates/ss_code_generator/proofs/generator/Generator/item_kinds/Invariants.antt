@@ -1,6 +1,5 @@
 use Rattle.std.proofs.Common.{◌≡◌, map, take}
-use Rattle.ss_code_generator.proofs.Common.{scope_for_modes, view_item}
-use Rattle.ss_code_generator.specs.Items.{running_kind}
+use Rattle.ss_code_generator.proofs.Common.{running_kind, scope_for_modes, view_item}
 use Rattle.ss_code_generator.proofs.generator.Generator.item_kinds.Given as goal
 
 abbrev pub invariant-loop-item : goal.invariant-loop-item

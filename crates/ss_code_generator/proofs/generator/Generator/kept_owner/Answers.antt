@@ -1,7 +1,6 @@
 use Rattle.std.proofs.Common.{None}
 use Rattle.std.proofs.lemmas.Result.{IfOk-weaker}
-use Rattle.ss_code_generator.proofs.Common.{HasBorne, TheSystem, view_expression}
-use Rattle.ss_code_generator.specs.Looped.{HasKeptOwner}
+use Rattle.ss_code_generator.proofs.Common.{HasBorne, HasKeptOwner, TheSystem, view_expression}
 use Rattle.ss_code_generator.proofs.Rounds.{system_kept, entity_kept}
 use Rattle.ss_code_generator.proofs.generator.Generator.kept_owner.Goals as goal
 

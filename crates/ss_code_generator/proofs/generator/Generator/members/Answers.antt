@@ -1,9 +1,6 @@
 use Rattle.std.proofs.Common.{◌≡◌, [], ◌∷◌, ◌++◌, refl, ◌∙◌, arith}
-use Rattle.std.proofs.lemmas.Result.{on_ok_weaker}
+use Rattle.ss_code_generator.proofs.Common.{begin_of, is_after, MemberLoop, on_line, on_ok_weaker}
 use Rattle.ss_program.specs.View.{view_owner, view_start}
-use Rattle.ss_code_generator.specs.declared.loops.MemberLoop.{MemberLoop}
-use Rattle.ss_code_generator.specs.Looped.{is_after, begin_of}
-use Rattle.ss_code_pieces.specs.Lined.{on_line}
 use Rattle.ss_code_generator.proofs.Rounds.{members_walked}
 use Rattle.ss_code_generator.proofs.generator.Generator.members.Goals as goal
 

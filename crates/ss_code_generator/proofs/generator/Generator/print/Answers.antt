@@ -1,7 +1,5 @@
 use Rattle.std.proofs.Common.{◌≡◌, List, length, map, ap, ◌∙◌, arith}
-use Rattle.std.proofs.lemmas.Result.{on_ok_weaker}
-use Rattle.ss_program.specs.View.{view_item}
-use Rattle.ss_code_instructions.specs.declared.item.ItemKind.{ItemKind}
+use Rattle.ss_code_generator.proofs.Common.{ItemKind, on_ok_weaker, view_item}
 use Rattle.ss_code_generator.proofs.Emitting.{grows_same}
 use Rattle.ss_code_generator.proofs.Itemed.{printed}
 use Rattle.ss_code_generator.proofs.generator.Generator.print.Goals as goal

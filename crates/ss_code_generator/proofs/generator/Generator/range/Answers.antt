@@ -1,6 +1,5 @@
 use Rattle.std.proofs.Common.{Some, None}
-use Rattle.std.proofs.lemmas.Result.{on_ok_weaker}
-use Rattle.ss_code_generator.proofs.Common.{Integer, IsTyped, view_expression}
+use Rattle.ss_code_generator.proofs.Common.{Integer, IsTyped, on_ok_weaker, view_expression}
 use Rattle.ss_code_generator.proofs.Rounds.{ranged}
 use Rattle.ss_code_generator.proofs.generator.Generator.range.Goals as goal
 

@@ -1,8 +1,6 @@
 use Rattle.std.proofs.Common.{refl}
-use Rattle.std.proofs.lemmas.Result.{on_ok_weaker}
-use Rattle.ss_code_generator.proofs.Common.{code_of, place, view_place}
+use Rattle.ss_code_generator.proofs.Common.{code_of, on_ok_weaker, place, reading, view_place}
 use Rattle.ss_code_instructions.specs.Instructions as i
-use Rattle.ss_code_instructions.specs.Forms.{reading}
 use Rattle.ss_code_generator.proofs.Forms as forms
 use Rattle.ss_code_generator.proofs.Letting.{to_place_made}
 use Rattle.ss_code_generator.proofs.generator.Generator.read.Goals as goal

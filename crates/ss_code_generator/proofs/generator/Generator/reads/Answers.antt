@@ -1,7 +1,5 @@
 use Rattle.std.proofs.Common.{◌≡◌, ◌+◌, [], ◌∷◌, ◌++◌, map, take}
-use Rattle.ss_program.specs.Program.{InputTarget}
-use Rattle.ss_code_generator.proofs.Common.{CanTakeMode, place, reads_code, to_place_code, view_target}
-use Rattle.ss_code_instructions.specs.Instructions.{Read}
+use Rattle.ss_code_generator.proofs.Common.{CanTakeMode, InputTarget, place, Read, reads_code, to_place_code, view_target}
 use Rattle.ss_code_generator.proofs.Listed.{next_mapped, listed_more, reads_more}
 use Rattle.ss_code_generator.proofs.generator.Generator.reads.Goals as goal
 

@@ -1,5 +1,4 @@
-use Rattle.std.proofs.lemmas.Result.{on_ok_weaker}
-use Rattle.ss_program.specs.View.{view_restart}
+use Rattle.ss_code_generator.proofs.Common.{on_ok_weaker, view_restart}
 use Rattle.ss_code_generator.proofs.Noticing.{restarted}
 use Rattle.ss_code_generator.proofs.generator.Generator.reset.Goals as goal
 

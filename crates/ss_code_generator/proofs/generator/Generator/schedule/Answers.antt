@@ -1,7 +1,5 @@
 use Rattle.std.proofs.Common.{◌≡◌, length, map, sym}
-use Rattle.std.proofs.lemmas.Result.{on_ok_weaker}
-use Rattle.std.proofs.lemmas.List.{length-map}
-use Rattle.ss_program.specs.View.{view_expression, view_when}
+use Rattle.ss_code_generator.proofs.Common.{length-map, on_ok_weaker, view_expression, view_when}
 use Rattle.ss_code_generator.proofs.Noticing.{schedule_made}
 use Rattle.ss_code_generator.proofs.generator.Generator.schedule.Goals as goal
 

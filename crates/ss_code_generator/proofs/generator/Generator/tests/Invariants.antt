@@ -1,8 +1,6 @@
 use Rattle.std.proofs.Common.{drop, map}
 use Rattle.std.specs.List.{AllByRecursion as Every}
-use Rattle.ss_program.specs.View.{view_test}
-use Rattle.ss_code_generator.proofs.Common.{HasEmitted, IsTypedTest, no_code}
-use Rattle.ss_code_instructions.specs.Translation.{tests_code}
+use Rattle.ss_code_generator.proofs.Common.{HasEmitted, IsTypedTest, no_code, tests_code, view_test}
 use Rattle.ss_code_generator.proofs.generator.Generator.tests.Given as goal
 
 abbrev pub invariant-loop-i : goal.invariant-loop-i

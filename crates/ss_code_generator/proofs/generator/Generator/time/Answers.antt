@@ -1,5 +1,4 @@
-use Rattle.std.proofs.lemmas.Result.{on_ok_weaker}
-use Rattle.ss_program.specs.View.{view_expression}
+use Rattle.ss_code_generator.proofs.Common.{on_ok_weaker, view_expression}
 use Rattle.ss_code_generator.proofs.Noticing.{at_timed, in_timed}
 use Rattle.ss_code_generator.proofs.generator.Generator.time.Goals as goal
 

@@ -1,8 +1,5 @@
 use Rattle.std.proofs.Common.{ap, ◌∙◌, ℕ, List, [], ◌∷◌, ◌++◌}
-use Rattle.ss_machine.specs.Held.{kept_after}
-use Rattle.ss_engine.specs.declared.session.Session.{Session}
-use Rattle.ss_code.specs.Running.{Generated}
-use Rattle.ss_engine.specs.Sessions.{HasRun, session_machine}
+use Rattle.ss_engine.proofs.Common.{Generated, HasRun, kept_after, Session, session_machine}
 use Rattle.ss_engine.proofs.Sessions.{session_same}
 use Rattle.ss_engine.proofs.Running.{either_stop, last_some, runs_again, runs_on}
 use Rattle.ss_engine.proofs.session.Session.run.Goals as goal

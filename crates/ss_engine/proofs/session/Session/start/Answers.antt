@@ -1,6 +1,5 @@
 use Rattle.std.proofs.Common.{rules}
-use Rattle.ss_engine.specs.declared.session.Session.{Session}
-use Rattle.ss_engine.specs.Sessions.{IsNewSession}
+use Rattle.ss_engine.proofs.Common.{IsNewSession, Session}
 use Rattle.ss_engine.proofs.Running.{not_run}
 use Rattle.ss_engine.proofs.session.Session.start.Goals as goal
 

@@ -1,15 +1,7 @@
 use Rattle.std.proofs.Common.{◌≡◌, ◌∷◌, ◌∙◌, ◌||◌, ◌++◌, Bool, true, false, refl, List, Ok, length, map, int_eq, to_z, of_z, w64, ap, subst, sym, to_z-of_z, IsPermutation, arith}
-use Rattle.std.specs.List.{list_any}
-use Rattle.std.specs.Cmp.{int_eq_equiv}
+use Rattle.ss_events.proofs.Common.{comes_before, Entry, int_eq_equiv, is_pending, IsHeap, IsLogarithmic, IsPermutation-append_right, IsPermutation-middle, IsPermutation-trans, list_any, with_work, without_notice}
 use Rattle.std.proofs.lemmas.Bool.{or_from, or_left}
-use Rattle.std.proofs.lemmas.List.Sorted.{IsPermutation-append_right, IsPermutation-middle, IsPermutation-trans}
-use Rattle.ss_events_entries.specs.declared.entry.Entry.{Entry}
 use Rattle.ss_events_entries.specs.HeapEntries.{HeapEntries, heap_lines, all_of, notices_of, HasLostFollower}
-use Rattle.ss_events_entries.specs.HeapOrder.{IsHeap}
-use Rattle.ss_world.specs.Order.{comes_before}
-use Rattle.ss_world.specs.PendingList.{is_pending, without_notice}
-use Rattle.ss_events_entries.specs.CountedList.{with_work}
-use Rattle.ss_events.specs.Sifting.{IsLogarithmic}
 use Rattle.ss_events.proofs.Agendas.{found-pending, found-at, agenda-taken, in_order-taken, work_of}
 use Rattle.ss_events.proofs.Outcomes.{cancelled-pending, cancelled-none}
 use Rattle.ss_events.proofs.pending.Pending.cancel.Goals as goal

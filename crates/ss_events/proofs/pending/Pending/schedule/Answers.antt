@@ -1,12 +1,6 @@
 use Rattle.std.proofs.Common.{◌≡◌, ◌≢◌, true, false, ◌+◌, ◌++◌, ◌∙◌, map, ℤ, Bool, w64, to_z, of_z, Ok, ap, refl, sym, subst, to_z-of_z, arith}
 use Rattle.ss_world.specs.PendingList.{PendingList, scheduling_limit, with_entry, is_pending, scheduled, IsRefusal}
-use Rattle.ss_events_entries.specs.declared.entry.Entry.{Entry}
-use Rattle.ss_events_entries.specs.HeapEntries.{HeapEntries, HeadsAndFollowers, heap_lines, all_of, AreAfterHeads}
-use Rattle.ss_events_entries.specs.HeapOrder.{IsHeap}
-use Rattle.ss_world.specs.Order.{comes_before}
-use Rattle.ss_events_entries.specs.CountedList.{Work, with_work}
-use Rattle.ss_events.specs.InOrder.{in_order, IsAgenda}
-use Rattle.ss_events.specs.Sifting.{HasGoneIn, HasStayedOut, IsInsertion}
+use Rattle.ss_events.proofs.Common.{all_of, AreAfterHeads, comes_before, Entry, HasGoneIn, HasStayedOut, HeadsAndFollowers, heap_lines, HeapEntries, in_order, IsAgenda, IsHeap, IsInsertion, with_work, Work}
 use Rattle.ss_events.proofs.Sifts.{tried_work}
 use Rattle.ss_events.proofs.Agendas.{any-pending, some_head, work_of, in_order-inserted, agenda-inserted}
 use Rattle.ss_events.proofs.Outcomes.{scheduled-room}

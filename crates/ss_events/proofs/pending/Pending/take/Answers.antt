@@ -1,10 +1,5 @@
 use Rattle.std.proofs.Common.{◌<◌, ◌∷◌, ◌∙◌, Some, length, map, get_or, ap, subst, sym, arith, IsPermutation}
-use Rattle.std.specs.Cmp.{int_eq_equiv}
-use Rattle.ss_events_entries.specs.HeapEntries.{HeapEntries, all_of, AreAfterHeads}
-use Rattle.ss_world.specs.PendingList.{without_notice}
-use Rattle.ss_events.specs.InOrder.{in_order}
-use Rattle.ss_events_entries.specs.CountedList.{with_work}
-use Rattle.ss_events.specs.Sifting.{IsLogarithmic}
+use Rattle.ss_events.proofs.Common.{all_of, AreAfterHeads, HeapEntries, in_order, int_eq_equiv, IsLogarithmic, with_work, without_notice}
 use Rattle.ss_events.proofs.Agendas.{next-none, after_next-none, next-first, after_next-first, agenda-taken, in_order-taken, work_of}
 use Rattle.ss_events.proofs.pending.Pending.take.Goals as goal
 use Rattle.ss_events.proofs.pending.Pending.take.Goals.{After-are_after_heads}

@@ -1,7 +1,6 @@
 use Rattle.std.proofs.Common.{◌≡◌, ◌+◌, ◌-◌, ◌*◌, ◌∙◌, ℕ, Bool, true, false, if◌then◌else◌, ap, subst, arith}
 use mir.Val.{bool_byte}
-use Rattle.ss_events_entries.specs.HeapOrder.{IsFirstOf}
-use Rattle.ss_world.specs.Order.{comes_before}
+use Rattle.ss_events_entries.proofs.Common.{comes_before, IsFirstOf}
 use Rattle.ss_events_entries.proofs.EntryOrder.{entries_rank}
 use Rattle.ss_events_entries.proofs.Heaps.{first_by}
 use Rattle.ss_events_entries.proofs.entry.heap.first_of.Goals as goal

@@ -1,7 +1,5 @@
 use Rattle.std.proofs.Common.{rules, ◌≡◌, ◌+◌, ◌∙◌, get_or, ap, sym, to_z, of_z, w64}
-use Rattle.std.specs.Prelude.{int_lt, nat_lt}
-use Rattle.ss_events_entries.specs.declared.entry.Mark.{Mark}
-use Rattle.ss_events_entries.specs.Slots.{mark_of, no_node}
+use Rattle.ss_events_entries.proofs.Common.{int_lt, Mark, mark_of, nat_lt, no_node}
 use Rattle.ss_events_entries.proofs.Times.{times_tell, orders_decide}
 use Rattle.ss_events_entries.proofs.entry.heap.is_before_in.Goals as goal
 

@@ -1,8 +1,5 @@
 use Rattle.std.proofs.Common.{◌≡◌, ◌<◌, ◌≤◌, ℕ, zero, suc, List, [], ◌∷◌, length, drop, refl, sym, ◌∙◌, arith}
-use Rattle.std.specs.declared.cmp.Ordering.TheVariants.{Less}
-use Rattle.std.specs.Cmp.Lexicographic.{slice_cmp}
-use Rattle.ss_world.specs.Order.{tie_order}
-use Rattle.ss_world.specs.declared.ties.Tie.{Tie}
+use Rattle.ss_events_entries.proofs.Common.{Less, slice_cmp, Tie, tie_order}
 use Rattle.ss_events_entries.proofs.entry.order.ties_order.Goals as goal
 
 -- no ties come before some

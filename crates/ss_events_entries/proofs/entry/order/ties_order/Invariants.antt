@@ -1,6 +1,5 @@
 use Rattle.std.proofs.Common.{◌≡◌, drop}
-use Rattle.std.specs.Cmp.Lexicographic.{slice_cmp}
-use Rattle.ss_world.specs.Order.{tie_order}
+use Rattle.ss_events_entries.proofs.Common.{slice_cmp, tie_order}
 use Rattle.ss_events_entries.proofs.entry.order.ties_order.Given as goal
 
 -- the ties so far are alike

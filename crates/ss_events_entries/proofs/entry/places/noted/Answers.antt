@@ -1,8 +1,5 @@
 use Rattle.std.proofs.Common.{rules, w64, to_z, of_z, pos, ◌≡◌, ◌<◌, ◌∙◌, ⊎_elim, inl, inr, get_or, subst, sym, ap, arith}
-use Rattle.std.proofs.lemmas.Bool.{cases_eq}
-use Rattle.std.proofs.lemmas.List.{get_or_default}
-use Rattle.ss_events_entries.specs.declared.entry.slots.Slot.{Slot}
-use Rattle.ss_events_entries.specs.Slots.{blank_slot, no_slot, slot_at, IsTaken, IsGuess}
+use Rattle.ss_events_entries.proofs.Common.{blank_slot, cases_eq, get_or_default, IsGuess, IsTaken, no_slot, Slot, slot_at}
 use Rattle.ss_events_entries.proofs.Grown.{led_more}
 use Rattle.ss_events_entries.proofs.entry.places.noted.Goals as goal
 use Rattle.ss_events_entries.proofs.entry.places.noted.Goals.{then-it-count+in_ok-note, then-it-count-via-then-it-count, then-it-count-via-else-it-count+then-it-ge-FOLLOWING, else-it-count+else-it-ge-FOLLOWING}

@@ -1,7 +1,5 @@
 use Rattle.std.proofs.Common.{◌≡◌, false, Ok, Err, ◌∙◌, sym, ap, subst}
-use Rattle.ss_input.specs.Blocks.{BlockSeen}
-use Rattle.ss_input.specs.Inputs.{HasReadInput, failures_after}
-use Rattle.ss_input.specs.Words.{is_ended}
+use Rattle.ss_input.proofs.Common.{BlockSeen, failures_after, HasReadInput, is_ended}
 use Rattle.ss_input.proofs.Failures.{never_falls, failed_once}
 use Rattle.ss_input.proofs.Reached.{reads_moved, finds_moved, nothing_found}
 use Rattle.ss_input.proofs.source.Source.ended.Goals as goal

@@ -1,8 +1,5 @@
 use Rattle.std.proofs.Common.{rules, ◌≡◌, Ok, Err, ap, sym, subst}
-use Rattle.ss_base.specs.declared.fault.FaultKind.TheVariants.{BadData}
-use Rattle.ss_input.specs.declared.source.Missed.TheVariants.{Fault}
-use Rattle.ss_input.specs.Words.{from_word, is_ended, no_word}
-use Rattle.ss_input.specs.Inputs.{HasReached, HasFound, source_block}
+use Rattle.ss_input.proofs.Common.{BadData, Fault, from_word, HasFound, HasReached, is_ended, no_word, source_block}
 use Rattle.ss_input.proofs.Reached.{too_many_found, finds_so, end_found}
 use Rattle.ss_input.proofs.source.Source.find_end.Goals as goal
 

@@ -1,10 +1,7 @@
 use Rattle.std.proofs.Common.{◌≡◌, drop, Ok, pos, to_z, w64, ◌∙◌, sym, subst, arith}
-use Rattle.ss_base.specs.declared.layout.Mode.TheVariants.{Integer}
-use Rattle.ss_base.specs.declared.value.Value.TheVariants.{Whole}
+use Rattle.ss_input.proofs.Common.{HasReadInput, Integer, source_block, value_given, Whole}
 use Rattle.std.proofs.lemmas.Int.{to_z_pos}
-use Rattle.ss_input.specs.Inputs.{source_block, HasReadInput}
 use Rattle.ss_input.specs.Numbers.{HasLeadingNumber}
-use Rattle.ss_input.specs.Words.{value_given}
 use Rattle.ss_input.proofs.source.Source.integer.Goals as goal
 
 pub returns-in-Some-buffered_number-clause-read : goal.returns-in-Some-buffered_number-clause-read

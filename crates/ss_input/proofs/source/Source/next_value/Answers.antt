@@ -1,7 +1,5 @@
 use Rattle.std.proofs.Common.{◌≡◌, Some, Ok, Err, ◌∙◌, sym, ap}
-use Rattle.ss_input.specs.Blocks.{BlockSeen}
-use Rattle.ss_input.specs.Inputs.{failures_after}
-use Rattle.ss_input.specs.Words.{if_read, value_given}
+use Rattle.ss_input.proofs.Common.{BlockSeen, failures_after, if_read, value_given}
 use Rattle.ss_input.proofs.Failures.{never_falls, failed_once}
 use Rattle.ss_input.proofs.Reached.{reads_moved, finds_moved, nothing_found}
 use Rattle.ss_input.proofs.source.Source.next_value.Goals as goal

@@ -1,6 +1,5 @@
 use Rattle.std.proofs.Common.{rules, ◌≡◌, ◌+◌, drop}
-use Rattle.ss_input.specs.declared.source.Source.{Source}
-use Rattle.ss_input.specs.Inputs.{source_block, source_gap}
+use Rattle.ss_input.proofs.Common.{Source, source_block, source_gap}
 use Rattle.ss_input.proofs.BufferedNumber.{gap_when_buffered}
 use Rattle.ss_input.proofs.source.Source.pass_buffered_gap.Goals as goal
 

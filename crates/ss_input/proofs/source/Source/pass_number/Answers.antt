@@ -1,6 +1,5 @@
 use Rattle.std.proofs.Common.{rules, ◌≡◌, ◌+◌, drop, refl}
-use Rattle.ss_input.specs.declared.source.Source.{Source}
-use Rattle.ss_input.specs.Inputs.{source_block}
+use Rattle.ss_input.proofs.Common.{Source, source_block}
 use Rattle.ss_input.proofs.BufferedNumber.{buffered_read}
 use Rattle.ss_input.proofs.source.Source.pass_number.Goals as goal
 

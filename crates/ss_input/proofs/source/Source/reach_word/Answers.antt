@@ -1,6 +1,5 @@
 use Rattle.std.proofs.Common.{Ok, ap, subst}
-use Rattle.ss_input.specs.Sources.{IsGapPassed}
-use Rattle.ss_input.specs.Inputs.{source_block, source_gap}
+use Rattle.ss_input.proofs.Common.{IsGapPassed, source_block, source_gap}
 use Rattle.ss_input.proofs.source.Source.reach_word.Goals as goal
 
 pub invariant_of-self : goal.invariant_of-self

@@ -1,6 +1,5 @@
 use Rattle.std.proofs.Common.{rules, ◌≡◌, take, Ok, Err, Some, None, ap, ◌∙◌}
-use Rattle.ss_base.specs.declared.fault.FaultKind.TheVariants.{BadData}
-use Rattle.ss_input.specs.declared.source.Missed.TheVariants.{Fault}
+use Rattle.ss_input.proofs.Common.{BadData, Fault}
 use Rattle.ss_input.specs.Words.{next_word, value_given, read_word, word_value, if_read}
 use Rattle.ss_input.proofs.Reached.{finds_so, reads_so, reads_finds}
 use Rattle.ss_input.proofs.source.Source.read_value.Goals as goal

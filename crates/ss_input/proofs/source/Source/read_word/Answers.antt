@@ -1,10 +1,6 @@
 use Rattle.std.proofs.Common.{rules, ◌≡◌, ◌≤◌, take, length, Ok, Err, None, ap, sym, subst, refl}
 use Rattle.ss_base.specs.declared.fault.FaultKind.TheVariants.{EndOfData, BadData}
-use Rattle.ss_input.specs.declared.source.Missed.TheVariants.{Fault, Input}
-use Rattle.ss_input.specs.declared.source.Source.{Source}
-use Rattle.ss_input.specs.Blocks.{first_input_byte}
-use Rattle.ss_input.specs.Words.{next_word, leading_word}
-use Rattle.ss_input.specs.Inputs.{HasReached, HasReadInput, HasFound, source_block}
+use Rattle.ss_input.proofs.Common.{Fault, first_input_byte, HasFound, HasReached, HasReadInput, Input, leading_word, next_word, Source, source_block}
 use Rattle.ss_input.proofs.Reached.{too_many_found, none_found, word_found, too_long_found, finds_so}
 use Rattle.ss_input.proofs.Asked.{gap_unasked, word_unasked}
 use Rattle.ss_input.proofs.Passages.{gives_then}

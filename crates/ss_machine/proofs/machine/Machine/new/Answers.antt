@@ -1,6 +1,5 @@
 use Rattle.std.proofs.Common.{None, IfOk, refl, sym, subst}
-use Rattle.ss_machine.proofs.Common.{IsAtStart, IsFirstState, IsGenerated, situated, State}
-use Rattle.ss_machine.specs.Held.{IsReady}
+use Rattle.ss_machine.proofs.Common.{IsAtStart, IsFirstState, IsGenerated, IsReady, situated, State}
 use Rattle.ss_machine.proofs.Readiness.{first_ready}
 use Rattle.ss_machine.proofs.Starting.{frame_small}
 use Rattle.ss_machine.proofs.machine.Machine.new.Goals as goal

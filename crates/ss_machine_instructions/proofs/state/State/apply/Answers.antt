@@ -1,7 +1,6 @@
 use Rattle.std.proofs.Common.{rules, ◌≡◌, ap}
 use Rattle.ss_code_instructions.specs.declared.instruction.Instruction.TheVariants.{Unary as Runs}
-use Rattle.ss_machine_instructions.proofs.Common.{is_due, on_after}
-use Rattle.ss_meaning.specs.Values.{computed_alone}
+use Rattle.ss_machine_instructions.proofs.Common.{computed_alone, is_due, on_after}
 use Rattle.ss_machine_instructions.proofs.Placing.{calm}
 use Rattle.ss_machine_instructions.proofs.Calculating.{applies_in, applies}
 use Rattle.ss_machine_instructions.proofs.state.State.apply.Goals as goal

@@ -1,7 +1,6 @@
 use Rattle.std.proofs.Common.{rules, ◌≡◌, Ok, Err, ap}
-use Rattle.std.specs.Prelude.{MatchResult}
+use Rattle.ss_machine_instructions.proofs.Common.{as_value, Integer, is_due, MatchResult, on_after, value_in, Whole}
 use Rattle.ss_code_instructions.specs.declared.instruction.Instruction.TheVariants.{Attribute as Runs}
-use Rattle.ss_machine_instructions.proofs.Common.{as_value, Integer, is_due, on_after, value_in, Whole}
 use Rattle.ss_machine_instructions.proofs.Placing.{calm}
 use Rattle.ss_machine_instructions.proofs.Delivering.{number_right}
 use Rattle.ss_machine_instructions.proofs.Seeing.{whole_answer, mode_there, class_within}

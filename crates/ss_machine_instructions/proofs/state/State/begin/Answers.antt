@@ -1,7 +1,6 @@
 use Rattle.std.proofs.Common.{rules, ◌≡◌, ◌+◌, Some, true, false, ap}
-use Rattle.std.specs.Prelude.{slice_get, int_lt, pos}
+use Rattle.ss_machine_instructions.proofs.Common.{has_item, int_lt, on_if_at, pos, slice_get, tested_at}
 use Rattle.ss_code_instructions.specs.declared.instruction.Instruction.TheVariants.{Begin as Runs}
-use Rattle.ss_machine_instructions.proofs.Common.{has_item, on_if_at, tested_at}
 use Rattle.ss_machine_instructions.proofs.Placing.{frame_small}
 use Rattle.ss_machine_instructions.proofs.Looping.{begin_cells, loop_within, loop_at, begins_not, begins}
 use Rattle.ss_machine_instructions.proofs.state.State.begin.Goals as goal

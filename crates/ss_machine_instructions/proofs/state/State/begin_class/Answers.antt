@@ -1,8 +1,6 @@
 use Rattle.std.proofs.Common.{rules, ◌≡◌, ◌∙◌, length, subst, ap}
 use Rattle.ss_code_instructions.specs.declared.instruction.Instruction.TheVariants.{BeginClass as Runs}
-use Rattle.std.specs.Prelude.{slice_get, pos}
-use Rattle.ss_world.specs.State.{records_in}
-use Rattle.ss_machine_instructions.proofs.Common.{has_item, hold_length, IsSuited, on_if_at}
+use Rattle.ss_machine_instructions.proofs.Common.{has_item, hold_length, IsSuited, on_if_at, pos, records_in, slice_get}
 use Rattle.ss_machine_instructions.proofs.Placing.{suits, frame_small}
 use Rattle.ss_machine_instructions.proofs.Looping.{class_within, class_count, begins_class}
 use Rattle.ss_machine_instructions.proofs.state.State.begin_class.Goals as goal

@@ -1,6 +1,5 @@
 use Rattle.std.proofs.Common.{rules, ◌≡◌, ap}
-use Rattle.ss_code_instructions.specs.Forms.{calculating}
-use Rattle.ss_machine_instructions.proofs.Common.{computed, is_due, on_after}
+use Rattle.ss_machine_instructions.proofs.Common.{calculating, computed, is_due, on_after}
 use Rattle.ss_machine_instructions.proofs.Placing.{calm}
 use Rattle.ss_machine_instructions.proofs.Calculating.{calculates_in, calculates}
 use Rattle.ss_machine_instructions.proofs.Forms.{calculated}

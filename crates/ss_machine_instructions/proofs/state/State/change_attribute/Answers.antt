@@ -1,7 +1,6 @@
 use Rattle.std.proofs.Common.{rules, ◌≡◌, Err, ap, ◌∙◌, ◌<◌, length, sym, subst, to_z, of_z, w64}
-use Rattle.std.specs.Prelude.{slice_get, MatchResult}
+use Rattle.ss_machine_instructions.proofs.Common.{attribute_noted, changed_number, computed, HasNoted, Integer, IsChanged, Layout, MatchResult, modes_of, operator_of, Seen, slice_get, value_in}
 use Rattle.ss_code_instructions.specs.declared.instruction.Instruction.TheVariants.{ChangeAttribute as Runs}
-use Rattle.ss_machine_instructions.proofs.Common.{attribute_noted, changed_number, computed, HasNoted, Integer, IsChanged, Layout, modes_of, operator_of, Seen, value_in}
 use Rattle.ss_machine_instructions.proofs.Seeing.{class_within}
 use Rattle.ss_machine_instructions.proofs.Assigning.{changes_in, changes_mode, changes_by}
 use Rattle.ss_machine_instructions.proofs.state.State.change_attribute.Goals as goal

@@ -1,8 +1,6 @@
 use Rattle.std.proofs.Common.{rules, Ok, Err, ◌≡◌, ℤ, sym, subst, to_z, of_z, w64, ap}
 use Rattle.ss_code_instructions.specs.declared.instruction.Instruction.TheVariants.{Create as Runs}
-use Rattle.ss_meaning.specs.Entities.{made_one}
-use Rattle.ss_machine_instructions.proofs.Common.{act, HasMade, IsDelivering, on_after, Whole}
-use Rattle.ss_machine_instructions.specs.Doing.{IsDelivered}
+use Rattle.ss_machine_instructions.proofs.Common.{act, HasMade, IsDelivered, IsDelivering, made_one, on_after, Whole}
 use Rattle.ss_machine_instructions.proofs.Creating.{creates_within, creates_single, creates, created, creates_not}
 use Rattle.ss_machine_instructions.proofs.state.State.create.Goals as goal
 

@@ -1,7 +1,6 @@
 use Rattle.std.proofs.Common.{rules, ◌≡◌, ℤ, Ok, Err, refl, subst, to_z, of_z, w64, ap}
 use Rattle.ss_code_instructions.specs.declared.instruction.Instruction.TheVariants.{CreateAll as Runs}
-use Rattle.ss_machine_instructions.proofs.Common.{HasChangedWithMemory, on_after, on_at}
-use Rattle.ss_machine_world.specs.Numbers.{created_all_known}
+use Rattle.ss_machine_instructions.proofs.Common.{created_all_known, HasChangedWithMemory, on_after, on_at}
 use Rattle.ss_machine_instructions.proofs.Creating.{count_within, all_within, all_permanent, creates_all, creates_all_not}
 use Rattle.ss_machine_instructions.proofs.state.State.create_all.Goals as goal
 

@@ -1,7 +1,6 @@
 use Rattle.std.proofs.Common.{rules, ◌≡◌, ℤ, subst, to_z, of_z, w64, ap}
 use Rattle.ss_code_instructions.specs.declared.instruction.Instruction.TheVariants.{Destroy as Runs}
-use Rattle.ss_machine_instructions.proofs.Common.{HasChanged, on_after, Whole}
-use Rattle.ss_meaning.specs.Entities.{without}
+use Rattle.ss_machine_instructions.proofs.Common.{HasChanged, on_after, Whole, without}
 use Rattle.ss_machine_instructions.proofs.Creating.{destroys_in, destroys_within, destroys_single, destroys}
 use Rattle.ss_machine_instructions.proofs.state.State.destroy.Goals as goal
 

@@ -1,7 +1,5 @@
 use Rattle.std.proofs.Common.{rules, arith, ◌≤◌, length, ap, refl}
-use Rattle.ss_machine_instructions.proofs.Common.{State, TwoRows}
-use Rattle.ss_machine_frames.proofs.Entering.{cleared_long}
-use Rattle.ss_machine_instructions.specs.Entered.{IsOutOfMemory}
+use Rattle.ss_machine_instructions.proofs.Common.{cleared_long, IsOutOfMemory, State, TwoRows}
 use Rattle.ss_machine_instructions.proofs.Calling.{on_err, cleared_from}
 use Rattle.ss_machine_instructions.proofs.state.State.enter.Goals as goal
 

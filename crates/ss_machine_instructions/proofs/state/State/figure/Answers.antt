@@ -1,7 +1,6 @@
 use Rattle.std.proofs.Common.{rules, Option, ap}
 use Rattle.ss_code_instructions.specs.declared.instruction.Instruction.TheVariants.{Figure as Runs}
-use Rattle.ss_machine_instructions.proofs.Common.{HasAnswer, HasValidSubject, is_due, IsReferenceToSubject, on_after, Value}
-use Rattle.ss_meaning.specs.Statistics.{figure}
+use Rattle.ss_machine_instructions.proofs.Common.{figure, HasAnswer, HasValidSubject, is_due, IsReferenceToSubject, on_after, Value}
 use Rattle.ss_machine_instructions.proofs.Placing.{calm}
 use Rattle.ss_machine_instructions.proofs.Figuring.{figures_in, figures, has_subject}
 use Rattle.ss_machine_world.specs.Seen as seen

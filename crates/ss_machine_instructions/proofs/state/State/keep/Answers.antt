@@ -1,8 +1,6 @@
 use Rattle.std.proofs.Common.{rules, ap}
-use Rattle.std.specs.Prelude.{pos}
+use Rattle.ss_machine_instructions.proofs.Common.{HasChanged, noted, OfVariable, on_after, pos, Whole}
 use Rattle.ss_code_instructions.specs.declared.instruction.Instruction.TheVariants.{Keep as Runs}
-use Rattle.ss_machine_instructions.proofs.Common.{HasChanged, noted, on_after, Whole}
-use Rattle.ss_program.specs.declared.sections.Subject.TheVariants.{OfVariable}
 use Rattle.ss_machine_instructions.proofs.Figuring.{keeps_in, kept_within, keeps}
 use Rattle.ss_machine_instructions.proofs.state.State.keep.Goals as goal
 

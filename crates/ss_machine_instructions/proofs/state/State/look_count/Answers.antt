@@ -1,7 +1,6 @@
 use Rattle.std.proofs.Common.{rules, ap}
 use Rattle.ss_code_instructions.specs.declared.instruction.Instruction.TheVariants.{LookCount as Runs}
-use Rattle.ss_code_instructions.specs.Machine.{assignable_count}
-use Rattle.ss_machine_instructions.proofs.Common.{HasAnswer, on_after}
+use Rattle.ss_machine_instructions.proofs.Common.{assignable_count, HasAnswer, on_after}
 use Rattle.ss_machine_instructions.proofs.Looking.{looks_at_count}
 use Rattle.ss_machine_instructions.proofs.state.State.look_count.Goals as goal
 

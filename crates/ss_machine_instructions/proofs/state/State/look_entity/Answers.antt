@@ -1,7 +1,6 @@
 use Rattle.std.proofs.Common.{rules, ◌≡◌, ap}
 use Rattle.ss_code_instructions.specs.declared.instruction.Instruction.TheVariants.{LookEntity as Runs}
-use Rattle.ss_world.specs.State.{known_in}
-use Rattle.ss_machine_instructions.specs.Ways.{on_after}
+use Rattle.ss_machine_instructions.proofs.Common.{known_in, on_after}
 use Rattle.ss_machine_instructions.proofs.Looking.{entity_in, class_in, looks_at_entity}
 use Rattle.ss_machine_instructions.proofs.state.State.look_entity.Goals as goal
 

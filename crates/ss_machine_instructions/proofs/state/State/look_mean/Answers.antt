@@ -1,8 +1,6 @@
 use Rattle.std.proofs.Common.{rules, Option, ap}
 use Rattle.ss_code_instructions.specs.declared.instruction.Instruction.TheVariants.{LookMean as Runs}
-use Rattle.ss_machine_instructions.proofs.Common.{HasAnswer, HasValidSubject, IsReferenceToSubject, on_after, Value}
-use Rattle.ss_meaning.specs.Statistics.{mean}
-use Rattle.ss_machine_world.specs.Seen.{without_value}
+use Rattle.ss_machine_instructions.proofs.Common.{HasAnswer, HasValidSubject, IsReferenceToSubject, mean, on_after, Value, without_value}
 use Rattle.ss_machine_instructions.proofs.Figuring.{looks_in_mean, looks_at_mean, has_subject}
 use Rattle.ss_machine_instructions.proofs.state.State.look_mean.Goals as goal
 

@@ -1,7 +1,6 @@
 use Rattle.std.proofs.Common.{ap}
 use Rattle.ss_code_instructions.specs.declared.instruction.Instruction.TheVariants.{NextEvent as Runs}
-use Rattle.ss_machine_world.specs.Seen.{Seen}
-use Rattle.ss_machine_instructions.specs.Ways.{back_if_at}
+use Rattle.ss_machine_instructions.proofs.Common.{back_if_at, Seen}
 use Rattle.ss_machine_instructions.proofs.Comparing.{back_if_at_is, next_events}
 use Rattle.ss_machine_instructions.proofs.state.State.next_event.Goals as goal
 

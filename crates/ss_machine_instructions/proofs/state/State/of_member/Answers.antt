@@ -1,7 +1,5 @@
 use Rattle.std.proofs.Common.{rules, ◌≡◌, ℤ, ap, sym, subst, to_z, of_z, w64}
-use Rattle.ss_code_instructions.specs.Forms.{asking_member}
-use Rattle.ss_machine_instructions.proofs.Common.{act, as_value, is_due, IsDelivering, on_after, Seen}
-use Rattle.ss_machine_instructions.specs.Worldly.{member_answer}
+use Rattle.ss_machine_instructions.proofs.Common.{act, as_value, asking_member, is_due, IsDelivering, member_answer, on_after, Seen}
 use Rattle.ss_machine_instructions.proofs.Forms.{asked_of_member}
 use Rattle.ss_machine_instructions.proofs.Setwork.{asks_member_in, asks_member, takes}
 use Rattle.ss_machine_instructions.proofs.state.State.of_member.Goals as goal

@@ -1,7 +1,5 @@
 use Rattle.std.proofs.Common.{rules, ◌≡◌, ℤ, ap, sym, subst, to_z, of_z, w64}
-use Rattle.ss_code_instructions.specs.Forms.{asking_set}
-use Rattle.ss_machine_instructions.proofs.Common.{act, as_value, is_due, IsDelivering, on_after, Seen}
-use Rattle.ss_meaning.specs.Sets.{set_answer}
+use Rattle.ss_machine_instructions.proofs.Common.{act, as_value, asking_set, is_due, IsDelivering, on_after, Seen, set_answer}
 use Rattle.ss_machine_instructions.proofs.Forms.{asked_of_set}
 use Rattle.ss_machine_instructions.proofs.Setwork.{asks_set_in, asks_set, takes}
 use Rattle.ss_machine_instructions.proofs.state.State.of_set.Goals as goal

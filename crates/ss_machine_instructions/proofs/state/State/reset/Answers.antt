@@ -1,11 +1,8 @@
 use Rattle.std.proofs.Common.{rules, ◌≡◌, ℕ, ℤ, Option, Some, subst, to_z, of_z, w64, ap}
-use Rattle.std.specs.Prelude.{slice_get}
+use Rattle.ss_machine_instructions.proofs.Common.{HasChangedWhere, IsRight, on_after, reset, slice_get, statistic_variable, Value}
 use Rattle.ss_code_instructions.specs.declared.instruction.Instruction.TheVariants.{Reset as Runs}
-use Rattle.ss_machine_instructions.proofs.Common.{HasChangedWhere, HasValidSubject, IsReferenceToSubject, IsRight, on_after, Value}
-use Rattle.ss_meaning.specs.Statistics.{reset}
-use Rattle.ss_machine_time.specs.Figures.{statistic_variable}
+use Rattle.ss_machine_world.specs.Numbers.{HasValidSubject, IsReferenceToSubject, IsHeldBySubject as VariableHolds}
 use Rattle.ss_machine_instructions.proofs.Figuring.{has_subject, resets_in, resets, held_within}
-use Rattle.ss_machine_world.specs.Numbers.{IsHeldBySubject as VariableHolds}
 use Rattle.ss_machine_instructions.proofs.state.State.reset.Goals as goal
 
 pub number-entity-requires : goal.number-entity-requires

@@ -1,7 +1,6 @@
 use Rattle.std.proofs.Common.{rules, ◌≡◌, Err, ap, ◌∙◌, ◌<◌, length, sym, subst, to_z, of_z, w64}
-use Rattle.std.specs.Prelude.{slice_get, MatchResult}
+use Rattle.ss_machine_instructions.proofs.Common.{assigned, attribute_noted, HasNoted, Integer, IsAssigned, Layout, MatchResult, modes_of, Seen, slice_get, Whole}
 use Rattle.ss_code_instructions.specs.declared.instruction.Instruction.TheVariants.{SetAttribute as Runs}
-use Rattle.ss_machine_instructions.proofs.Common.{assigned, attribute_noted, HasNoted, Integer, IsAssigned, Layout, modes_of, Seen, Whole}
 use Rattle.ss_machine_instructions.proofs.Seeing.{mode_there, class_within}
 use Rattle.ss_machine_instructions.proofs.Assigning.{sets_in, sets}
 use Rattle.ss_machine_instructions.proofs.state.State.set_attribute.Goals as goal

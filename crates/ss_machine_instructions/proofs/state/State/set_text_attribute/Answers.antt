@@ -1,7 +1,6 @@
 use Rattle.std.proofs.Common.{rules, ◌≡◌, Ok, Err, ap, ◌∙◌, to_z, of_z, w64}
-use Rattle.std.specs.Prelude.{MatchResult}
+use Rattle.ss_machine_instructions.proofs.Common.{Alpha, assigned, faulted_by, MatchResult, on_after, Seen, Text}
 use Rattle.ss_code_instructions.specs.declared.instruction.Instruction.TheVariants.{SetTextAttribute as Runs}
-use Rattle.ss_machine_instructions.proofs.Common.{Alpha, assigned, faulted_by, on_after, Seen, Text}
 use Rattle.ss_machine_instructions.proofs.Seeing.{mode_there, class_within}
 use Rattle.ss_machine_instructions.proofs.Assigning.{sets_in, sets_text}
 use Rattle.ss_machine_instructions.proofs.state.State.set_text_attribute.Goals as goal

@@ -1,7 +1,6 @@
 use Rattle.std.proofs.Common.{rules, ◌≡◌, ◌+◌, Some, ap, false, true, refl}
-use Rattle.std.specs.Prelude.{slice_get}
+use Rattle.ss_machine_instructions.proofs.Common.{is_due, on_after, on_at, slice_get}
 use Rattle.ss_code_instructions.specs.declared.instruction.Instruction.TheVariants.{Take as Runs}
-use Rattle.ss_machine_instructions.proofs.Common.{is_due, on_after, on_at}
 use Rattle.ss_machine_instructions.proofs.Delivering.{put_within}
 use Rattle.ss_machine_instructions.proofs.Ticking.{pauses, takes_in, take_delivers, takes}
 use Rattle.ss_machine_instructions.proofs.Placing.{frame_small}

@@ -1,7 +1,6 @@
 use Rattle.std.proofs.Common.{rules, ◌≡◌, Ok, Err, ap}
-use Rattle.std.specs.Prelude.{MatchResult}
+use Rattle.ss_machine_instructions.proofs.Common.{Alpha, as_text, is_due, MatchResult, on_after, Text, value_in}
 use Rattle.ss_code_instructions.specs.declared.instruction.Instruction.TheVariants.{TextAttribute as Runs}
-use Rattle.ss_machine_instructions.proofs.Common.{Alpha, as_text, is_due, on_after, Text, value_in}
 use Rattle.ss_machine_instructions.proofs.Placing.{calm}
 use Rattle.ss_machine_instructions.proofs.Seeing.{text_answer, text_right, mode_there, class_within}
 use Rattle.ss_machine_instructions.proofs.Assigning.{attribute_in, attributes}

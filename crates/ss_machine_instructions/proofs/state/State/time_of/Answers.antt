@@ -1,7 +1,6 @@
 use Rattle.std.proofs.Common.{rules, ◌≡◌, ap}
 use Rattle.ss_code_instructions.specs.declared.instruction.Instruction.TheVariants.{TimeOf as Runs}
-use Rattle.ss_world.specs.State.{time_in}
-use Rattle.ss_machine_instructions.proofs.Common.{is_due, on_after}
+use Rattle.ss_machine_instructions.proofs.Common.{is_due, on_after, time_in}
 use Rattle.ss_machine_instructions.proofs.Placing.{calm}
 use Rattle.ss_machine_instructions.proofs.Assigning.{time_of_in, times_of}
 use Rattle.ss_machine_instructions.proofs.state.State.time_of.Goals as goal

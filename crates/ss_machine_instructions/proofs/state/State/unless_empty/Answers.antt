@@ -1,7 +1,6 @@
 use Rattle.std.proofs.Common.{rules, ◌≡◌, ℤ, ap, ◌∙◌, subst, to_z, of_z, w64}
 use Rattle.ss_code_instructions.specs.declared.instruction.Instruction.TheVariants.{UnlessEmpty as Runs}
-use Rattle.ss_machine_instructions.proofs.Common.{count_in, faulted_test, IsSuited, Seen, test_of, tested_at}
-use Rattle.ss_machine_instructions.specs.Ways.{none_of}
+use Rattle.ss_machine_instructions.proofs.Common.{count_in, faulted_test, IsSuited, none_of, Seen, test_of, tested_at}
 use Rattle.ss_machine_instructions.proofs.Placing.{suits}
 use Rattle.ss_machine_instructions.proofs.Asking.{set_within, empties_in, empties}
 use Rattle.ss_machine_instructions.proofs.state.State.unless_empty.Goals as goal

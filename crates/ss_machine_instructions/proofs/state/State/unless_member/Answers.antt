@@ -1,7 +1,6 @@
 use Rattle.std.proofs.Common.{rules, ◌≡◌, ap, ◌∙◌, subst, to_z, of_z, w64}
 use Rattle.ss_code_instructions.specs.declared.instruction.Instruction.TheVariants.{UnlessMember as Runs}
-use Rattle.ss_machine_instructions.proofs.Common.{faulted_test, IsSuited, Seen, test_of, tested_at}
-use Rattle.ss_world.specs.Disciplines.{member_test}
+use Rattle.ss_machine_instructions.proofs.Common.{faulted_test, IsSuited, member_test, Seen, test_of, tested_at}
 use Rattle.ss_machine_instructions.proofs.Placing.{suits}
 use Rattle.ss_machine_instructions.proofs.Asking.{set_within, members_in, members}
 use Rattle.ss_machine_instructions.proofs.state.State.unless_member.Goals as goal

@@ -1,7 +1,5 @@
 use Rattle.std.proofs.Common.{rules, ◌≡◌, Some, refl}
-use Rattle.ss_machine_instructions.proofs.Common.{Integer, on_if_at, only_number, place_at, Whole}
-use Rattle.ss_code_instructions.specs.Forms.{comparing_numbers}
-use Rattle.ss_meaning.specs.Values.{related}
+use Rattle.ss_machine_instructions.proofs.Common.{comparing_numbers, Integer, on_if_at, only_number, place_at, related, Whole}
 use Rattle.ss_machine_instructions.proofs.Comparing.{compares_in, compares}
 use Rattle.ss_machine_instructions.proofs.Forms.{compared}
 use Rattle.ss_machine_instructions.proofs.state.State.unless_numbers.Goals as goal

@@ -1,8 +1,5 @@
 use Rattle.std.proofs.Common.{rules, ◌≡◌, ◌<◌, ℤ, length, Ok, Err, sym, subst, to_z, of_z, w64, refl}
-use Rattle.std.specs.Prelude.{MatchResult}
-use Rattle.ss_machine_world.proofs.Common.{HasChanged, known_in, Seen, Times, Whole}
-use Rattle.ss_world.specs.PendingList.{cancelled}
-use Rattle.ss_meaning.specs.Events.{unscheduled}
+use Rattle.ss_machine_world.proofs.Common.{cancelled, HasChanged, known_in, MatchResult, Seen, Times, unscheduled, Whole}
 use Rattle.ss_machine_world.proofs.Leaving.{there_in, cancelled_changes, not_cancelled, cancelled_statistics}
 use Rattle.ss_machine_world.proofs.Starting.{seen_of}
 use Rattle.ss_machine_world.proofs.Said.{said_still}

@@ -1,7 +1,5 @@
 use Rattle.std.proofs.Common.{arith, ◌≡◌, List, length, true, false, Err, refl, ap, sym, ◌∙◌, subst}
-use Rattle.std.specs.Prelude.{slice_get}
-use Rattle.std.specs.List.{list_any}
-use Rattle.ss_machine_world.proofs.Common.{AreSaid, Class, ClassEntry, columns_of, HasMade, is_home, is_single, made_one, Seen}
+use Rattle.ss_machine_world.proofs.Common.{AreSaid, Class, ClassEntry, columns_of, HasMade, is_home, is_single, list_any, made_one, Seen, slice_get}
 use Rattle.ss_machine_world.proofs.Said.{none_start, said_still}
 use Rattle.ss_machine_world.proofs.Starting.{one_alone, seen_of}
 use Rattle.ss_machine_world.proofs.world.World.create.Goals as goal

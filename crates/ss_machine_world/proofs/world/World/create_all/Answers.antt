@@ -1,6 +1,5 @@
 use Rattle.std.proofs.Common.{rules, ◌≡◌, ℤ, Ok, Err, refl, ap, sym, subst, to_z, of_z, w64}
-use Rattle.ss_machine_world.proofs.Common.{created_all, created_all_known, HasChangedWithMemory, no_value, Seen, State}
-use Rattle.ss_machine_world.specs.Seen.{IsAlwaysOk}
+use Rattle.ss_machine_world.proofs.Common.{created_all, created_all_known, HasChangedWithMemory, IsAlwaysOk, no_value, Seen, State}
 use Rattle.ss_machine_world.proofs.Starting.{fault_due, none_due, all_fault, all_well}
 use Rattle.ss_machine_world.proofs.world.World.create_all.Goals as goal
 

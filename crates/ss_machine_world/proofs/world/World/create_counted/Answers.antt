@@ -1,9 +1,5 @@
 use Rattle.std.proofs.Common.{rules, ◌≡◌, ◌≤ℤ◌, ℤ, true, length, Ok, Err, ap, sym, ◌∙◌, subst, to_z, of_z, w64, refl}
-use Rattle.std.specs.Prelude.{pos, slice_get}
-use Rattle.ss_machine_world.proofs.Common.{Class, columns, created_all, created_all_known, HasChangedWithMemory, HasRooms, Layout, Seen, starting, State, Times, with_seen}
-use Rattle.ss_world.specs.State.{IsRefusalOf, records_in}
-use Rattle.ss_machine_time.specs.Records.{is_up_to}
-use Rattle.ss_meaning.specs.Entities.{is_permanent}
+use Rattle.ss_machine_world.proofs.Common.{Class, columns, created_all, created_all_known, HasChangedWithMemory, HasRooms, is_permanent, is_up_to, IsRefusalOf, Layout, pos, records_in, Seen, slice_get, starting, State, Times, with_seen}
 use Rattle.ss_machine_world.proofs.Starting.{all_made, all_refused, less_room, many_made, seen_of, seen_moved}
 use Rattle.ss_machine_world.proofs.Said.{said_still}
 use Rattle.ss_machine_world.proofs.world.World.create_counted.Goals as goal

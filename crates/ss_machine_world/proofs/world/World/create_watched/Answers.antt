@@ -1,6 +1,5 @@
 use Rattle.std.proofs.Common.{rules, ◌≡◌, ℤ, true, Ok, ap, sym, ◌∙◌, subst, int_eq, to_z, of_z, w64, refl}
-use Rattle.std.specs.Prelude.{pos, slice_get}
-use Rattle.ss_machine_world.proofs.Common.{Class, columns, HasMade, HasRooms, is_single, Layout, made_one, Seen, starting, Times}
+use Rattle.ss_machine_world.proofs.Common.{Class, columns, HasMade, HasRooms, is_single, Layout, made_one, pos, Seen, slice_get, starting, Times}
 use Rattle.ss_machine_world.proofs.Starting.{one_made, seen_of, seen_moved}
 use Rattle.ss_machine_world.proofs.Said.{said_still}
 use Rattle.ss_machine_world.proofs.world.World.create_watched.Goals as goal

@@ -1,7 +1,5 @@
 use Rattle.std.proofs.Common.{rules, ◌≡◌, true, false, Err, refl, subst, to_z, of_z, w64, ℤ}
-use Rattle.ss_machine_world.proofs.Common.{Fails, gone, HasChanged, Whole, with_seen}
-use Rattle.ss_world.specs.PendingList.{is_pending}
-use Rattle.ss_meaning.specs.Entities.{without}
+use Rattle.ss_machine_world.proofs.Common.{Fails, gone, HasChanged, is_pending, Whole, with_seen, without}
 use Rattle.ss_machine_world.proofs.Leaving.{gone_without}
 use Rattle.ss_machine_world.proofs.world.World.destroy.Goals as goal
 

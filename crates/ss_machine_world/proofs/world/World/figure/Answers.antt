@@ -1,7 +1,5 @@
 use Rattle.std.proofs.Common.{rules, ◌≡◌, Some, None, Err, refl, subst, to_z, of_z, w64}
-use Rattle.ss_machine_world.proofs.Common.{NoEntity, Seen, with_seen}
-use Rattle.ss_machine_time.specs.Records.{figured}
-use Rattle.ss_meaning.specs.Histories.{figure_kept}
+use Rattle.ss_machine_world.proofs.Common.{figure_kept, figured, NoEntity, Seen, with_seen}
 use Rattle.ss_machine_world.proofs.Figured.{figure_is, figure_not}
 use Rattle.ss_machine_world.proofs.world.World.figure.Goals as goal
 

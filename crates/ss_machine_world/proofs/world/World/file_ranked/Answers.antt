@@ -1,9 +1,7 @@
 use Rattle.std.proofs.Common.{rules, ◌≡◌, List, length, Some, None, refl, ap, sym, ◌∙◌, subst, to_z, of_z, w64}
-use Rattle.std.specs.Prelude.{slice_get}
+use Rattle.ss_machine_world.proofs.Common.{Discipline, HasRearranged, Seen, slice_get, State}
 use Rattle.std.proofs.lemmas.Option.{slice_get_read, slice_get_past}
-use Rattle.ss_machine_world.proofs.Common.{Discipline, filed, Seen, State}
-use Rattle.ss_world.specs.Disciplines.{HasMemberKeys}
-use Rattle.ss_machine_world.specs.Seen.{HasRearranged}
+use Rattle.ss_world.specs.Disciplines.{filed, HasMemberKeys}
 use Rattle.ss_machine_world.proofs.Ruling.{ruled_by}
 use Rattle.ss_machine_world.proofs.Starting.{seen_of}
 use Rattle.ss_machine_world.proofs.Said.{said_still}

@@ -1,6 +1,5 @@
 use Rattle.std.proofs.Common.{rules, ◌≡◌, true, false, ap, subst}
-use Rattle.ss_world.specs.State.{State, is_made}
-use Rattle.ss_machine_world.specs.Seen.{Seen}
+use Rattle.ss_machine_world.proofs.Common.{is_made, Seen, State}
 use Rattle.ss_machine_world.proofs.Starting.{open_not, open_still}
 use Rattle.ss_machine_world.proofs.world.World.look_count.Goals as goal
 

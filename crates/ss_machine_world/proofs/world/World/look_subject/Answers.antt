@@ -1,6 +1,5 @@
 use Rattle.std.proofs.Common.{rules, ◌≡◌, ◌<◌, length, ap, sym, ◌∙◌, subst, to_z, of_z, w64}
-use Rattle.ss_machine_world.proofs.Common.{known_in, looked_in, no_value, owner, Seen, State, Subject}
-use Rattle.ss_machine_world.specs.Numbers.{IsSubject}
+use Rattle.ss_machine_world.proofs.Common.{IsSubject, known_in, looked_in, no_value, owner, Seen, State, Subject}
 use Rattle.ss_machine_world.proofs.world.World.look_subject.Goals as goal
 
 pub known-requires : goal.known-requires

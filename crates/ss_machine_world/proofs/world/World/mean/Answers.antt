@@ -1,6 +1,5 @@
 use Rattle.std.proofs.Common.{rules, ◌≡◌, Some, None, Ok, Err, refl, subst, to_z, of_z, w64}
-use Rattle.ss_machine_world.proofs.Common.{NoEntity, Seen, sure, with_seen}
-use Rattle.ss_meaning.specs.Histories.{mean_kept}
+use Rattle.ss_machine_world.proofs.Common.{mean_kept, NoEntity, Seen, sure, with_seen}
 use Rattle.ss_machine_world.proofs.Figured.{mean_is, mean_not}
 use Rattle.ss_machine_world.proofs.world.World.mean.Goals as goal
 

@@ -1,7 +1,6 @@
 use Rattle.std.proofs.Common.{rules, ◌≡◌, ℤ, Ok, Err, sym, subst, to_z, of_z, w64, refl, ap}
 use Rattle.std.specs.Prelude.{Result as OkOr}
-use Rattle.ss_machine_world.proofs.Common.{count_in, FaultKind, HasChanged, OfCount, or_full, Seen, State, Whole}
-use Rattle.ss_machine_world.specs.Numbers.{count_noted}
+use Rattle.ss_machine_world.proofs.Common.{count_in, count_noted, FaultKind, HasChanged, OfCount, or_full, Seen, State, Whole}
 use Rattle.ss_machine_world.proofs.Noting.{noted_changes, counted_changes, not_counted, noted_statistics}
 use Rattle.ss_machine_world.proofs.Starting.{seen_of}
 use Rattle.ss_machine_world.proofs.Said.{said_still}

@@ -1,8 +1,6 @@
 use Rattle.std.proofs.Common.{rules, ◌≡◌, sym, subst, to_z, of_z, w64, refl, ℤ}
 use Rattle.std.specs.Prelude.{pos, Result as OkOr}
-use Rattle.ss_machine_world.proofs.Common.{FaultKind, HasChanged, noted, or_full, Seen, Whole}
-use Rattle.ss_program.specs.declared.sections.Subject.TheVariants.{OfVariable}
-use Rattle.ss_machine_time.specs.Times.{IsNoted}
+use Rattle.ss_machine_world.proofs.Common.{FaultKind, HasChanged, IsNoted, noted, OfVariable, or_full, Seen, Whole}
 use Rattle.ss_machine_world.proofs.Noting.{noted_changes, noted_statistics}
 use Rattle.ss_machine_world.proofs.Starting.{seen_of}
 use Rattle.ss_machine_world.proofs.Said.{said_still}

@@ -1,7 +1,6 @@
 use Rattle.std.proofs.Common.{rules, ◌≡◌, ◌<◌, ℤ, length, Some, Ok, Err, ap, sym, ◌∙◌, subst, to_z, of_z, w64, refl}
 use Rattle.std.specs.Prelude.{slice_get, MatchResult, Result as OkOr}
-use Rattle.ss_machine_world.proofs.Common.{count_in, FaultKind, Integer, modes_of, present_in, Seen, State, Subject, Value, value_in, Whole}
-use Rattle.ss_machine_world.specs.Numbers.{IsSubject}
+use Rattle.ss_machine_world.proofs.Common.{count_in, FaultKind, Integer, IsSubject, modes_of, present_in, Seen, State, Subject, Value, value_in, Whole}
 use Rattle.ss_machine_world.proofs.Figured.{whole_value, number_value}
 use Rattle.ss_machine_world.proofs.Said.{said_still}
 use Rattle.ss_machine_world.proofs.world.World.present.Goals as goal

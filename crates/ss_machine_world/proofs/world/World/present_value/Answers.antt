@@ -1,6 +1,5 @@
 use Rattle.std.proofs.Common.{rules, ◌≡◌, Some, None, ap, sym, ◌∙◌, subst, to_z, of_z, w64}
-use Rattle.ss_machine_world.proofs.Common.{present_in, Seen, Subject, subject_in}
-use Rattle.ss_machine_world.specs.Seen.{as_value}
+use Rattle.ss_machine_world.proofs.Common.{as_value, present_in, Seen, Subject, subject_in}
 use Rattle.ss_machine_world.proofs.Figured.{one_subject}
 use Rattle.ss_machine_world.proofs.world.World.present_value.Goals as goal
 

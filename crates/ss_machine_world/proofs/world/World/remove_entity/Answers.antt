@@ -1,7 +1,5 @@
 use Rattle.std.proofs.Common.{arith, rules, ◌≡◌, ℤ, List, length, true, Ok, Err, ap, sym, ◌∙◌, subst, to_z, of_z, w64, refl}
-use Rattle.std.specs.Prelude.{slice_get}
-use Rattle.ss_machine_world.proofs.Common.{AreSaid, ClassEntry, columns, ending, gone, HasChanged, is_single, Layout, Seen, Times, Whole}
-use Rattle.ss_world.specs.State.{destroyed}
+use Rattle.ss_machine_world.proofs.Common.{AreSaid, ClassEntry, columns, destroyed, ending, gone, HasChanged, is_single, Layout, Seen, slice_get, Times, Whole}
 use Rattle.ss_machine_world.proofs.Leaving.{gone_ended, gone_not}
 use Rattle.ss_machine_world.proofs.Starting.{seen_of, seen_moved}
 use Rattle.ss_machine_world.proofs.Said.{said_still}

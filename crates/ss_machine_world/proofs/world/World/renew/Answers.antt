@@ -1,8 +1,6 @@
 use Rattle.std.proofs.Common.{rules, ◌≡◌, Ok, Err, refl, sym, subst, to_z, of_z, w64}
 use Rattle.std.specs.Prelude.{Result as OkOr}
-use Rattle.ss_machine_world.proofs.Common.{columns, FaultKind, HasChanged, NoEntity, renewed_known, Seen}
-use Rattle.ss_machine_time.specs.Records.{renewed_where}
-use Rattle.ss_meaning.specs.Histories.{renewed}
+use Rattle.ss_machine_world.proofs.Common.{columns, FaultKind, HasChanged, NoEntity, renewed, renewed_known, renewed_where, Seen}
 use Rattle.ss_machine_world.proofs.Figured.{renew_changes, renew_wrong}
 use Rattle.ss_machine_world.proofs.Starting.{seen_of}
 use Rattle.ss_machine_world.proofs.Said.{said_still}

@@ -1,8 +1,5 @@
 use Rattle.std.proofs.Common.{rules, ◌≡◌, Err, sym, subst, to_z, of_z, w64}
-use Rattle.ss_machine_time.specs.Figures.{renewed_known}
-use Rattle.ss_meaning.specs.Statistics.{reset}
-use Rattle.ss_machine_world.specs.Numbers.{IsHeldBySubject}
-use Rattle.ss_machine_world.specs.Seen.{Seen, IsRight, HasChanged, HasChangedWhere}
+use Rattle.ss_machine_world.proofs.Common.{HasChanged, HasChangedWhere, IsHeldBySubject, IsRight, renewed_known, reset, Seen}
 use Rattle.ss_machine_world.proofs.Figured.{reset_not, reset_then}
 use Rattle.ss_machine_world.proofs.world.World.reset.Goals as goal
 

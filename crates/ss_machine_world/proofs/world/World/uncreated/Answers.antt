@@ -1,7 +1,5 @@
 use Rattle.std.proofs.Common.{◌≡◌, Ok, Err, ap, subst}
-use Rattle.ss_base.specs.declared.fault.Refused.TheVariants.{Fault, Memory}
-use Rattle.ss_world.specs.State.{State, created, no_value}
-use Rattle.ss_machine_world.specs.Seen.{Seen}
+use Rattle.ss_machine_world.proofs.Common.{created, Fault, Memory, no_value, Seen, State}
 use Rattle.ss_machine_world.proofs.Starting.{fault_due, none_due, one_refused}
 use Rattle.ss_machine_world.proofs.world.World.uncreated.Goals as goal
 

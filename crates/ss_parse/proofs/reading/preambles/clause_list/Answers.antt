@@ -1,10 +1,6 @@
 use Rattle.std.proofs.Common.{sym, ap, subst, ◌∙◌}
-use Rattle.std.proofs.lemmas.Result.{err_from_is_err_and}
-use Rattle.ss_tree.specs.View.{view_clause}
-use Rattle.ss_parse.specs.ReadPreambles.{clause}
+use Rattle.ss_parse.proofs.Common.{breaks, clause, err_from_is_err_and, grows, HasFailedReading, is_done, view_clause}
 use Rattle.ss_parse.proofs.Clauses.{clauses_loop}
-use Rattle.ss_parse_expressions.specs.Reading.{HasFailedReading}
-use Rattle.ss_parse_expressions.proofs.Rows.{grows, breaks, is_done}
 use Rattle.ss_parse.proofs.reading.preambles.clause_list.Goals as goal
 
 pub more-preserved : goal.more-preserved

@@ -1,8 +1,6 @@
 use Rattle.std.proofs.Common.{◌≡◌, length, map}
-use Rattle.ss_tree.specs.View.{view_clause}
-use Rattle.ss_parse_expressions.specs.Reading.{rows, begins_more, skip_separator}
+use Rattle.ss_parse.proofs.Common.{begins_more, rows, skip_separator, view_clause, with_front}
 use Rattle.ss_parse.specs.ReadPreambles.{clause, begins_clause, clause_list}
-use Rattle.ss_parse_expressions.proofs.Rows.{with_front}
 use Rattle.ss_parse.proofs.reading.preambles.clause_list.Given as goal
 
 abbrev pub invariant-more : goal.invariant-more

@@ -1,6 +1,5 @@
 use Rattle.std.proofs.Common.{sym, ◌∙◌}
-use Rattle.std.proofs.lemmas.Result.{err_from_is_err_and}
-use Rattle.ss_parse_expressions.proofs.Rows.{grows_plain, breaks_plain, is_done_plain}
+use Rattle.ss_parse.proofs.Common.{breaks_plain, err_from_is_err_and, grows_plain, is_done_plain}
 use Rattle.ss_parse.proofs.Statistics.{found_loop, statistic_read, statistic_no_kind}
 use Rattle.ss_parse.proofs.reading.preambles.found.Goals as goal
 

@@ -1,7 +1,5 @@
 use Rattle.std.proofs.Common.{◌≡◌, length}
-use Rattle.ss_parse_expressions.specs.Reading.{rows, begins_more, skip_separator}
-use Rattle.ss_parse_expressions.specs.ReadWords.{begins_name}
-use Rattle.ss_parse_expressions.proofs.Rows.{with_front}
+use Rattle.ss_parse.proofs.Common.{begins_more, begins_name, rows, skip_separator, with_front}
 use Rattle.ss_parse.specs.ReadPreambles.{statistic, found}
 use Rattle.ss_parse.proofs.reading.preambles.found.Given as goal
 

@@ -1,6 +1,5 @@
 use Rattle.std.proofs.Common.{sym, ◌∙◌}
-use Rattle.std.proofs.lemmas.Result.{err_from_is_err_and}
-use Rattle.ss_parse_expressions.proofs.Rows.{grows_plain, breaks_plain, is_done_plain}
+use Rattle.ss_parse.proofs.Common.{breaks_plain, err_from_is_err_and, grows_plain, is_done_plain}
 use Rattle.ss_parse.proofs.Orders.{keys_loop, then_key_read, then_key_no_rank, then_key_no_name}
 use Rattle.ss_parse.proofs.reading.preambles.keys.Goals as goal
 

@@ -1,8 +1,6 @@
 use Rattle.std.proofs.Common.{◌≡◌, length}
 use Rattle.ss_lex.specs.declared.word.Word.TheVariants as words
-use Rattle.ss_parse_expressions.specs.Reading.{rows, word}
-use Rattle.ss_parse_expressions.specs.ReadWords.{begins_noisy}
-use Rattle.ss_parse_expressions.proofs.Rows.{with_front}
+use Rattle.ss_parse.proofs.Common.{begins_noisy, rows, with_front, word}
 use Rattle.ss_parse.specs.ReadPreambles.{then_key, keys}
 use Rattle.ss_parse.proofs.reading.preambles.keys.Given as goal
 

@@ -1,6 +1,5 @@
 use Rattle.std.proofs.Common.{sym, ◌∙◌}
-use Rattle.std.proofs.lemmas.Result.{err_from_is_err_and}
-use Rattle.ss_tree.specs.View.{view_preamble}
+use Rattle.ss_parse.proofs.Common.{err_from_is_err_and, view_preamble}
 use Rattle.ss_parse.proofs.WholePreambles.{preamble_shrinks, preamble_grows, preamble_ends, preamble_breaks}
 use Rattle.ss_parse.proofs.reading.preambles.preamble_statements.Goals as goal
 

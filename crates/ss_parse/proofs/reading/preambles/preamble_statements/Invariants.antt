@@ -1,6 +1,5 @@
 use Rattle.std.proofs.Common.{◌≡◌, length, map, None}
-use Rattle.ss_tree.specs.View.{view_preamble}
-use Rattle.ss_parse_expressions.proofs.Rows.{with_front}
+use Rattle.ss_parse.proofs.Common.{view_preamble, with_front}
 use Rattle.ss_parse.specs.ReadPreambles.{preambles}
 use Rattle.ss_parse.proofs.reading.preambles.preamble_statements.Given as goal
 

@@ -1,8 +1,6 @@
 use Rattle.std.proofs.Common.{sym, ◌∙◌}
-use Rattle.std.proofs.lemmas.Result.{err_from_is_err_and}
-use Rattle.ss_tree.specs.View.{view_definition}
+use Rattle.ss_parse.proofs.Common.{breaks, err_from_is_err_and, grows, is_done, view_definition}
 use Rattle.ss_parse.proofs.ProgramLaws.{definitions_loop}
-use Rattle.ss_parse_expressions.proofs.Rows.{grows, breaks, is_done}
 use Rattle.ss_parse.proofs.reading.programs.definitions.Goals as goal
 
 pub more-preserved : goal.more-preserved

@@ -1,7 +1,5 @@
 use Rattle.std.proofs.Common.{sym, ◌∙◌}
-use Rattle.std.proofs.lemmas.Result.{err_from_is_err_and}
-use Rattle.ss_tree.specs.View.{view_section}
-use Rattle.ss_parse_expressions.proofs.Rows.{grows, breaks, is_done}
+use Rattle.ss_parse.proofs.Common.{breaks, err_from_is_err_and, grows, is_done, view_section}
 use Rattle.ss_parse.proofs.ProgramLaws.{sections_loop}
 use Rattle.ss_parse.proofs.reading.programs.sections.Goals as goal
 

@@ -1,8 +1,5 @@
 use Rattle.std.proofs.Common.{◌≡◌, length, map}
-use Rattle.ss_tree.specs.View.{view_section}
-use Rattle.ss_parse_expressions.specs.Reading.{rows}
-use Rattle.ss_parse.specs.ReadPrograms.{begins_section, section_in}
-use Rattle.ss_parse_expressions.proofs.Rows.{with_front}
+use Rattle.ss_parse.proofs.Common.{begins_section, rows, section_in, view_section, with_front}
 use Rattle.ss_parse.proofs.reading.programs.sections.Given as goal
 
 abbrev pub invariant-more : goal.invariant-more

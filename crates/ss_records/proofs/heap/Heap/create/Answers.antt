@@ -1,9 +1,5 @@
 use Rattle.std.proofs.Common.{◌≡◌, ◌*◌, ap, subst, ◌∙◌}
-use Rattle.std.specs.Prelude.{MatchResult, Ok}
-use Rattle.ss_base.specs.declared.layout.Owner.TheVariants.{Class}
-use Rattle.ss_world.specs.State.{Heaped, State, IsRefusalOf, created}
-use Rattle.ss_records_words.specs.Shape.{set_places}
-use Rattle.ss_records_entities.specs.Parts.{state}
+use Rattle.ss_records.proofs.Common.{Class, created, Heaped, IsRefusalOf, MatchResult, Ok, set_places, State, state}
 use Rattle.ss_records.proofs.heap.Heap.create.Goals as goal
 
 pub returns-clause-done : goal.returns-clause-done

@@ -1,10 +1,6 @@
 use Rattle.std.proofs.Common.{◌≡◌, ◌*◌, ap, subst, ◌∙◌}
 use Rattle.std.specs.Prelude.{nat_abs, MatchResult, Ok}
-use Rattle.std.proofs.lemmas.Int.{to_z-of_z}
-use Rattle.ss_base.specs.declared.layout.Owner.TheVariants.{Class}
-use Rattle.ss_world.specs.State.{Heaped, State, IsRefusalOf, created_all}
-use Rattle.ss_records_words.specs.Shape.{set_places}
-use Rattle.ss_records_entities.specs.Parts.{state}
+use Rattle.ss_records.proofs.Common.{Class, created_all, Heaped, IsRefusalOf, set_places, State, state, to_z-of_z}
 use Rattle.ss_records.proofs.heap.Heap.create_all.Goals as goal
 
 pub returns-clause-done : goal.returns-clause-done

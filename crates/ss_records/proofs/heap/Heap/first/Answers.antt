@@ -1,8 +1,6 @@
 use Rattle.std.proofs.Common.{◌≡◌, ap, subst, ◌∙◌}
-use Rattle.std.proofs.lemmas.Int.{to_z-of_z}
-use Rattle.ss_world.specs.State.{Heaped, State}
+use Rattle.ss_records.proofs.Common.{Heaped, State, state, to_z-of_z}
 use Rattle.ss_world.specs.Sets.{first_in}
-use Rattle.ss_records_entities.specs.Parts.{state}
 use Rattle.ss_records.proofs.heap.Heap.first.Goals as goal
 
 pub returns-clause-value : goal.returns-clause-value

@@ -1,10 +1,8 @@
 use Rattle.std.proofs.Common.{◌≡◌, ◌+◌, ◌<◌, ◌≤◌, length, slice_get, Some, Err, pos, sym, ap, subst, ◌∙◌}
 use Rattle.std.specs.Prelude.{MatchResult, IsOk}
-use Rattle.std.proofs.lemmas.Int.{to_z-of_z}
-use Rattle.ss_base.specs.declared.value.Value.TheVariants.{Whole}
+use Rattle.ss_records.proofs.Common.{member_class, owner, to_z-of_z, Whole}
 use Rattle.ss_base.specs.declared.layout.Mode.TheVariants.{Integer}
 use Rattle.ss_world.specs.State.{Heaped, State, modes_of}
-use Rattle.ss_world.specs.Sets.{member_class, owner}
 use Rattle.ss_world.specs.Disciplines.{owned}
 use Rattle.ss_records_entities.specs.declared.records.Records.{Records}
 use Rattle.ss_records_entities.specs.Parts.{IsKept, state}

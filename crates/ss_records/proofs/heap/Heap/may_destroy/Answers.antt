@@ -1,9 +1,6 @@
 use Rattle.std.proofs.Common.{◌≡◌, ◌≤◌, ap, subst, ◌∙◌}
-use Rattle.std.proofs.lemmas.Int.{to_z-of_z}
-use Rattle.ss_base.specs.declared.layout.Owner.TheVariants.{Class}
+use Rattle.ss_records.proofs.Common.{Class, set_places, state, to_z-of_z}
 use Rattle.ss_world.specs.State.{Heaped, State, destroyed, no_value}
-use Rattle.ss_records_words.specs.Shape.{set_places}
-use Rattle.ss_records_entities.specs.Parts.{state}
 use Rattle.ss_records.proofs.heap.Heap.may_destroy.Goals as goal
 
 pub returns-clause-value : goal.returns-clause-value

@@ -1,9 +1,5 @@
 use Rattle.std.proofs.Common.{◌≡◌, Ok, Err, ap, subst, ◌∙◌}
-use Rattle.std.specs.Prelude.{MatchResult}
-use Rattle.std.proofs.lemmas.Int.{to_z-of_z}
-use Rattle.ss_world.specs.State.{Heaped, State, value_in}
-use Rattle.ss_world.specs.Sets.{member_class, next_in}
-use Rattle.ss_records_entities.specs.Parts.{state}
+use Rattle.ss_records.proofs.Common.{Heaped, MatchResult, member_class, next_in, State, state, to_z-of_z, value_in}
 use Rattle.ss_records.proofs.heap.Heap.member.Goals as goal
 
 pub returns-clause-found : goal.returns-clause-found

@@ -1,11 +1,8 @@
 use Rattle.std.proofs.Common.{◌≡◌, true, Ok, None, ap, subst, ◌∙◌}
 use Rattle.std.specs.Prelude.{pos, IfSome, if◌then◌else◌}
-use Rattle.std.proofs.lemmas.Int.{to_z-of_z}
+use Rattle.ss_records.proofs.Common.{Heaped, member_test, State, state, to_z-of_z}
 use Rattle.ss_base.specs.declared.layout.Owner.TheVariants.{System}
-use Rattle.ss_world.specs.State.{Heaped, State}
 use Rattle.ss_world.specs.Sets.{owner_kind, next_in, previous_in}
-use Rattle.ss_world.specs.Disciplines.{member_test}
-use Rattle.ss_records_entities.specs.Parts.{state}
 use Rattle.ss_records.proofs.heap.Heap.onward.Goals as goal
 
 pub returns-clause-found : goal.returns-clause-found

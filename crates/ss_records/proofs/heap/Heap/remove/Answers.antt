@@ -1,9 +1,5 @@
 use Rattle.std.proofs.Common.{◌≡◌, ap, subst, ◌∙◌}
-use Rattle.std.specs.Prelude.{MatchResult, Ok, Err}
-use Rattle.std.proofs.lemmas.Int.{to_z-of_z}
-use Rattle.ss_world.specs.State.{Heaped, State}
-use Rattle.ss_world.specs.Sets.{removed}
-use Rattle.ss_records_entities.specs.Parts.{state}
+use Rattle.ss_records.proofs.Common.{Err, Heaped, MatchResult, Ok, removed, State, state, to_z-of_z}
 use Rattle.ss_records.proofs.heap.Heap.remove.Goals as goal
 
 pub returns-clause-done : goal.returns-clause-done

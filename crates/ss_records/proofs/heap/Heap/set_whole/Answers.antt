@@ -1,10 +1,6 @@
 use Rattle.std.proofs.Common.{◌≡◌, ap, subst, ◌∙◌}
-use Rattle.std.specs.Prelude.{MatchResult, Err}
-use Rattle.std.proofs.lemmas.Int.{to_z-of_z}
-use Rattle.ss_base.specs.declared.value.Value.TheVariants.{Whole}
-use Rattle.ss_world.specs.State.{Heaped, State, assigned}
+use Rattle.ss_records.proofs.Common.{assigned, Err, Heaped, MatchResult, State, state, to_z-of_z, Whole}
 use Rattle.ss_records_entities.specs.Attributes.{IsAssigned}
-use Rattle.ss_records_entities.specs.Parts.{state}
 use Rattle.ss_records.proofs.heap.Heap.set_whole.Goals as goal
 
 pub returns-clause-done : goal.returns-clause-done

@@ -1,8 +1,5 @@
 use Rattle.std.proofs.Common.{◌≡◌, ap, subst, ◌∙◌}
-use Rattle.std.specs.Prelude.{IfSome}
-use Rattle.std.proofs.lemmas.Int.{to_z-of_z}
-use Rattle.ss_world.specs.State.{Heaped, State}
-use Rattle.ss_records_entities.specs.Parts.{state}
+use Rattle.ss_records.proofs.Common.{Heaped, IfSome, State, state, to_z-of_z}
 use Rattle.ss_records_entities.specs.Skimming.{IsSkimmed}
 use Rattle.ss_records.proofs.heap.Heap.skim.Goals as goal
 

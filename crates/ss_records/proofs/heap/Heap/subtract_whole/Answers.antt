@@ -1,10 +1,6 @@
 use Rattle.std.proofs.Common.{◌≡◌, ap, subst, ◌∙◌}
-use Rattle.std.specs.Prelude.{MatchResult, Err}
-use Rattle.std.proofs.lemmas.Int.{to_z-of_z}
+use Rattle.ss_records.proofs.Common.{changed_number, Err, Heaped, IsChanged, MatchResult, State, state, to_z-of_z, value_in}
 use Rattle.ss_base.specs.Arithmetic.{minus_of}
-use Rattle.ss_world.specs.State.{Heaped, State, value_in}
-use Rattle.ss_records_entities.specs.Attributes.{IsChanged, changed_number}
-use Rattle.ss_records_entities.specs.Parts.{state}
 use Rattle.ss_records.proofs.heap.Heap.subtract_whole.Goals as goal
 
 pub returns-clause-done : goal.returns-clause-done

@@ -1,9 +1,5 @@
 use Rattle.std.proofs.Common.{◌≡◌, ap, subst}
-use Rattle.std.specs.Prelude.{MatchResult, Ok, Err}
-use Rattle.std.proofs.lemmas.Int.{to_z-of_z}
-use Rattle.ss_base.specs.declared.value.Value.TheVariants.{Whole}
-use Rattle.ss_world.specs.State.{Heaped, State, value_in}
-use Rattle.ss_records_entities.specs.Parts.{state}
+use Rattle.ss_records.proofs.Common.{Err, Heaped, MatchResult, Ok, State, state, to_z-of_z, value_in, Whole}
 use Rattle.ss_records.proofs.heap.Heap.whole.Goals as goal
 
 pub returns : goal.returns

@@ -1,7 +1,6 @@
 use Rattle.std.proofs.Common.{rules, ◌≡◌, w64, to_z, of_z, refl, sym, ap, subst, ◌∙◌, Ok}
 use Rattle.std.specs.Prelude.{pos, if◌then◌else◌, slice_index_or}
-use Rattle.std.proofs.lemmas.Int.{to_z-of_z}
-use Rattle.ss_records_entities.proofs.Common.{and_then, Integer, IsValuePut, Whole}
+use Rattle.ss_records_entities.proofs.Common.{and_then, Integer, IsValuePut, to_z-of_z, Whole}
 use Rattle.ss_base.specs.Arithmetic.{plus_of, minus_of}
 use Rattle.ss_records_entities.specs.Attributes.{changed_number}
 use Rattle.ss_records_entities.proofs.Attributes.{found_first, found_second, found_value, found_kept, found_length, found_assigned, found_reads}

@@ -1,6 +1,5 @@
 use Rattle.std.proofs.Common.{sym, ap, ◌∙◌}
-use Rattle.std.proofs.lemmas.Int.{to_z-of_z}
-use Rattle.ss_records_entities.specs.Parts.{places}
+use Rattle.ss_records_entities.proofs.Common.{places, to_z-of_z}
 use Rattle.ss_records_entities.proofs.Keeps.{class_number, read_place, numbered_is}
 use Rattle.ss_records_entities.proofs.Classed.{class_there}
 use Rattle.ss_records_entities.proofs.records.Records.class_apart.Goals as goal

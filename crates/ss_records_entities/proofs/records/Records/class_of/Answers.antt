@@ -1,5 +1,4 @@
-use Rattle.std.proofs.lemmas.Int.{to_z-of_z}
-use Rattle.ss_records_entities.specs.Parts.{places}
+use Rattle.ss_records_entities.proofs.Common.{places, to_z-of_z}
 use Rattle.ss_records_entities.proofs.Keeps.{class_number}
 use Rattle.ss_records_entities.proofs.Classed.{class_there}
 use Rattle.ss_records_entities.proofs.records.Records.class_of.Goals as goal

@@ -1,6 +1,5 @@
 use Rattle.std.proofs.Common.{arith, refl, ap, ◌∙◌}
-use Rattle.std.proofs.lemmas.Int.{ints, to_z-of_z}
-use Rattle.ss_records_entities.proofs.Common.{false_is_not_true, state}
+use Rattle.ss_records_entities.proofs.Common.{false_is_not_true, ints, state, to_z-of_z}
 use Rattle.ss_records_entities.proofs.Looks.{counts, how_many_small, how_many_value}
 use Rattle.ss_records_entities.proofs.Still.{kept_still, unmoved}
 use Rattle.ss_records_entities.proofs.records.Records.count.Goals as goal

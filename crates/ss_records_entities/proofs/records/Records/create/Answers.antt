@@ -1,11 +1,6 @@
 use Rattle.std.proofs.Common.{◌≡◌, sym, ◌∷◌, ◌+◌, ◌<◌, length, ap, subst, ◌∙◌, arith}
-use Rattle.std.specs.Prelude.{pos}
-use Rattle.std.proofs.lemmas.Int.{ints}
-use Rattle.std.specs.Int.{cast_signed}
+use Rattle.ss_records_entities.proofs.Common.{ArePartsKept, blanks, cast_signed, ints, IsLaid, LAST_NUMBER, length-blanks, places, pos, state_of, word_blank, words_new}
 use mir.Syntax.{w64}
-use Rattle.ss_records_words.specs.Laid.{IsLaid}
-use Rattle.ss_records_entities.proofs.Common.{ArePartsKept, blanks, LAST_NUMBER, length-blanks, places, state_of, words_new}
-use Rattle.ss_records_blocks.proofs.Puts.{word_blank}
 use Rattle.ss_records_entities.proofs.Creates.{room_for_one, kept_created, is_created}
 use Rattle.ss_records_entities.proofs.Issuing.{block_fits, at_rest, rests, one_left}
 use Rattle.ss_records_entities.proofs.records.Records.create.Goals as goal

@@ -1,9 +1,6 @@
 use Rattle.std.proofs.Common.{◌*◌, Ok, Some, length, w64, to_z, of_z, refl, sym, ap, subst, ◌∙◌}
-use Rattle.std.specs.Prelude.{ℤ, nat_abs, IsOk}
-use Rattle.std.proofs.lemmas.Int.{to_z-of_z}
+use Rattle.ss_records_entities.proofs.Common.{Class, created_all, IsOk, nat_abs, places, set_places, state, to_z-of_z, ℤ}
 use Rattle.std.proofs.lemmas.Option.{slice_get_read}
-use Rattle.ss_records_entities.proofs.Common.{Class, places, set_places, state}
-use Rattle.ss_world.specs.State.{created_all}
 use Rattle.ss_records_entities.proofs.Issuing.{at_rest, none_is, made_twice, made_once}
 use Rattle.ss_records_entities.proofs.records.Records.create_all.Goals as goal
 

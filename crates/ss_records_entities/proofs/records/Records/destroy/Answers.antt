@@ -1,10 +1,6 @@
 use Rattle.std.proofs.Common.{◌≡◌, ◌≤◌, ◌-◌, Ok, Some, length, slice_get, slice_set, None, sym, ap, subst, ◌∙◌, arith}
-use Rattle.std.specs.Prelude.{nat_abs}
-use Rattle.std.proofs.lemmas.Int.{to_z-of_z}
-use Rattle.std.specs.Int.{cast_signed, cast_unsigned}
+use Rattle.ss_records_entities.proofs.Common.{ArePartsKept, block_words, cast_signed, cast_unsigned, Class, destroyed, lying, nat_abs, places, Records, set_places, state, state_of, to_z-of_z, uncounted, without_block, words_at}
 use mir.Syntax.{w64}
-use Rattle.ss_records_entities.proofs.Common.{ArePartsKept, block_words, Class, lying, places, Records, set_places, state, state_of, uncounted, without_block, words_at}
-use Rattle.ss_world.specs.State.{destroyed}
 use Rattle.ss_records_entities.proofs.Destroys.{its_size, kept_destroyed, is_destroyed}
 use Rattle.ss_records_entities.proofs.Still.{kept_still, as_many, unmoved}
 use Rattle.ss_records_entities.proofs.Frees.{free_by, by_number}

@@ -1,9 +1,6 @@
 use Rattle.std.proofs.Common.{◌≡◌, ◌+◌, [], refl, sym, ap, ◌∙◌, arith}
-use Rattle.std.specs.Int.{cast_signed}
-use Rattle.std.proofs.lemmas.Int.{ints}
+use Rattle.ss_records_entities.proofs.Common.{cast_signed, counter, first_in, ints, link, members_of, number, state, with_list_of, word_at}
 use mir.Syntax.{w64}
-use Rattle.ss_records_entities.proofs.Common.{counter, link, members_of, number, state, with_list_of, word_at}
-use Rattle.ss_world.specs.Sets.{first_in}
 use Rattle.ss_records_entities.proofs.Looks.{as_whole, first_leads, first_small, first_value, next_leads, counts, how_many}
 use Rattle.ss_records_entities.proofs.Files.{owner_words, member_words', after_word', kept_out, state_out, some_members}
 use Rattle.ss_records_entities.proofs.Cuts.{at_first}

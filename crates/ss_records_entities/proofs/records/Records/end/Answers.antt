@@ -1,6 +1,5 @@
 use Rattle.std.proofs.Common.{◌≡◌, arith, refl, sym, ap, subst}
-use Rattle.std.proofs.lemmas.Int.{ints, to_z-of_z}
-use Rattle.ss_records_entities.proofs.Common.{HasLink, link, state, word_at}
+use Rattle.ss_records_entities.proofs.Common.{HasLink, ints, link, state, to_z-of_z, word_at}
 use Rattle.ss_records_entities.proofs.Looks.{end_leads, end_small, end_value, no_end}
 use Rattle.ss_records_entities.proofs.Still.{reads_only, kept_still, room_first, one_touch, no_touch}
 use Rattle.ss_records_entities.proofs.records.Records.end.Goals as goal

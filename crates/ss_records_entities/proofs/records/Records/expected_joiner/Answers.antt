@@ -1,6 +1,5 @@
 use Rattle.std.proofs.Common.{ap, ◌∙◌}
-use Rattle.std.proofs.lemmas.Int.{to_z-of_z}
-use Rattle.ss_records_entities.proofs.Common.{member_in, SetLayout}
+use Rattle.ss_records_entities.proofs.Common.{member_in, SetLayout, to_z-of_z}
 use Rattle.ss_records_entities.proofs.Owning.{has_number, joins_found, kind_is}
 use Rattle.ss_records_entities.proofs.records.Records.expected_joiner.Goals as goal
 

@@ -1,7 +1,6 @@
 use Rattle.std.proofs.Common.{◌≡◌, ◌+◌, ◌∷◌, ◌++◌, true, false, refl, sym, ap, subst, ◌∙◌}
 use Rattle.std.specs.Prelude.{if◌then◌else◌}
-use Rattle.std.proofs.lemmas.Int.{to_z-of_z}
-use Rattle.ss_records_entities.proofs.Common.{HasLink, link, number, State, state, uncounted, with_list_of, word_at}
+use Rattle.ss_records_entities.proofs.Common.{HasLink, link, number, State, state, to_z-of_z, uncounted, with_list_of, word_at}
 use Rattle.ss_records_entities.proofs.Files.{looked, still_between}
 use Rattle.ss_records_entities.proofs.Cuts.{front, back, beside_found, beside_it, list_beside, beside_twice, not_beside, beside_done, beside_failed}
 use Rattle.ss_records_entities.proofs.Still.{kept_still, set_still, owns_still, joins_still, free_still, listed_still, at_start, one_refused, one_few, then_refused, then_room, then_few, then_linked, no_touch, unmoved}

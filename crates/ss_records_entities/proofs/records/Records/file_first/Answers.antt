@@ -1,6 +1,5 @@
 use Rattle.std.proofs.Common.{◌≡◌, [], ◌∷◌, ◌++◌, refl, sym, ap, ◌∙◌}
-use Rattle.std.proofs.lemmas.Int.{to_z-of_z}
-use Rattle.ss_records_entities.proofs.Common.{link, members_of, number, put_in, State, state, uncounted, with_list_of, word_at}
+use Rattle.ss_records_entities.proofs.Common.{link, members_of, number, put_in, State, state, to_z-of_z, uncounted, with_list_of, word_at}
 use Rattle.ss_records_entities.proofs.Looks.{first_leads}
 use Rattle.ss_records_entities.proofs.Files.{looked, still_between}
 use Rattle.ss_records_entities.proofs.Cuts.{at_first, put_twice, put_done}

@@ -1,6 +1,5 @@
 use Rattle.std.proofs.Common.{[], ◌∷◌, ◌++◌, refl, ap, arith}
-use Rattle.std.proofs.lemmas.Int.{to_z-of_z}
-use Rattle.ss_records_entities.proofs.Common.{false_is_not_true, put_in, state}
+use Rattle.ss_records_entities.proofs.Common.{false_is_not_true, put_in, state, to_z-of_z}
 use Rattle.ss_records_entities.proofs.Cuts.{put_tried}
 use Rattle.ss_records_entities.proofs.Still.{kept_still, unmoved}
 use Rattle.ss_records_entities.proofs.records.Records.file_last.Goals as goal

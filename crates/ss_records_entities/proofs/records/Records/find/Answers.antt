@@ -1,6 +1,5 @@
 use Rattle.std.proofs.Common.{subst}
-use Rattle.std.proofs.lemmas.Int.{to_z-of_z}
-use Rattle.ss_records_words.specs.Kept.{IsPermanent}
+use Rattle.ss_records_entities.proofs.Common.{IsPermanent, to_z-of_z}
 use Rattle.ss_records_entities.proofs.Indexing.{find_indexed}
 use Rattle.ss_records_entities.proofs.records.Records.find.Goals as goal
 

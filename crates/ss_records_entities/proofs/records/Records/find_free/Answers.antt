@@ -1,10 +1,6 @@
 use Rattle.std.proofs.Common.{◌≡◌, suc, ◌+◌, ◌≤◌, true, false, Some, slice_get, sym, ap, subst, ◌∙◌, arith}
-use Rattle.ss_records_entities.proofs.Common.{and_then, Class, class_at_place, count_sets, in_a_set, number_in, owned_by, owns_members, places, Records, state, uncounted}
-use Rattle.std.specs.Prelude.{nat_abs}
-use Rattle.std.proofs.lemmas.Int.{to_z-of_z}
-use Rattle.std.specs.Int.{cast_signed, cast_unsigned}
+use Rattle.ss_records_entities.proofs.Common.{and_then, cast_signed, cast_unsigned, Class, class_at_place, count_sets, in_a_set, let_go, nat_abs, number_in, owned_by, owns_members, places, Records, state, to_z-of_z, uncounted}
 use mir.Syntax.{w64}
-use Rattle.ss_world.specs.State.{let_go}
 use Rattle.ss_records_entities.proofs.Destroys.{in_a_set_is, owns_members_is}
 use Rattle.ss_records_entities.proofs.Still.{kept_still, start_ties, more_ties, after_ties, unmoved}
 use Rattle.ss_records_entities.proofs.Frees.{by_number}

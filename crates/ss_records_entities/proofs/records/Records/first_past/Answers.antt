@@ -1,6 +1,5 @@
 use Rattle.std.proofs.Common.{refl, ap, arith}
-use Rattle.std.proofs.lemmas.Int.{ints, to_z-of_z}
-use Rattle.ss_records_entities.specs.Parts.{state}
+use Rattle.ss_records_entities.proofs.Common.{ints, state, to_z-of_z}
 use Rattle.ss_records_entities.proofs.Still.{kept_still, unmoved}
 use Rattle.ss_records_entities.proofs.records.Records.first_past.Goals as goal
 

@@ -1,6 +1,5 @@
 use Rattle.std.proofs.Common.{refl, ap}
-use Rattle.std.proofs.lemmas.Int.{to_z-of_z}
-use Rattle.ss_records_entities.specs.Parts.{state}
+use Rattle.ss_records_entities.proofs.Common.{state, to_z-of_z}
 use Rattle.ss_records_entities.proofs.Still.{kept_still, at_first, unmoved}
 use Rattle.ss_records_entities.proofs.Ends.{tested, untested, untouched, two_at_most}
 use Rattle.ss_records_entities.proofs.records.Records.has.Goals as goal

@@ -1,5 +1,4 @@
-use Rattle.std.proofs.lemmas.Int.{to_z-of_z}
-use Rattle.std.proofs.lemmas.Option.{IfSome_then}
+use Rattle.ss_records_entities.proofs.Common.{IfSome_then, to_z-of_z}
 use Rattle.ss_records_entities.proofs.Remembered.{numbered_at}
 use Rattle.ss_records_entities.proofs.records.Records.hinted.Goals as goal
 

@@ -1,5 +1,4 @@
-use Rattle.std.proofs.lemmas.Int.{to_z-of_z}
-use Rattle.ss_records_entities.specs.Parts.{places}
+use Rattle.ss_records_entities.proofs.Common.{places, to_z-of_z}
 use Rattle.ss_records_entities.proofs.Keeps.{class_number, class_right}
 use Rattle.ss_records_entities.proofs.Remembered.{found_numbered}
 use Rattle.ss_records_entities.proofs.records.Records.hinted_of_class.Goals as goal

@@ -1,7 +1,5 @@
 use Rattle.std.proofs.Common.{rules, ◌≡◌, ℤ, w64, to_z, of_z, not, false, ap, ◌∙◌}
-use Rattle.std.specs.Ordering.{match_ordering, int_cmp}
-use Rattle.std.proofs.lemmas.Int.{to_z-of_z}
-use Rattle.ss_base.specs.declared.layout.Mode.TheVariants.{Integer}
+use Rattle.ss_records_entities.proofs.Common.{int_cmp, Integer, match_ordering, to_z-of_z}
 use Rattle.ss_records_entities.proofs.Still.{few_fields}
 use Rattle.ss_records_entities.proofs.Passing.{is_number, test_is}
 use Rattle.ss_records_entities.proofs.records.Records.is_past.Goals as goal

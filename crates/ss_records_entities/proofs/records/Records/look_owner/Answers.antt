@@ -1,6 +1,5 @@
 use Rattle.std.proofs.Common.{sym, ap}
-use Rattle.std.proofs.lemmas.Int.{to_z-of_z}
-use Rattle.ss_world.specs.State.{no_value}
+use Rattle.ss_records_entities.proofs.Common.{no_value, to_z-of_z}
 use Rattle.ss_records_entities.proofs.records.Records.look_owner.Goals as goal
 
 pub returns-in-Ok : goal.returns-in-Ok

@@ -1,6 +1,5 @@
 use Rattle.std.proofs.Common.{◌≡◌, ◌≤◌, ◌*◌, ◌^◌, length, ap, subst, ◌∙◌, arith}
-use Rattle.ss_records_entities.proofs.Common.{Class, places, set_places}
-use Rattle.ss_records_words.specs.Laid.{AreLaidTo}
+use Rattle.ss_records_entities.proofs.Common.{AreLaidTo, Class, places, set_places}
 use Rattle.ss_records_entities.proofs.Made.{kept_unchanged, state_unchanged, room_for_all, kept_made, state_made}
 use Rattle.ss_records_entities.proofs.records.Records.make.Goals as goal
 

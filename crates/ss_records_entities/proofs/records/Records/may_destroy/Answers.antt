@@ -1,7 +1,6 @@
 use Rattle.std.proofs.Common.{◌≡◌, sym, ap}
 use Rattle.std.specs.Prelude.{Result as OkOr}
-use Rattle.std.proofs.lemmas.Int.{to_z-of_z}
-use Rattle.ss_records_entities.proofs.Common.{FaultKind, no_value, places, State, state, uncounted}
+use Rattle.ss_records_entities.proofs.Common.{FaultKind, no_value, places, State, state, to_z-of_z, uncounted}
 use Rattle.ss_records_entities.proofs.Destroys.{is_destroyed}
 use Rattle.ss_records_entities.proofs.Still.{kept_still, unmoved}
 use Rattle.ss_records_entities.proofs.Frees.{by_number}

@@ -1,6 +1,5 @@
 use Rattle.std.proofs.Common.{rules, ◌≡◌, ◌<◌, ℤ, w64, to_z, of_z, Ok, Some, pos, length, slice_get, sym, ap, subst, ◌∙◌, arith}
-use Rattle.std.proofs.lemmas.Int.{to_z-of_z}
-use Rattle.ss_records_entities.proofs.Common.{member_class, member_in, modes_of, Records, SetLayout, state, value_in}
+use Rattle.ss_records_entities.proofs.Common.{member_class, member_in, modes_of, Records, SetLayout, state, to_z-of_z, value_in}
 use Rattle.ss_records_entities.proofs.Owning.{kind_is}
 use Rattle.ss_records_entities.proofs.Passing.{is_number, second_is_number, its_value}
 use Rattle.ss_records_entities.proofs.Skims.{joiner_at}

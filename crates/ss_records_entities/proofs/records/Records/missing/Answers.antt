@@ -1,7 +1,6 @@
 use Rattle.std.proofs.Common.{subst}
 use Rattle.std.specs.Prelude.{Result, IsErr}
-use Rattle.std.proofs.lemmas.Int.{to_z-of_z}
-use Rattle.ss_records_entities.proofs.Common.{false_is_not_true, FaultKind, Record}
+use Rattle.ss_records_entities.proofs.Common.{false_is_not_true, FaultKind, Record, to_z-of_z}
 use Rattle.ss_records_entities.proofs.records.Records.missing.Goals as goal
 
 -- there is an entity, and there is none

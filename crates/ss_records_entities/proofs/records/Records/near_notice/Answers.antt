@@ -1,6 +1,5 @@
 use Rattle.std.proofs.Common.{sym}
-use Rattle.std.proofs.lemmas.Int.{to_z-of_z}
-use Rattle.ss_records_entities.specs.Parts.{places}
+use Rattle.ss_records_entities.proofs.Common.{places, to_z-of_z}
 use Rattle.ss_records_entities.proofs.Keeps.{there, class_number, notice_right}
 use Rattle.ss_records_entities.proofs.records.Records.near_notice.Goals as goal
 

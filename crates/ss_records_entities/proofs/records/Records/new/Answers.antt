@@ -1,9 +1,7 @@
 use Rattle.std.proofs.Common.{◌≡◌, ◌*◌, [], length, None, sym, ap, subst, ◌∙◌, arith}
-use Rattle.std.specs.Prelude.{replicate}
+use Rattle.ss_records_entities.proofs.Common.{blanks, block_words, IsSmall, IsSystemLaid, Layout, length-blanks, replicate, set_places, System, word_blank, words_new}
 use Rattle.std.proofs.lemmas.Result.{IfOk-at_ok, MatchResult-at_ok}
-use Rattle.ss_records_entities.proofs.Common.{blanks, block_words, IsSmall, IsSystemLaid, Layout, length-blanks, set_places, System, words_new}
 use Rattle.ss_world.specs.State.{first_state}
-use Rattle.ss_records_blocks.proofs.Puts.{word_blank}
 use Rattle.ss_records_entities.proofs.Living.{kept_first, none_made}
 use Rattle.ss_records_entities.proofs.records.Records.new.Goals as goal
 

@@ -1,6 +1,5 @@
 use Rattle.std.proofs.Common.{rules, ◌≡◌, ℤ, w64, to_z, of_z, Ok, sym, ap, ◌∙◌}
-use Rattle.std.proofs.lemmas.Int.{to_z-of_z}
-use Rattle.ss_records_entities.specs.Parts.{state}
+use Rattle.ss_records_entities.proofs.Common.{state, to_z-of_z}
 use Rattle.ss_records_entities.proofs.Still.{unmoved, kept_still}
 use Rattle.ss_records_entities.proofs.records.Records.next_to.Goals as goal
 

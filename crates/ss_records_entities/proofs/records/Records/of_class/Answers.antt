@@ -1,6 +1,5 @@
 use Rattle.std.proofs.Common.{sym}
-use Rattle.std.proofs.lemmas.Int.{to_z-of_z}
-use Rattle.ss_records_entities.specs.Parts.{places}
+use Rattle.ss_records_entities.proofs.Common.{places, to_z-of_z}
 use Rattle.ss_records_entities.proofs.Keeps.{class_number, class_right, class_wrong, class_none}
 use Rattle.ss_records_entities.proofs.records.Records.of_class.Goals as goal
 

@@ -1,6 +1,4 @@
-use Rattle.std.proofs.lemmas.Int.{to_z-of_z}
-use Rattle.std.proofs.lemmas.Option.{IfSome_then}
-use Rattle.ss_records_entities.specs.Parts.{state}
+use Rattle.ss_records_entities.proofs.Common.{IfSome_then, state, to_z-of_z}
 use Rattle.ss_records_entities.proofs.Onward.{not_member}
 use Rattle.ss_records_entities.proofs.records.Records.onward_apart.Goals as goal
 

@@ -1,7 +1,5 @@
 use Rattle.std.proofs.Common.{sym, ap, ◌∙◌}
-use Rattle.std.proofs.lemmas.Int.{to_z-of_z}
-use Rattle.ss_records_entities.proofs.Common.{Class, false_is_not_true, owner_in, owner_kind, SetLayout, state}
-use Rattle.ss_records_words.specs.Plans.{is_system}
+use Rattle.ss_records_entities.proofs.Common.{Class, false_is_not_true, is_system, owner_in, owner_kind, SetLayout, state, to_z-of_z}
 use Rattle.ss_records_entities.proofs.Owning.{has_number, owns_found, not_owner, of_system, system_owns, kind_is}
 use Rattle.ss_records_entities.proofs.records.Records.owner.Goals as goal
 

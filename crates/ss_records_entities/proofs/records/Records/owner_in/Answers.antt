@@ -1,6 +1,5 @@
 use Rattle.std.proofs.Common.{◌≡◌, ◌+◌, sym, ◌∙◌, arith, refl, ap}
-use Rattle.std.proofs.lemmas.Int.{ints, to_z-of_z}
-use Rattle.ss_records_entities.proofs.Common.{link, number, state, uncounted, word_at}
+use Rattle.ss_records_entities.proofs.Common.{ints, link, number, state, to_z-of_z, uncounted, word_at}
 use Rattle.ss_records_entities.proofs.Looks.{owner_leads, owner_small, owner_value}
 use Rattle.ss_records_entities.proofs.Files.{looked}
 use Rattle.ss_records_entities.proofs.Still.{kept_still, set_still, at_start, one_of_two, base_room2, one_room, two_touches, no_touch, unmoved}

@@ -1,6 +1,5 @@
 use Rattle.std.proofs.Common.{inl, ◌≡◌, ◌+◌, sym, ap, subst, ◌∙◌}
-use Rattle.std.specs.Prelude.{not, nat_eq}
-use Rattle.ss_records_entities.proofs.Common.{get_there, has_members, members_of, places, word_at}
+use Rattle.ss_records_entities.proofs.Common.{get_there, has_members, members_of, nat_eq, not, places, word_at}
 use Rattle.ss_records_words.proofs.Tied.{may_count, owns_value}
 use Rattle.ss_records_entities.proofs.records.Records.owns_in.Goals as goal
 

@@ -1,7 +1,5 @@
 use Rattle.std.proofs.Common.{rules, ◌≡◌, ℤ, w64, to_z, of_z, true, false, refl, sym, ap, subst, ◌∙◌, arith}
-use Rattle.std.proofs.lemmas.Int.{to_z-of_z}
-use Rattle.ss_records_entities.proofs.Common.{HasLink, member_class, members_of, ranks_past, Records, state, Whole, word_at}
-use Rattle.ss_records_entities.specs.Passing.{first_where}
+use Rattle.ss_records_entities.proofs.Common.{first_where, HasLink, member_class, members_of, ranks_past, Records, state, to_z-of_z, Whole, word_at}
 use Rattle.ss_records_entities.proofs.Looks.{first_leads}
 use Rattle.ss_records_entities.proofs.Cuts.{at_first}
 use Rattle.ss_records_entities.proofs.Still.{joins_still, unmoved}

@@ -1,6 +1,5 @@
 use Rattle.std.proofs.Common.{◌≡◌, arith, refl, sym, subst}
-use Rattle.std.proofs.lemmas.Int.{ints, to_z-of_z}
-use Rattle.ss_records_entities.proofs.Common.{HasLink, link, state, word_at}
+use Rattle.ss_records_entities.proofs.Common.{HasLink, ints, link, state, to_z-of_z, word_at}
 use Rattle.ss_records_entities.proofs.Looks.{none_beside}
 use Rattle.ss_records_entities.proofs.Onward.{beside_leads, beside_fits, beside_is}
 use Rattle.ss_records_entities.proofs.Still.{room_first, one_touch, no_touch}

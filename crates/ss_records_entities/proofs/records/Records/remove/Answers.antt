@@ -1,7 +1,5 @@
 use Rattle.std.proofs.Common.{◌≡◌, true, refl, sym, ap, ◌∙◌}
-use Rattle.std.proofs.lemmas.Int.{to_z-of_z}
-use Rattle.ss_records_entities.proofs.Common.{less, members_of, Records, state, uncounted, with_list_of}
-use Rattle.ss_world.specs.Sets.{taken_out}
+use Rattle.ss_records_entities.proofs.Common.{less, members_of, Records, state, taken_out, to_z-of_z, uncounted, with_list_of}
 use Rattle.ss_records_entities.proofs.Cuts.{not_out, out_done}
 use Rattle.ss_records_entities.proofs.Still.{kept_still, set_still, owns_still, joins_still, listed_still, at_first, two_refused, two_few, two_then_nine, no_touch, unmoved}
 use Rattle.ss_records_entities.proofs.records.Records.remove.Goals as goal

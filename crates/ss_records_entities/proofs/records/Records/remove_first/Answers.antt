@@ -1,6 +1,5 @@
 use Rattle.std.proofs.Common.{refl, ap, arith}
-use Rattle.std.proofs.lemmas.Int.{to_z-of_z}
-use Rattle.ss_records_entities.specs.Parts.{state}
+use Rattle.ss_records_entities.proofs.Common.{state, to_z-of_z}
 use Rattle.ss_records_entities.proofs.Ends.{drawn, first_refused}
 use Rattle.ss_records_entities.proofs.Still.{kept_still, unmoved}
 use Rattle.ss_records_entities.proofs.records.Records.remove_first.Goals as goal

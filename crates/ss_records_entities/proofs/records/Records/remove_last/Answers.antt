@@ -1,9 +1,6 @@
 use Rattle.std.proofs.Common.{arith, ◌≡◌, ◌+◌, ◌≤◌, true, refl, sym, ap, subst, ◌∙◌}
-use Rattle.ss_records_entities.proofs.Common.{less, members_of, Records, state, uncounted, with_list_of}
-use Rattle.std.specs.Int.{cast_signed}
-use Rattle.std.proofs.lemmas.Int.{ints, to_z-of_z}
+use Rattle.ss_records_entities.proofs.Common.{cast_signed, ints, last_in, less, members_of, Records, state, to_z-of_z, uncounted, with_list_of}
 use mir.Syntax.{w64}
-use Rattle.ss_world.specs.Sets.{last_in}
 use Rattle.ss_records_entities.proofs.Looks.{as_whole, last_leads, last_small, last_value}
 use Rattle.ss_records_entities.proofs.Cuts.{at_last}
 use Rattle.ss_records_entities.proofs.Still.{kept_still, set_still, owns_still, joins_still, listed_still, room_first, one_few, owner_room, reads_only}

@@ -1,6 +1,5 @@
 use Rattle.std.proofs.Common.{◌≡◌, ap, ◌∙◌, refl}
-use Rattle.std.specs.Int.{cast_signed}
-use Rattle.std.proofs.lemmas.Int.{to_z-of_z}
+use Rattle.ss_records_entities.proofs.Common.{cast_signed, to_z-of_z}
 use mir.Syntax.{w64}
 use Rattle.ss_records_entities.proofs.Attributes.{notice_may, notice_kept, notice_length, notice_timed}
 use Rattle.ss_records_entities.proofs.records.Records.set_time_apart.Goals as goal

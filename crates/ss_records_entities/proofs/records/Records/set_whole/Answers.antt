@@ -1,5 +1,4 @@
-use Rattle.std.proofs.lemmas.Int.{to_z-of_z}
-use Rattle.ss_records_entities.proofs.Common.{Integer, Whole}
+use Rattle.ss_records_entities.proofs.Common.{Integer, to_z-of_z, Whole}
 use Rattle.ss_records_entities.proofs.Attributes.{found_first, found_second, found_kept, found_length, found_assigned, found_reads}
 use Rattle.ss_records_entities.proofs.Still.{few_fields}
 use Rattle.ss_records_entities.proofs.records.Records.set_whole.Goals as goal

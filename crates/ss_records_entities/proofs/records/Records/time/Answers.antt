@@ -1,8 +1,5 @@
 use Rattle.std.proofs.Common.{◌≡◌, ℕ, inl, Ok, w64, sym, ap, subst, ◌∙◌}
-use Rattle.std.specs.Prelude.{ℤ}
-use Rattle.std.proofs.lemmas.Int.{to_z-of_z}
-use Rattle.ss_world.specs.State.{time_in}
-use Rattle.ss_records_entities.proofs.Common.{number, places, state, word_at}
+use Rattle.ss_records_entities.proofs.Common.{number, places, state, time_in, to_z-of_z, word_at, ℤ}
 use Rattle.ss_records_entities.proofs.Assigns.{time_number, is_timed, is_time}
 use Rattle.ss_records_entities.proofs.records.Records.time.Goals as goal
 

@@ -1,6 +1,5 @@
 use Rattle.std.proofs.Common.{ap, ◌∙◌}
-use Rattle.std.proofs.lemmas.Int.{to_z-of_z}
-use Rattle.ss_records_entities.proofs.Common.{and_then, joiner, owner, state}
+use Rattle.ss_records_entities.proofs.Common.{and_then, joiner, owner, state, to_z-of_z}
 use Rattle.ss_records_entities.proofs.records.Records.triple.Goals as goal
 
 pub returns-in-Err-pair : goal.returns-in-Err-pair

@@ -1,6 +1,5 @@
 use Rattle.std.proofs.Common.{rules, ◌≡◌, ℤ, w64, to_z, of_z, sym, ap, ◌∙◌, Ok}
-use Rattle.std.proofs.lemmas.Int.{to_z-of_z}
-use Rattle.ss_records_entities.proofs.Common.{Integer, Whole}
+use Rattle.ss_records_entities.proofs.Common.{Integer, to_z-of_z, Whole}
 use Rattle.ss_records_entities.proofs.Attributes.{found_first, found_value}
 use Rattle.ss_records_entities.proofs.Still.{few_fields}
 use Rattle.ss_records_entities.proofs.records.Records.whole.Goals as goal

@@ -1,6 +1,5 @@
 use Rattle.std.proofs.Common.{rules, ◌≡◌, ℤ, w64, to_z, of_z, Ok, pos, refl, sym, ap, subst, ◌∙◌}
-use Rattle.std.proofs.lemmas.Int.{to_z-of_z}
-use Rattle.ss_records_entities.proofs.Common.{Integer, member_class, Records, state, value_in, Whole}
+use Rattle.ss_records_entities.proofs.Common.{Integer, member_class, Records, state, to_z-of_z, value_in, Whole}
 use Rattle.ss_records_entities.proofs.Passing.{is_number, its_value}
 use Rattle.ss_records_entities.proofs.Skims.{joiner_at, mode_still}
 use Rattle.ss_records_entities.proofs.Still.{unmoved, kept_still, joins_still, few_fields}

@@ -1,8 +1,5 @@
 use Rattle.std.proofs.Common.{◌≡◌, ◌<◌, length, rules, sym, ap, subst, ◌∙◌}
-use Rattle.ss_base.specs.declared.layout.Layout.{Layout}
-use Rattle.ss_records_words.specs.declared.plan.Bases.{Bases}
-use Rattle.ss_records_blocks.proofs.Entries.{get_there}
-use Rattle.ss_world.specs.State.{kind_of}
+use Rattle.ss_records_words.proofs.Common.{Bases, get_there, kind_of, Layout}
 use Rattle.ss_world.specs.Sets.{member_in, member_class}
 use Rattle.ss_records_words.specs.Plans.{is_permanent_kind}
 use Rattle.ss_records_words.proofs.Planning.{set_within, bases_are}

@@ -1,7 +1,5 @@
 use Rattle.std.proofs.Common.{◌≡◌, ◌<◌, length, sym, ap, subst, ◌∙◌, arith}
-use Rattle.ss_base.specs.declared.layout.Layout.{Layout}
-use Rattle.ss_records_words.specs.declared.plan.Extent.{Extent}
-use Rattle.ss_records_words.specs.Shape.{joins, count_sets}
+use Rattle.ss_records_words.proofs.Common.{count_sets, Extent, joins, Layout}
 use Rattle.ss_records_words.proofs.Planning.{few_sets, extent_is}
 use Rattle.ss_records_words.proofs.plan.LayoutPlan.joined_count.Goals as goal
 

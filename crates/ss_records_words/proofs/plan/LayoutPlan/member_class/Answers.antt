@@ -1,7 +1,5 @@
 use Rattle.std.proofs.Common.{◌≡◌, ◌<◌, length, slice_get, Some, rules, sym, ap, subst}
-use Rattle.ss_base.specs.declared.layout.Layout.{Layout}
-use Rattle.ss_records_words.specs.declared.plan.Bases.{Bases}
-use Rattle.ss_records_blocks.proofs.Entries.{get_there}
+use Rattle.ss_records_words.proofs.Common.{Bases, get_there, Layout}
 use Rattle.ss_records_words.proofs.Planning.{set_within, bases_are, class_named}
 use Rattle.ss_records_words.proofs.plan.LayoutPlan.member_class.Goals as goal
 

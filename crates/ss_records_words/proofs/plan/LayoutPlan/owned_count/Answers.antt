@@ -1,8 +1,5 @@
 use Rattle.std.proofs.Common.{◌≡◌, ◌<◌, length, sym, ap, subst, ◌∙◌, arith}
-use Rattle.ss_base.specs.declared.layout.Layout.{Layout}
-use Rattle.ss_base.specs.declared.layout.Owner.TheVariants.{System, Class}
-use Rattle.ss_records_words.specs.declared.plan.Extent.{Extent}
-use Rattle.ss_records_words.specs.Shape.{owned_by, count_sets}
+use Rattle.ss_records_words.proofs.Common.{Class, count_sets, Extent, Layout, owned_by, System}
 use Rattle.ss_records_words.proofs.Planning.{few_sets, extent_is}
 use Rattle.ss_records_words.proofs.plan.LayoutPlan.owned_count.Goals as goal
 

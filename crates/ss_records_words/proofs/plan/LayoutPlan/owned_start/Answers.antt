@@ -1,7 +1,5 @@
 use Rattle.std.proofs.Common.{◌≡◌, ◌≤◌, ◌<◌, length, sym, ap, subst}
-use Rattle.ss_base.specs.declared.layout.Layout.{Layout}
-use Rattle.ss_base.specs.declared.layout.Owner.TheVariants.{Class}
-use Rattle.ss_records_words.specs.declared.plan.Extent.{Extent}
+use Rattle.ss_records_words.proofs.Common.{Class, Extent, Layout}
 use Rattle.ss_records_words.proofs.Planning.{owned_reach, extent_is}
 use Rattle.ss_records_words.proofs.plan.LayoutPlan.owned_start.Goals as goal
 

@@ -1,9 +1,5 @@
 use Rattle.std.proofs.Common.{◌≡◌, length, sym, ap, ◌∙◌, refl, to_z, of_z, w64, arith}
-use Rattle.std.proofs.lemmas.Int.{ints}
-use Rattle.ss_base.specs.declared.layout.Owner.TheVariants.{Class}
-use Rattle.ss_meaning.specs.Histories.{ending}
-use Rattle.ss_stats_histories.specs.Records.{Records, columns_of}
-use Rattle.ss_stats_histories.specs.Each.{ended_shown}
+use Rattle.ss_stats_histories.proofs.Common.{Class, columns_of, ended_shown, ending, ints, Records}
 use Rattle.ss_stats_histories.proofs.Columns.{whole}
 use Rattle.ss_stats_histories.proofs.Noted.{same_statistics, ended_is}
 use Rattle.ss_stats_histories.proofs.histories.Histories.end.Goals as goal

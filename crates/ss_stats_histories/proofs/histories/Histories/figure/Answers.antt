@@ -1,10 +1,5 @@
 use Rattle.std.proofs.Common.{◌≡◌, sym, ap, ◌∙◌, to_z, of_z, w64, arith}
-use Rattle.std.proofs.lemmas.Int.{ints}
-use Rattle.std.proofs.lemmas.Option.{slice_get_past}
-use Rattle.std.proofs.lemmas.Bool.{ltb-true}
-use Rattle.ss_meaning.specs.Values.{if_ok}
-use Rattle.ss_meaning.specs.Histories.{history_of_subject, folded}
-use Rattle.ss_stats_histories.specs.Records.{Records, columns_of, figured}
+use Rattle.ss_stats_histories.proofs.Common.{columns_of, figured, folded, history_of_subject, if_ok, ints, ltb-true, Records, slice_get_past}
 use Rattle.ss_stats_histories.proofs.Tables.{at_index}
 use Rattle.ss_stats_histories.proofs.Noted.{figure_there, figure_nowhere}
 use Rattle.ss_stats_histories.proofs.histories.Histories.figure.Goals as goal

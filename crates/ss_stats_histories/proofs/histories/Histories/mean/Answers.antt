@@ -1,9 +1,5 @@
 use Rattle.std.proofs.Common.{◌≡◌, sym, ap, ◌∙◌, to_z, of_z, w64, arith}
-use Rattle.std.proofs.lemmas.Int.{ints}
-use Rattle.std.proofs.lemmas.Option.{slice_get_past}
-use Rattle.std.proofs.lemmas.Bool.{ltb-true}
-use Rattle.ss_meaning.specs.Values.{sure}
-use Rattle.ss_stats_histories.specs.Records.{Records, columns_of, mean_in}
+use Rattle.ss_stats_histories.proofs.Common.{columns_of, ints, ltb-true, mean_in, Records, slice_get_past, sure}
 use Rattle.ss_stats_histories.proofs.Tables.{at_index}
 use Rattle.ss_stats_histories.proofs.Noted.{mean_there, mean_nowhere}
 use Rattle.ss_stats_histories.proofs.histories.Histories.mean.Goals as goal

@@ -1,6 +1,5 @@
 use Rattle.std.proofs.Common.{◌≡◌, length, sym, ap, ◌∙◌, to_z, of_z, w64, arith}
-use Rattle.std.proofs.lemmas.Int.{ints}
-use Rattle.ss_stats_histories.specs.Records.{Records}
+use Rattle.ss_stats_histories.proofs.Common.{ints, Records}
 use Rattle.ss_stats_histories.proofs.Columns.{whole}
 use Rattle.ss_stats_histories.proofs.Noted.{within_known, about_known, or_as_before}
 use Rattle.ss_stats_histories.proofs.histories.Histories.note.Goals as goal

@@ -1,8 +1,5 @@
 use Rattle.std.proofs.Common.{◌≡◌, ℤ, pos, ◌≤ℤ◌, subst, length, map, Ok, sym, ap, ◌∙◌, refl, to_z, of_z, w64, arith}
-use Rattle.std.proofs.lemmas.Int.{ints}
-use Rattle.ss_meaning.specs.Histories.{renewed}
-use Rattle.ss_stats_histories.specs.Records.{Records, columns_of}
-use Rattle.ss_stats_histories.specs.Each.{shown, renewed_one, changed_at}
+use Rattle.ss_stats_histories.proofs.Common.{changed_at, columns_of, ints, Records, renewed, renewed_one, shown}
 use Rattle.ss_stats_histories.proofs.Columns.{whole}
 use Rattle.ss_stats_histories.proofs.Noted.{seconds, renewed_there, renewed_nowhere, renewed_statistics}
 use Rattle.ss_stats_histories.proofs.histories.Histories.renew.Goals as goal

@@ -1,7 +1,6 @@
 use Rattle.std.proofs.Common.{◌≡◌, length, sym, ap, ◌∙◌, to_z, of_z, w64, arith}
-use Rattle.std.proofs.lemmas.Int.{ints}
+use Rattle.ss_stats_histories.proofs.Common.{ints, Records}
 use Rattle.std.proofs.lemmas.Result.{on_ok_weaker}
-use Rattle.ss_stats_histories.specs.Records.{Records}
 use Rattle.ss_stats_histories.proofs.Columns.{whole, rooms_there}
 use Rattle.ss_stats_histories.proofs.Bare.{until_bare}
 use Rattle.ss_stats_histories.proofs.Noted.{firsts, rows_same}

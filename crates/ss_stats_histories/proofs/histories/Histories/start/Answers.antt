@@ -1,8 +1,5 @@
 use Rattle.std.proofs.Common.{◌≡◌, ℤ, pos, ◌≤ℤ◌, subst, length, int_eq, sym, ap, ◌∙◌, refl, to_z, of_z, w64, arith}
-use Rattle.std.proofs.lemmas.Int.{ints}
-use Rattle.ss_meaning.specs.Histories.{starting}
-use Rattle.ss_stats_histories.specs.Records.{Records, columns_of, statistics_of, rooms_of, HasRooms}
-use Rattle.ss_stats_histories.specs.Each.{begun_shown}
+use Rattle.ss_stats_histories.proofs.Common.{begun_shown, columns_of, HasRooms, ints, Records, rooms_of, starting, statistics_of}
 use Rattle.ss_stats_histories.proofs.Columns.{whole, rooms_each}
 use Rattle.ss_stats_histories.proofs.Noted.{same_statistics, started_is}
 use Rattle.ss_stats_histories.proofs.histories.Histories.start.Goals as goal

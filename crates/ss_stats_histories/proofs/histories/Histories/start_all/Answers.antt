@@ -1,9 +1,5 @@
 use Rattle.std.proofs.Common.{◌≡◌, ℤ, pos, ◌≤ℤ◌, subst, length, sym, ap, ◌∙◌, refl, to_z, of_z, w64, arith}
-use Rattle.std.proofs.lemmas.Int.{ints}
-use Rattle.ss_base.specs.declared.layout.Owner.TheVariants.{Class}
-use Rattle.ss_meaning.specs.Histories.{starting}
-use Rattle.ss_stats_histories.specs.Records.{Records, columns_of, statistics_of, rooms_of, HasRooms, is_up_to}
-use Rattle.ss_stats_histories.specs.Each.{begun_shown}
+use Rattle.ss_stats_histories.proofs.Common.{begun_shown, Class, columns_of, HasRooms, ints, is_up_to, Records, rooms_of, starting, statistics_of}
 use Rattle.ss_stats_histories.proofs.Columns.{whole, rooms_each}
 use Rattle.ss_stats_histories.proofs.Noted.{same_statistics, started_is}
 use Rattle.ss_stats_histories.proofs.histories.Histories.start_all.Goals as goal

@@ -1,6 +1,5 @@
 use Rattle.std.proofs.Common.{rules, ◌≡◌, ℤ, pos, false, Some, cond, int_eq, ap, ◌∙◌}
-use Rattle.ss_meaning.specs.Histories.{at_start, begun_in}
-use Rattle.ss_stats_histories.specs.Records.{Recorded, column_of, found_in}
+use Rattle.ss_stats_histories.proofs.Common.{at_start, begun_in, column_of, found_in, Recorded}
 use Rattle.ss_stats_histories.proofs.Apart.{other_placed}
 use Rattle.ss_stats_histories.proofs.kept.Kept.begin.Goals as goal
 

@@ -1,8 +1,5 @@
 use Rattle.std.proofs.Common.{◌≡◌, pos, ◌≤ℤ◌, ◌+ℤ◌, int_eq, to_z, of_z, w64, ap, ◌∙◌, refl, arith}
-use Rattle.std.proofs.lemmas.Int.{ints}
-use Rattle.ss_program.specs.declared.sections.Statistic.{Statistic}
-use Rattle.ss_meaning.specs.Histories.{at_start, begun_in}
-use Rattle.ss_stats_histories.specs.Records.{column_of}
+use Rattle.ss_stats_histories.proofs.Common.{at_start, begun_in, column_of, ints, Statistic}
 use Rattle.ss_stats_histories.proofs.Columns.{begun_more, counted, none_begun}
 use Rattle.ss_stats_histories.proofs.kept.Kept.begin_all.Goals as goal
 

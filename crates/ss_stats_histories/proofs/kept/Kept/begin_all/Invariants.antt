@@ -1,6 +1,5 @@
 use Rattle.std.proofs.Common.{◌≡◌, pos, ◌≤ℤ◌, ◌+ℤ◌}
-use Rattle.ss_meaning.specs.Histories.{at_start, begun_in}
-use Rattle.ss_stats_histories.specs.Records.{column_of, is_up_to}
+use Rattle.ss_stats_histories.proofs.Common.{at_start, begun_in, column_of, is_up_to}
 use Rattle.ss_stats_histories.proofs.kept.Kept.begin_all.Given as goal
 
 abbrev pub invariant-loop-entity : goal.invariant-loop-entity

@@ -1,7 +1,5 @@
 use Rattle.std.proofs.Common.{rules, ◌≡◌, ℤ, pos, false, None, cond, int_eq, arith, to_z, of_z, w64, ap, ◌∙◌}
-use Rattle.std.proofs.lemmas.Int.{ints}
-use Rattle.ss_meaning.specs.Histories.{ended_in}
-use Rattle.ss_stats_histories.specs.Records.{Recorded, column_of, found_in}
+use Rattle.ss_stats_histories.proofs.Common.{column_of, ended_in, found_in, ints, Recorded}
 use Rattle.ss_stats_histories.proofs.Apart.{other_placed}
 use Rattle.ss_stats_histories.proofs.kept.Kept.end.Goals as goal
 

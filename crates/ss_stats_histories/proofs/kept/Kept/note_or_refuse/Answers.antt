@@ -1,7 +1,5 @@
 use Rattle.std.proofs.Common.{rules, ◌≡◌, pos, false, int_eq, arith, to_z, of_z, w64, sym, ap, ◌∙◌}
-use Rattle.std.proofs.lemmas.Int.{ints}
-use Rattle.ss_stats_histories.specs.Records.{Recorded, column_of, noted_column}
-use Rattle.ss_stats_histories.specs.Each.{refused_in}
+use Rattle.ss_stats_histories.proofs.Common.{column_of, ints, noted_column, Recorded, refused_in}
 use Rattle.ss_stats_histories.proofs.Apart.{other_there, other_noted}
 use Rattle.ss_stats_histories.proofs.kept.Kept.note_or_refuse.Goals as goal
 

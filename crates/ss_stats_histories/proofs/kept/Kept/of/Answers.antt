@@ -1,6 +1,5 @@
 use Rattle.std.proofs.Common.{rules, ◌≡◌, pos, false, int_eq, arith, to_z, of_z, w64, sym, ap, ◌∙◌}
-use Rattle.std.proofs.lemmas.Int.{ints}
-use Rattle.ss_stats_histories.specs.Records.{Recorded, column_of}
+use Rattle.ss_stats_histories.proofs.Common.{column_of, ints, Recorded}
 use Rattle.ss_stats_histories.proofs.Apart.{other_there}
 use Rattle.ss_stats_histories.proofs.kept.Kept.of.Goals as goal
 

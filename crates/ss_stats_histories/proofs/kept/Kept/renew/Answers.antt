@@ -1,6 +1,5 @@
 use Rattle.std.proofs.Common.{rules, ◌≡◌, pos, false, int_eq, arith, to_z, of_z, w64, sym, ap, ◌∙◌}
-use Rattle.std.proofs.lemmas.Int.{ints}
-use Rattle.ss_stats_histories.specs.Records.{Recorded, column_of, renewed_column}
+use Rattle.ss_stats_histories.proofs.Common.{column_of, ints, Recorded, renewed_column}
 use Rattle.ss_stats_histories.proofs.Apart.{other_there, other_renewed}
 use Rattle.ss_stats_histories.proofs.kept.Kept.renew.Goals as goal
 

@@ -1,6 +1,5 @@
 use Rattle.std.proofs.Common.{Bool, not, sym, ap, ◌∙◌, cond}
-use Rattle.ss_stats.specs.History.{History, with_noted_value, is_full}
-use Rattle.ss_stats_histories.specs.Records.{noted_value}
+use Rattle.ss_stats_histories.proofs.Common.{History, is_full, noted_value, with_noted_value}
 use Rattle.ss_stats_histories.proofs.Fullness.{refused_is_full}
 use Rattle.ss_stats_histories.proofs.watched.Watched.note.Goals as goal
 

@@ -1,7 +1,6 @@
 use Rattle.std.proofs.Common.{◌≡◌, ◌+◌, subst, arith}
 use Rattle.ss_events_entries.specs.HeapEntries.{HeapEntries}
-use Rattle.ss_events_entries.specs.HeapOrder.{IsFirstOf, IsFirstAmong}
-use Rattle.ss_world.specs.Order.{comes_before}
+use Rattle.ss_events_entries.proofs.Common.{comes_before, IsFirstAmong, IsFirstOf}
 use Rattle.ss_events_entries.proofs.EntryOrder.{entries_rank}
 use Rattle.ss_events_entries.proofs.Heaps.{pair, joined}
 use Rattle.ss_events_entries.proofs.entry.heap.EntryHeap.first_of_four.Goals as goal

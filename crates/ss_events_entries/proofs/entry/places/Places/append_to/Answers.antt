@@ -1,11 +1,5 @@
 use Rattle.std.proofs.Common.{w64, to_z, of_z, to_z-of_z, ◌≡◌, ◌≢◌, ◌+◌, ◌-◌, ◌<◌, ◌∙◌, ◌∷◌, ℕ, false, length, int_eq, refl, ap, sym, subst, arith}
-use Rattle.std.specs.List.{list_any}
-use Rattle.std.specs.List.Sorted.{IsPermutation}
-use Rattle.std.specs.Vec.{with_items}
-use Rattle.std.proofs.lemmas.List.{get_or_default}
-use Rattle.ss_events_entries.specs.declared.entry.slots.HeapNode.{HeapNode}
-use Rattle.ss_events_entries.specs.HeapEntries.{HeadsAndFollowers, notices_of}
-use Rattle.ss_events_entries.specs.Slots.{no_slot, no_node, plain_entry, slot_at, node, heads, followers, IsTaken, AreHeld}
+use Rattle.ss_events_entries.proofs.Common.{AreHeld, followers, get_or_default, heads, HeadsAndFollowers, HeapNode, IsPermutation, IsTaken, list_any, no_node, no_slot, node, notices_of, plain_entry, slot_at, with_items}
 use Rattle.ss_events_entries.proofs.Lists.{written}
 use Rattle.ss_events_entries.proofs.Seen.{notice-free}
 use Rattle.ss_events_entries.proofs.Pushed.{nowhere}

@@ -1,9 +1,5 @@
 use Rattle.std.proofs.Common.{to_z, of_z, w64, to_z-of_z, ◌≡◌, ◌≢◌, ◌<◌, ◌≤◌, ◌∙◌, false, ℕ, ℤ, List, length, Some, int_eq, position, is_some, sym, subst, ap, ⊎_elim, arith}
-use Rattle.std.specs.List.{list_any}
-use Rattle.std.proofs.lemmas.List.{get_or_default}
-use Rattle.ss_events_entries.specs.declared.entry.slots.Slot.{Slot}
-use Rattle.ss_events_entries.specs.HeapEntries.{HeadsAndFollowers, notices_of}
-use Rattle.ss_events_entries.specs.Slots.{slot_at, blank_slot, following, IsTaken}
+use Rattle.ss_events_entries.proofs.Common.{blank_slot, following, get_or_default, HeadsAndFollowers, IsTaken, list_any, notices_of, Slot, slot_at}
 use Rattle.ss_events_entries.proofs.Seen.{position_there, head_has, no_head_has, position_nowhere, notice-free}
 use Rattle.ss_events_entries.proofs.entry.places.Places.find.Goals as goal
 use Rattle.ss_events_entries.proofs.entry.places.Places.find.Goals.{After-index, After-from_residual}

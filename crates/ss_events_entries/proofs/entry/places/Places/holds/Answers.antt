@@ -1,9 +1,5 @@
 use Rattle.std.proofs.Common.{to_z, of_z, w64, to_z-of_z, ◌≡◌, ◌≢◌, ◌<◌, ◌||◌, ◌∙◌, ℕ, ℤ, List, length, int_eq, subst, ap}
-use Rattle.std.specs.List.{list_any}
-use Rattle.std.specs.Option.{MatchOption}
-use Rattle.ss_events_entries.specs.declared.entry.slots.Slot.{Slot}
-use Rattle.ss_events_entries.specs.HeapEntries.{HeadsAndFollowers, notices_of}
-use Rattle.ss_events_entries.specs.Slots.{slot_at, IsTaken}
+use Rattle.ss_events_entries.proofs.Common.{HeadsAndFollowers, IsTaken, list_any, MatchOption, notices_of, Slot, slot_at}
 use Rattle.ss_events_entries.proofs.Seen.{holds_read}
 use Rattle.ss_events_entries.proofs.entry.places.Places.holds.Goals as goal
 

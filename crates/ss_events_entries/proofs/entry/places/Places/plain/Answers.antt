@@ -1,6 +1,5 @@
 use Rattle.std.proofs.Common.{pos, get_or, subst, sym}
-use Rattle.ss_events_entries.specs.declared.entry.Entry.{Entry}
-use Rattle.ss_events_entries.specs.Slots.{IsBut}
+use Rattle.ss_events_entries.proofs.Common.{Entry, IsBut}
 use Rattle.ss_events_entries.proofs.Seen.{small_read, plain_read}
 use Rattle.ss_events_entries.proofs.entry.places.Places.plain.Goals as goal
 

@@ -1,8 +1,5 @@
 use Rattle.std.proofs.Common.{rules, to_z, of_z, w64, ℕ, ◌≡◌, ◌≢◌, ◌<◌, ◌∙◌, ◌++◌, ◌∷◌, [], length, int_eq, set, subst, ap, refl, arith}
-use Rattle.std.specs.List.{list_any}
-use Rattle.ss_events_entries.specs.declared.entry.Entry.{Entry}
-use Rattle.ss_events_entries.specs.HeapEntries.{HeadsAndFollowers, notices_of}
-use Rattle.ss_events_entries.specs.Slots.{slot_at, IsTaken, AreLed}
+use Rattle.ss_events_entries.proofs.Common.{AreLed, Entry, HeadsAndFollowers, IsTaken, list_any, notices_of, slot_at}
 use Rattle.ss_events_entries.proofs.Seen.{notice-without}
 use Rattle.ss_events_entries.proofs.Grown.{held-led, same_held, made_room, reached, HasSome}
 use Rattle.ss_events_entries.proofs.Pushed.{led_still, place_in, its_slot_in, whole_put, Pushes}

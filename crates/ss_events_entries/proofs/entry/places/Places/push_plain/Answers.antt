@@ -1,7 +1,5 @@
 use Rattle.std.proofs.Common.{to_z-of_z, to_z, of_z, w64, true, ◌≡◌, ◌<◌, ◌∙◌, ◌++◌, ◌∷◌, [], int_eq, set, sym, arith}
-use Rattle.std.specs.List.{list_any}
-use Rattle.ss_events_entries.specs.HeapEntries.{notices_of}
-use Rattle.ss_events_entries.specs.Slots.{plain_entry}
+use Rattle.ss_events_entries.proofs.Common.{list_any, notices_of, plain_entry}
 use Rattle.ss_events_entries.proofs.Seen.{notice-free}
 use Rattle.ss_events_entries.proofs.Pushed.{nowhere, plain_put, Pushes}
 use Rattle.ss_events_entries.proofs.entry.places.Places.push_plain.Goals as goal

@@ -1,11 +1,7 @@
 use Rattle.std.proofs.Common.{rules, to_z, of_z, w64, ◌≡◌, ◌≢◌, ◌+◌, ◌-◌, ◌<◌, ◌∙◌, cond, length, swap, set, subst, sym, ap, arith}
-use Rattle.std.proofs.lemmas.List.Edits.{length-swap}
+use Rattle.ss_events_entries.proofs.Common.{at_put, exchanged, HeapNode, IsGuess, length-swap, no_entry, no_slot, node, not_plain, Slot, slot_at, with_items}
 use Rattle.std.specs.Prelude.{◌==◌}
-use Rattle.std.specs.Vec.{with_items}
-use Rattle.ss_events_entries.specs.declared.entry.slots.Slot.{Slot}
-use Rattle.ss_events_entries.specs.declared.entry.slots.HeapNode.{HeapNode}
 use Rattle.ss_events_entries.specs.HeapEntries.{HeadsAndFollowers, HasRemovedEntry}
-use Rattle.ss_events_entries.specs.Slots.{slot_at, node, no_entry, no_slot, not_plain, at_put, exchanged, IsGuess}
 use Rattle.ss_events_entries.proofs.Lists.{written}
 use Rattle.ss_events_entries.proofs.HeadsAndFollowers.{long_heads}
 use Rattle.ss_events_entries.proofs.Swapped.{length-exchanged}

@@ -1,10 +1,5 @@
 use Rattle.std.proofs.Common.{to_z, of_z, to_z-of_z, w64, ◌+◌, ◌-◌, ◌≡◌, ◌<◌, ◌≤◌, ◌∙◌, sym, ap, subst, inr, ◌∷◌, int_eq, length, arith}
-use Rattle.std.specs.List.{list_any}
-use Rattle.std.specs.List.Sorted.{IsPermutation}
-use Rattle.std.specs.Vec.{with_items}
-use Rattle.ss_events_entries.specs.declared.entry.slots.Slot.{Slot}
-use Rattle.ss_events_entries.specs.HeapEntries.{HeadsAndFollowers, notices_of}
-use Rattle.ss_events_entries.specs.Slots.{slot_at, following, at_put, heads, followers, IsTaken, AreHeld}
+use Rattle.ss_events_entries.proofs.Common.{AreHeld, at_put, followers, following, heads, HeadsAndFollowers, IsPermutation, IsTaken, list_any, notices_of, Slot, slot_at, with_items}
 use Rattle.ss_events_entries.proofs.Lists.{written}
 use Rattle.ss_events_entries.proofs.HeadsAndFollowers.{follower}
 use Rattle.ss_events_entries.proofs.Released.{room_of_follower, freed, freed-long}

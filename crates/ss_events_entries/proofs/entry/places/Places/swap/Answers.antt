@@ -1,8 +1,5 @@
 use Rattle.std.proofs.Common.{◌≡◌, ◌<◌, ◌∙◌, length, swap, subst, sym, ap, arith}
-use Rattle.std.proofs.lemmas.List.Edits.{length-swap}
-use Rattle.std.specs.Vec.{with_items}
-use Rattle.ss_events_entries.specs.Slots.{heads, followers, exchanged, AreHeld}
-use Rattle.ss_events_entries.specs.HeapEntries.{HeadsAndFollowers}
+use Rattle.ss_events_entries.proofs.Common.{AreHeld, exchanged, followers, heads, HeadsAndFollowers, length-swap, with_items}
 use Rattle.ss_events_entries.proofs.Lists.{written}
 use Rattle.ss_events_entries.proofs.HeadsAndFollowers.{long_heads}
 use Rattle.ss_events_entries.proofs.Swapped.{length-exchanged, held-swapped, heads-swapped, followers-swapped}
