@@ -1,17 +1,16 @@
 -- Whole preambles: what is read is spelled, and what is spelled is read.
 use Rattle.std.proofs.Common.{◌≡◌, ℕ, zero, suc, ◌<◌, ◌≤◌, true, false, ◌||◌, List, [], ◌∷◌, ◌++◌, length, map, Option, None, Result, Ok, Err, refl, sym, ap, subst, ◌∙◌, arith, inl, inr, ◌⊎◌}
 use Rattle.std.proofs.lemmas.List.{append-nil, map_push}
-use Rattle.ss_parse.proofs.Common.{by_word_reads, ClassKind, closed_reads, continues_never, expect_reads, first_less, Form, item_marked, Line, maybe_list_reads, openers, ParseFailure, ParseFault, plain_form, PreambleTree, Reads, Span, Token, token, Word}
+use Rattle.ss_parse.proofs.Common.{by_word_reads, ClassKind, closed_reads, continues_never, expect_reads, first_less, Form, item_marked, Line, maybe_list_reads, openers, ParseFailure, ParseFault, plain_form, PreambleTree, Reads, Token, Word}
 use Rattle.ss_lex.specs.declared.word.Word.TheVariants as words
-use Rattle.ss_lex.specs.declared.token.TokenKind.TheVariants as kinds
 use Rattle.ss_tree.specs.declared.preamble.PreambleStatement.{PreambleStatement}
 use Rattle.ss_parse_expressions.specs.declared.failure.ParseFailure.TheVariants as failures
-use Rattle.ss_parse_expressions.specs.Shapes.{Shape, ◌▷◌, Word_is, first_token_line}
+use Rattle.ss_parse_expressions.specs.Shapes.{Shape, ◌▷◌, Word_is}
 use Rattle.ss_parse_expressions.specs.Reading.{◌>>=◌, HasFailedReading, word, begins}
 use Rattle.ss_parse_expressions.proofs.Tools.{bind_ok, which, chosen, carry, or_false, ok_or_err}
 use Rattle.ss_parse_expressions.proofs.Depth.{upto_same, Bounded, bounded_bind, bounded_if}
 use Rattle.ss_parse_expressions.proofs.Rows.{with_front, with_front_more}
-use Rattle.ss_parse.specs.SpelledPreambles.{preamble_first, Preamble_from, group_after, Preambles_are, Whole_preamble}
+use Rattle.ss_parse.specs.SpelledPreambles.{preamble_line, preamble_first, Preamble_rest, Preamble_from, group_after, Preambles_are, Whole_preamble}
 use Rattle.ss_parse.specs.ReadPreambles.{preamble_at, preamble_word, begins_preamble, preamble_in, preamble_row, preambles, whole_preamble}
 use Rattle.ss_parse.proofs.Orders.{preamble_more, continues_preamble}
 use Rattle.ss_parse.proofs.Forms.{preamble_known, Pre_is, word_law}
@@ -22,17 +21,11 @@ module _ (k : ℕ) where
   form_law : (group : Option ClassKind) (line : Line) (w : Word) → Form k w (preamble_at group line w) (preamble_at group line w) (Pre_is group line w) continues_preamble
   form_law group line w = plain_form w (word_law k group line w)
 
-  form_to : (group : Option ClassKind) (x : PreambleTree) (w : Word) (span : Span) (line : Line) (ts rest : List Token) → Pre_is group line w x ts rest → Preamble_from group x (token (kinds.Word w) span line ∷ ts) rest
-  form_to group x w span line ts rest (at, is, s) = (sym at, (ts, subst (λ (v : Word). Word_is v (token (kinds.Word w) span line ∷ ts) ts) (sym is) (span, line, refl), s))
-
-  form_from : (group : Option ClassKind) (x : PreambleTree) (ts rest : List Token) → Preamble_from group x ts rest → (w : Word) × (r : List Token) × (Word_is w ts r) × Pre_is group (first_token_line ts) w x r rest
-  form_from group x ts rest (at, (r, w, s)) = (preamble_first x, r, w, (sym at, refl, s))
-
   preamble_reads : (group : Option ClassKind) → Reads k (preamble_in group) (preamble_in group) (Preamble_from group) continues_preamble
-  preamble_reads group = by_word_reads (form_law group) (Preamble_from group) (form_to group) (form_from group)
+  preamble_reads group = by_word_reads preamble_line preamble_first (Preamble_rest group) (form_law group)
 
   preamble_less : (group : Option ClassKind) (ts : List Token) (x : PreambleTree) (rest : List Token) → Preamble_from group x ts rest → length rest < length ts
-  preamble_less group ts x rest s = first_less (form_law group) (Preamble_from group) (form_to group) (form_from group) ts x rest s
+  preamble_less group ts x rest s = first_less preamble_line preamble_first (Preamble_rest group) (form_law group) ts x rest s
 
   preamble_begins : (group : Option ClassKind) (ts : List Token) (x : PreambleTree) (rest : List Token) → Preamble_from group x ts rest → begins_preamble ts ≡ true
   preamble_begins group ts x rest (at, (m, (span, line, e), s)) = ap begins_preamble e ∙ preamble_known x
