@@ -15,8 +15,7 @@ use Rattle.ss_parse_statements.specs.SpelledStatements.{line_of_first_word, open
 use Rattle.ss_parse_statements.specs.ReadSimple.{simple_at}
 use Rattle.ss_parse_statements.specs.ReadStatements.{by_word, begins_form, begins_statement, nested_word, nested_in, form_in, statement_in, statements_in}
 use Rattle.ss_parse_statements.proofs.FirstWords.{Form, plain_form, opening_form, by_word_reads, first_less}
-use Rattle.ss_parse_statements.proofs.StatementParts.{continues_simple}
-use Rattle.ss_parse_statements.proofs.SimpleLaws.{is_nested, nested_first, Form_is, no_form, let_reads, add_reads, subtract_reads, call_reads, return_reads, stop_reads, read_reads, start_reads, create_reads, destroy_reads, cancel_reads, file_reads, remove_reads, schedule_reads, reset_reads, print_reads, skip_reads}
+use Rattle.ss_parse_statements.proofs.SimpleLaws.{is_nested, nested_first, Form_is, simple_law}
 use Rattle.ss_parse_statements.proofs.Beginnings.{form_begins, form_no_comma, no_simple, continues_statement, statement_stops}
 use Rattle.ss_parse_statements.proofs.NestedStatements.{nested_law}
 
@@ -39,31 +38,6 @@ nested_opens _ e = absurd cc
 
 abbrev pub In_statement : ℕ → StatementTree → Shape
 In_statement room x = nested_shape (λ l. Statement_from x l) room
-
-simple_law : (n m : ℕ) → n ≤ m → (line : Line) (w : Word) → nested_word w ≡ false → Reads (suc n) (simple_at line (suc n) w) (simple_at line (suc m) w) (Form_is n line w) continues_simple
-unfolding simple_at
-simple_law n m le line words.Let e = let_reads n m le line
-simple_law n m le line words.Add e = add_reads n m le line
-simple_law n m le line words.Subtract e = subtract_reads n m le line
-simple_law n m le line words.Call e = call_reads n m le line
-simple_law n m le line words.Return e = return_reads n m le line
-simple_law n m le line words.Stop e = stop_reads n m le line
-simple_law n m le line words.Read e = read_reads n m le line
-simple_law n m le line words.Start e = start_reads n m le line
-simple_law n m le line words.Create e = create_reads n m le line
-simple_law n m le line words.Destroy e = destroy_reads n m le line
-simple_law n m le line words.File e = file_reads n m le line
-simple_law n m le line words.Remove e = remove_reads n m le line
-simple_law n m le line words.Schedule e = schedule_reads n m le line
-simple_law n m le line words.Cancel e = cancel_reads n m le line
-simple_law n m le line words.Reset e = reset_reads n m le line
-simple_law n m le line words.Print e = print_reads n m le line
-simple_law n m le line words.Skip e = skip_reads n m le line
-simple_law n m le line words.If e = absurd cc
-simple_law n m le line words.For e = absurd cc
-simple_law n m le line words.While e = absurd cc
-simple_law n m le line words.Until e = absurd cc
-simple_law n m le line _ e = no_form (suc n) n line _ refl
 
 module _ (n m : ℕ) (le : n ≤ m) (nested : (line : Line) (w : Word) → nested_word w ≡ true → Reads n (nested_in n (statement_in n) line w) (nested_in m (statement_in m) line w) (Form_is n line w) continues_statement) where
   form_by : (b : Bool) (line : Line) (w : Word) → nested_word w ≡ b → Form (suc n) w (choose_reader (λ ts. b) (nested_in n (statement_in n) line w) (simple_at line (suc n) w)) (choose_reader (λ ts. b) (nested_in m (statement_in m) line w) (simple_at line (suc m) w)) (Form_is n line w) continues_statement
