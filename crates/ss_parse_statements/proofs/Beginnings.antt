@@ -189,9 +189,6 @@ guard_same guards.Until guards.Until e = refl
 guard_same guards.While guards.Until e = absurd cc
 guard_same guards.Until guards.While e = absurd cc
 
-pub no_guard_word : (v w : Word) → is_some (guard_of v) ≡ false → v ≡ w → is_some (guard_of w) ≡ true → ⊥
-no_guard_word v w none e there = let same : is_some (guard_of v) ≡ is_some (guard_of w) = ap (λ w. is_some (guard_of w)) e in absurd cc
-
 -- a statement that a loop governs begins no phrase
 pub no_phrase : (w : Word) → form_word w ≡ true → is_some (guard_of w) ≡ false → is_some (phrase_of w) ≡ false
 no_phrase words.While e u = absurd cc
