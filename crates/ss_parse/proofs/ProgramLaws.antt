@@ -1,13 +1,13 @@
 -- Programs: what is read is spelled, and what is spelled is read.
-use Rattle.std.proofs.Common.{◌≡◌, ℕ, zero, suc, ◌≤◌, Bool, true, false, ◌||◌, List, [], ◌∷◌, Some, refl, sym, ap, subst, ◌∙◌, arith}
-use Rattle.ss_parse.proofs.Common.{by_word_reads, done_reads, fail_reads, first_less, Form, Line, mode_of_word, ModeWord, name_reads, names_reads, no_word, optional_class_reads, or_false, perhaps_listed_reads, plain_form, Span, Token, Word, word_in_reads}
+use Rattle.std.proofs.Common.{◌≡◌, ℕ, zero, suc, ◌≤◌, Bool, true, false, ◌||◌, List, [], ◌∷◌, refl, sym, ap, subst, ◌∙◌, arith}
+use Rattle.ss_parse.proofs.Common.{by_word_reads, done_reads, fail_reads, first_less, Form, Line, mode_of_word, name_reads, names_reads, no_word, optional_class_reads, or_false, perhaps_listed_reads, plain_form, Span, Token, Word, word_in_reads}
 use Rattle.ss_lex.specs.declared.word.Word.TheVariants as words
 use Rattle.ss_lex.specs.declared.token.Symbol.TheVariants.{Comma}
 use Rattle.ss_lex.specs.declared.token.TokenKind.TheVariants as kinds
 use Rattle.ss_tree.specs.Tree.{StatementTree, DefinitionTree, SectionKindTree, main, routine, event, SectionTree}
 use Rattle.ss_parse_expressions.specs.declared.classes.WordClass.TheVariants as classes
 use Rattle.ss_parse_expressions.specs.Shapes.{Shape, ◌▷◌, nothing, optional, provided, noise, Word_is, Name_is, at, each_in_turn, flagged}
-use Rattle.ss_parse_expressions.specs.Words.{has_word, One_of, perhaps_listed}
+use Rattle.ss_parse_expressions.specs.Words.{One_of, perhaps_listed}
 use Rattle.ss_parse_expressions.specs.Reading.{word, is, begins, expect, after_dropped, maybe_list, rows, begins_more}
 use Rattle.ss_parse_expressions.specs.ReadWords.{fail, begins_class, begins_among, begins_name, names}
 use Rattle.ss_parse_expressions.proofs.Marks.{token, mark_begins, token_less}
@@ -16,6 +16,7 @@ use Rattle.ss_parse_expressions.proofs.Rows.{rows_reads, Loop, loop_of}
 use Rattle.ss_parse.specs.SpelledPreambles.{Variables_are}
 use Rattle.ss_parse.specs.SpelledPrograms.{section_word, Saving_words, Kind_rest, Definition_is, Section_is, Program_is}
 use Rattle.ss_parse_statements.specs.ReadStatements.{form_word}
+use Rattle.ss_parse.proofs.Forms.{mode_no_article}
 use Rattle.ss_parse.proofs.WholePreambles.{whole_preamble_reads}
 use Rattle.ss_parse.specs.ReadPrograms.{section_words, begins_section, saving, routine_kind, event_kind, kind_after, variables, definition_tree, definition_at, definition, definitions, body_in, section_tree, section_at, section_in, program_tree, program_in}
 use Rattle.ss_parse_statements.proofs.Beginnings.{false_past_comma}
@@ -50,12 +51,6 @@ kind_names w held ts stop =
     let a : begins (word w) ts ≡ false = kind_word w held ts stop in
     let b : begins_more begins_name ts ≡ false = (or_false (begins_among kind_more ts) (begins_more begins_name ts) stop).1 in
     rw (a, b) refl
-
-mode_no_article : (w : Word) (mode : ModeWord) → mode_of_word w ≡ Some mode → has_word classes.Article w ≡ false
-mode_no_article words.Integer mode e = refl
-mode_no_article words.Alpha mode e = refl
-mode_no_article words.Real mode e = refl
-mode_no_article _ mode e = absurd cc
 
 module _ (k : ℕ) where
   names_after : (w : Word) → Reads k (maybe_list (begins (word w)) (after_dropped (expect (word w)) names)) (maybe_list (begins (word w)) (after_dropped (expect (word w)) names)) (perhaps_listed (Word_is w) Name_is) (continues_listed w)
@@ -98,20 +93,17 @@ module _ (k : ℕ) where
     where
       from : (x : SectionKindTree) (ts rest : List Token) → Kind_is words.Main x ts rest → provided (main ≡ x) nothing ts rest
       from main ts rest (u, s) = (refl, s)
-      from (routine name given yielding) ts rest (u, s) = absurd cc
-      from (event name given saving) ts rest (u, s) = absurd cc
+      from _ ts rest (u, s) = absurd cc
   kind_reads words.Routine = reshaped_reads routine_reads (Kind_is words.Routine) (λ x ts rest s. subst (λ x. Kind_is words.Routine x ts rest) s.1 (refl, s.2)) from
     where
       from : (x : SectionKindTree) (ts rest : List Token) → Kind_is words.Routine x ts rest → Made (λ p. routine p.0 p.1.0 p.1.1) Routine_parts x ts rest
-      from main ts rest (u, s) = absurd cc
       from (routine name given yielding) ts rest (u, s) = ((name, (given, yielding)), refl, s)
-      from (event name given saving) ts rest (u, s) = absurd cc
+      from _ ts rest (u, s) = absurd cc
   kind_reads words.Event = reshaped_reads event_reads (Kind_is words.Event) (λ x ts rest s. subst (λ x. Kind_is words.Event x ts rest) s.1 (refl, s.2)) from
     where
       from : (x : SectionKindTree) (ts rest : List Token) → Kind_is words.Event x ts rest → Made (λ p. event p.0 p.1.0 p.1.1) Event_parts x ts rest
-      from main ts rest (u, s) = absurd cc
-      from (routine name given yielding) ts rest (u, s) = absurd cc
       from (event name given saving) ts rest (u, s) = ((name, (given, saving)), refl, s)
+      from _ ts rest (u, s) = absurd cc
   kind_reads _ = no_kind _ refl
 
   -- ---- definitions
