@@ -7,7 +7,7 @@ use Rattle.ss_parse_expressions.specs.Shapes.{Shape, ◌▷◌, Token_is, Symbol
 use Rattle.ss_parse_expressions.specs.ReadExpressions.{star, sign_of_token, begins_sign, begins_sum, sum_of_terms, product_of, factor_with, further_factors_with, term_with, signed_term_with, first_term_with, further_terms_with, sum_with, sum_in}
 use Rattle.ss_parse_expressions.proofs.Tools.{or_false}
 use Rattle.ss_parse_expressions.proofs.Marks.{token_less, In_table}
-use Rattle.ss_parse_expressions.proofs.ReaderLaws.{Reads, Item, continues_never, item_of, item_skipped, taken_reads, seq_reads, apply_reads, choose_reads, too_deep_reads}
+use Rattle.ss_parse_expressions.proofs.ReaderLaws.{Reads, Item, continues_never, item_of, item_skipped, taken_reads, seq_reads, apply_reads, too_deep_reads, either_reads, reshaped_reads}
 use Rattle.ss_parse_expressions.proofs.Rows.{rows_reads, each_first, Loop, loop_of, separated_item}
 use Rattle.ss_parse_expressions.proofs.Beginnings.{In, in_begins, sum_no_and, term_cases, first_cases, sum_cases, sign_begins, term_begins, continues_factor, continues_term, continues_sum}
 use Rattle.ss_parse_expressions.proofs.Factors.{factor_reads, factor_less}
@@ -162,13 +162,9 @@ module _ (n m : ℕ) (inner : Reads n (sum_in n) (sum_in m) (In n) continues_sum
   pub first_term_reads : Reads (suc n) (first_term_with (sum_in n)) (first_term_with (sum_in m)) (λ e. Spelled e first_place n) (λ ts. continues_term ts || continues_term ts)
   unfolding first_term_with
   first_term_reads =
-      choose_reads signed_item term_reads
-      (λ x ts rest s. subst (λ (e : ExpressionTree). Spelled e first_place n ts rest) s.1 (tt, s.2))
-      as_first
-      (λ x ts rest s. elim (first_cases x n ts rest s) [
-        | inl p ↦ inl ((p.0, p.1), sym p.2, p.3)
-        | inr t ↦ inr ((term_begins x n ts rest t).1, t)
-      ])
+      reshaped_reads (either_reads signed_item term_reads (λ ts. continues_term ts || continues_term ts) (λ ts stop. or_false (continues_term ts) (continues_term ts) stop) (λ x ts rest t stop. (term_begins x n ts rest t).1)) (λ e. Spelled e first_place n)
+      (λ x ts rest s. elim s [ inl p ↦ subst (λ (e : ExpressionTree). Spelled e first_place n ts rest) p.1 (tt, p.2) | inr t ↦ as_first x ts rest t ])
+      (λ x ts rest s. elim (first_cases x n ts rest s) [ inl p ↦ inl ((p.0, p.1), sym p.2, p.3) | inr t ↦ inr t ])
 
   terms_reads : Reads (suc n) (seq (first_term_with (sum_in n)) (further_terms_with (sum_in n))) (seq (first_term_with (sum_in m)) (further_terms_with (sum_in m))) (λ p. Spelled p.0 first_place n ▷ each_in_turn (Term_is n) p.1) continues_sum
   terms_reads =

@@ -1,17 +1,17 @@
 -- Words of a class, names and lists of names: what is read is spelled, and what is spelled is read.
 use Rattle.std.proofs.Common.{◌≡◌, ℕ, suc, ◌<◌, ◌≤◌, Bool, true, false, ◌||◌, List, [], ◌∷◌, length, Option, Some, Ok, refl, sym, ap, subst, ◌∙◌, arith, inl, inr, ◌⊎◌}
-use Rattle.ss_parse_expressions.proofs.Common.{after_dropped, apply, begins, begins_more, choose_reader, comma, expect, in_table, is, kind_of_mark, Line, Mark, maybe_list, name_in_token, openers, Reader, skip, skip_separator, Span, taken, Token, TokenKind, Word, word}
+use Rattle.ss_parse_expressions.proofs.Common.{after_dropped, apply, begins, begins_more, comma, expect, in_table, is, kind_of_mark, Line, Mark, maybe_list, name_in_token, openers, Reader, skip, skip_separator, Span, taken, Token, TokenKind, Word, word}
 use Rattle.ss_lex.specs.declared.word.Word.TheVariants as words
 use Rattle.ss_lex.specs.declared.token.TokenKind.TheVariants as kinds
 use Rattle.ss_parse_expressions.specs.declared.classes.WordClass.{WordClass}
 use Rattle.ss_parse_expressions.specs.declared.classes.WordClass.TheVariants as classes
-use Rattle.ss_parse_expressions.specs.Shapes.{Shape, ◌▷◌, nothing, never, either_shape, optional, provided, noise, Token_is, Name_is, Word_for, separated_list, flagged}
+use Rattle.ss_parse_expressions.specs.Shapes.{Shape, ◌▷◌, never, optional, noise, Token_is, Name_is, Word_for, separated_list, flagged}
 use Rattle.ss_parse_expressions.specs.Words.{has_word, One_of, Item_is, perhaps_listed}
-use Rattle.ss_parse_expressions.specs.ReadWords.{in_class, begins_class, skip_class, expect_class, if_present, done, fail, begins_noisy, expect_noisy, begins_name, names, begins_item, articled_name, items, among, begins_among}
+use Rattle.ss_parse_expressions.specs.ReadWords.{in_class, begins_class, skip_class, expect_class, if_present, fail, begins_noisy, expect_noisy, begins_name, names, begins_item, articled_name, items, among, begins_among}
 use Rattle.ss_parse_expressions.proofs.Tools.{which, chosen, carry}
 use Rattle.ss_parse_expressions.proofs.Marks.{token, Mark_is, is_true, token_of, mark_begins, mark_skips, begins_mark, no_skip, token_less, skip_openers, In_table, begins_table}
-use Rattle.ss_parse_expressions.proofs.Depth.{upto_same, upto_if, Bounded, bounded_more, bounded_if}
-use Rattle.ss_parse_expressions.proofs.ReaderLaws.{Reads, Item, continues_never, Made, item_of, made_reads, marked_reads, expect_reads, taken_reads, reshaped_reads, optional_reads, maybe_list_reads}
+use Rattle.ss_parse_expressions.proofs.Depth.{upto_same, Bounded}
+use Rattle.ss_parse_expressions.proofs.ReaderLaws.{Reads, Item, continues_never, Made, item_of, made_reads, marked_reads, expect_reads, taken_reads, reshaped_reads, skipped_reads, optional_reads, maybe_list_reads}
 use Rattle.ss_parse_expressions.proofs.Rows.{list_reads, Loop, loop_of, separated_item}
 
 -- ---- words of a table
@@ -81,40 +81,10 @@ expect_class_reads k c = record {
     opening (t ∷ ts) = elim (which (in_class c t.kind)) [ inl p ↦ rw p (omega arith) | inr p ↦ rw p tt ]
 
 -- a word of the class that may be left out
-module _ {A : Type 0} {k : ℕ} {q q' : Reader A} {S : A → Shape} {d : List Token → Bool} (law : Reads k q q' S d) (c : WordClass) where
-  pub optional_class_reads : ((x : A) (ts rest : List Token) → S x ts rest → begins_class c ts ≡ false) → Reads k (λ ts. q (skip_class c ts)) (λ ts. q' (skip_class c ts)) (λ x. optional (One_of c) ▷ S x) d
-  optional_class_reads first = record {
-    sound = λ ts x rest e. (skip_class c ts, front ts, law.sound (skip_class c ts) x rest e);
-    complete = λ ts x rest s stop. ap q (skips x ts rest s) ∙ law.complete s.0 x rest s.2 stop;
-    shorter = λ ts x rest s. omega (arith, less ts s.0 s.1, law.shorter s.0 x rest s.2);
-    under = λ ts. law.under (skip_class c ts);
-    opening = λ ts. bounded_more k (openers (skip_class c ts)) (openers ts) (q (skip_class c ts)) (skip_class_openers c ts) (law.opening (skip_class c ts));
-  }
-    where
-      front : (ts : List Token) → optional (One_of c) ts (skip_class c ts)
-      front ts = elim (which (begins_class c ts)) [ inl p ↦ inr (begins_one c ts p) | inr p ↦ inl (sym (no_skip_class c ts p)) ]
+pub optional_class_reads : {A : Type 0} {k : ℕ} {q q' : Reader A} {S : A → Shape} {d : List Token → Bool} → Reads k q q' S d → (c : WordClass) → ((x : A) (ts rest : List Token) → S x ts rest → begins_class c ts ≡ false) → Reads k (λ ts. q (skip_class c ts)) (λ ts. q' (skip_class c ts)) (λ x. optional (One_of c) ▷ S x) d
+optional_class_reads law c = skipped_reads law (begins_class c) (skip_class c) (One_of c) (begins_one c) (no_skip_class c) (one_skips c) (one_less c) (skip_class_openers c)
 
-      skips_to : (ts a : List Token) → optional (One_of c) ts a → begins_class c a ≡ false → skip_class c ts ≡ a
-      skips_to ts a (inl e) none_there = ap (skip_class c) e ∙ no_skip_class c a none_there
-      skips_to ts a (inr w) none_there = one_skips c ts a w
-
-      skips : (x : A) (ts rest : List Token) (s : (optional (One_of c) ▷ S x) ts rest) → skip_class c ts ≡ s.0
-      skips x ts rest s = skips_to ts s.0 s.1 (first x s.0 rest s.2)
-
-      less : (ts a : List Token) → optional (One_of c) ts a → length a ≤ length ts
-      less ts a (inl e) = omega (arith, ap length e)
-      less ts a (inr w) = omega (arith, one_less c ts a w)
-
--- ---- readers that read nothing, that always fail, and that look for a mark
-
-pub done_reads : {A : Type 0} (k : ℕ) (x : A) → Reads k (done x) (done x) (λ y. provided (x ≡ y) nothing) continues_never
-done_reads {A = A} k x = record {
-  sound = λ ts y rest e. carry (λ (y : A) (r : List Token). (x ≡ y) × (ts ≡ r)) x y ts rest e (refl, refl);
-  complete = λ ts y rest s stop. λ i. Ok (s.0 i, s.1 i);
-  shorter = λ ts y rest s. omega (arith, ap length s.1);
-  under = λ ts. upto_same _;
-  opening = λ ts. omega arith;
-}
+-- ---- readers that always fail, and that look for a mark
 
 pub fail_reads : {A : Type 0} (k : ℕ) → Reads k (fail {A = A}) (fail {A = A}) (λ x. never) continues_never
 fail_reads k = record {
@@ -269,31 +239,6 @@ no_class p c held (t ∷ ts) e =
           absurd (let holds : among p t.kind ≡ true = ap (among p) w.2 ∙ held w.0 w.1 in cc)
       | inr none ↦ none
     ]
-
--- ---- one of two readers, the second of which may read nothing
-
--- The second doesn't start as the first does, where the tokens after it can't continue it.
-module _ {A : Type 0} {k : ℕ} {starts : List Token → Bool} {r r' q q' : Reader A} {S T : A → Shape} {c d : List Token → Bool} (first : Item k starts r r' S c) (second : Reads k q q' T d) (e : List Token → Bool) (fewer : (ts : List Token) → e ts ≡ false → (c ts ≡ false) × (d ts ≡ false)) (late : (x : A) (ts rest : List Token) → T x ts rest → e rest ≡ false → starts ts ≡ false) where
-  pub either_reads : Reads k (choose_reader starts r q) (choose_reader starts r' q') (λ x. either_shape (S x) (T x)) e
-  either_reads = record {
-    sound = λ ts x rest is.
-        elim (chosen (starts ts) _ _ _ is) [
-          | inl p ↦ inl (first.sound ts x rest p.0 p.1)
-          | inr p ↦ inr (second.sound ts x rest p.1)
-        ];
-    complete = λ ts x rest u stop.
-        elim u [
-          | inl s ↦
-              let there : starts ts ≡ true = first.begins ts x rest s in
-              rw there (first.complete ts x rest s (fewer rest stop).0)
-          | inr t ↦
-              let none : starts ts ≡ false = late x ts rest t stop in
-              rw none (second.complete ts x rest t (fewer rest stop).1)
-        ];
-    shorter = λ ts x rest u. elim u [ inl s ↦ omega (arith, first.less ts x rest s) | inr t ↦ second.shorter ts x rest t ];
-    under = λ ts. upto_if (starts ts) _ _ _ _ (first.under ts) (second.under ts);
-    opening = λ ts. bounded_if k (openers ts) (starts ts) _ _ (first.opening ts) (second.opening ts);
-  }
 
 -- an item that is made of what begins with a mark
 pub item_made : {A B : Type 0} {k : ℕ} {q q' : Reader A} {S : A → Shape} {d : List Token → Bool} (m : Mark) (law : Reads k q q' S d) (f : A → B) → Item k (begins m) (apply f (after_dropped (expect m) q)) (apply f (after_dropped (expect m) q')) (Made f (λ x. Mark_is m ▷ S x)) d

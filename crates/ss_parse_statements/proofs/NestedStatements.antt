@@ -20,9 +20,9 @@ use Rattle.ss_parse_expressions.specs.ReadHeads.{begins_guard, guard_tree}
 use Rattle.ss_parse_expressions.proofs.Tools.{chosen, or_false}
 use Rattle.ss_parse_expressions.proofs.Marks.{token, mark_skips}
 use Rattle.ss_parse_expressions.proofs.Depth.{upto_if, upto_same, bounded_if}
-use Rattle.ss_parse_expressions.proofs.ReaderLaws.{Reads, Item, continues_never, Made, item_of, seq_reads, following_reads, marked_reads, closed_reads, expect_reads, bind_reads, apply_reads, made_reads, reshaped_reads, fewer_reads, optional_reads, maybe_list_reads, noisy_item}
+use Rattle.ss_parse_expressions.proofs.ReaderLaws.{Reads, Item, continues_never, Made, item_of, seq_reads, following_reads, marked_reads, closed_reads, expect_reads, bind_reads, apply_reads, made_reads, reshaped_reads, fewer_reads, optional_reads, maybe_list_reads, noisy_item, done_reads, either_reads}
 use Rattle.ss_parse_expressions.proofs.Rows.{rows_reads}
-use Rattle.ss_parse_expressions.proofs.WordLaws.{word_in_reads, done_reads, noisy_mark_reads, noisy_begins, noisy_less, noisy_stops, either_reads}
+use Rattle.ss_parse_expressions.proofs.WordLaws.{word_in_reads, noisy_mark_reads, noisy_begins, noisy_less, noisy_stops}
 use Rattle.ss_parse_expressions.proofs.ConditionLaws.{In_condition, continues_condition, condition_in_reads}
 use Rattle.ss_parse_expressions.proofs.HeadLaws.{head_more, continues_head, continues_for, continues_guarded, for_reads, Guarded_parts, guarded_reads}
 use Rattle.ss_parse_statements.specs.SpelledStatements.{noisy, Find_words, opening_word, May_be_governed, Statement_from, Statements_are, Else_part, Branches, Governed}

@@ -22,8 +22,8 @@ use Rattle.ss_parse_expressions.specs.ReadExpressions.{begins_value, begins_sum,
 use Rattle.ss_parse_expressions.specs.ReadPlaces.{target_in}
 use Rattle.ss_parse_expressions.proofs.Tools.{which, or_false}
 use Rattle.ss_parse_expressions.proofs.Marks.{token_less, is_true, begins_table}
-use Rattle.ss_parse_expressions.proofs.ReaderLaws.{Reads, Item, continues_never, Made, item_of, expect_reads, seq_reads, marked_reads, closed_reads, bind_reads, made_reads, following_reads, reshaped_reads, fewer_reads, optional_reads}
-use Rattle.ss_parse_expressions.proofs.WordLaws.{word_in_reads, expect_class_reads, optional_class_reads, done_reads, fail_reads, name_reads, names_reads, either_reads, item_made}
+use Rattle.ss_parse_expressions.proofs.ReaderLaws.{Reads, Item, continues_never, Made, item_of, expect_reads, seq_reads, marked_reads, closed_reads, bind_reads, made_reads, following_reads, reshaped_reads, fewer_reads, optional_reads, done_reads, either_reads}
+use Rattle.ss_parse_expressions.proofs.WordLaws.{word_in_reads, expect_class_reads, optional_class_reads, fail_reads, name_reads, names_reads, item_made}
 use Rattle.ss_parse_expressions.proofs.Beginnings.{in_begins, continues_sum}
 use Rattle.ss_parse_expressions.proofs.PlaceLaws.{targets_in_reads, continues_place, continues_sums}
 use Rattle.ss_parse_expressions.proofs.ConditionLaws.{stops_place}
