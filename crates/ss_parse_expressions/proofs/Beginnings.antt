@@ -42,18 +42,12 @@ factor_begins (sum e (and_term sign f fs)) levels ts rest s = absurd s.0
 
 -- A term is a product or a factor.
 pub term_cases : (e : ExpressionTree) (levels : ℕ) (ts rest : List Token) → Spelled e term_place levels ts rest → ((f : ExpressionTree) × (fs : ExpressionRow) × (e ≡ product f fs) × ((fs ≡ no_expression → ⊥) × (Spelled f factor_place levels ▷ Further_factors fs levels) ts rest)) ⊎ Spelled e factor_place levels ts rest
-term_cases (number n) levels ts rest s = inr s
-term_cases (text t) levels ts rest s = inr s
 term_cases (named d no_expression) levels ts rest s = inr s
-term_cases (named d (and_expression e es)) levels ts rest s = inr s
 term_cases (call f no_expression) levels ts rest s = absurd s
-term_cases (call f (and_expression e es)) levels ts rest s = inr s
-term_cases (parenthesised e) levels ts rest s = inr s
-term_cases (product e no_expression) levels ts rest s = absurd s
 term_cases (product e (and_expression f fs)) levels ts rest (u, s) = inl (e, and_expression f fs, refl, (λ no. absurd cc, s))
 term_cases (signed sign e) levels ts rest s = absurd s.0
-term_cases (sum e no_term) levels ts rest s = absurd s
 term_cases (sum e (and_term sign f fs)) levels ts rest s = absurd s.0
+term_cases _ levels ts rest s = inr s
 
 pub term_begins : (e : ExpressionTree) (levels : ℕ) (ts rest : List Token) → Spelled e term_place levels ts rest → (begins_sum ts ≡ true) × (begins_sign ts ≡ false)
 term_begins e levels ts rest s =
@@ -64,18 +58,12 @@ term_begins e levels ts rest s =
 
 -- The first term of a sum has a sign, or it is a term.
 pub first_cases : (e : ExpressionTree) (levels : ℕ) (ts rest : List Token) → Spelled e first_place levels ts rest → ((sign : Sign) × (t : ExpressionTree) × (e ≡ signed sign t) × (Sign_is sign ▷ Spelled t term_place levels) ts rest) ⊎ Spelled e term_place levels ts rest
-first_cases (number n) levels ts rest s = inr s
-first_cases (text t) levels ts rest s = inr s
 first_cases (named d no_expression) levels ts rest s = inr s
-first_cases (named d (and_expression e es)) levels ts rest s = inr s
 first_cases (call f no_expression) levels ts rest s = absurd s
-first_cases (call f (and_expression e es)) levels ts rest s = inr s
-first_cases (parenthesised e) levels ts rest s = inr s
 first_cases (product e no_expression) levels ts rest s = absurd s
-first_cases (product e (and_expression f fs)) levels ts rest s = inr s
 first_cases (signed sign e) levels ts rest s = inl (sign, e, refl, s.1)
-first_cases (sum e no_term) levels ts rest s = absurd s
 first_cases (sum e (and_term sign f fs)) levels ts rest s = absurd s.0
+first_cases _ levels ts rest s = inr s
 
 first_begins : (e : ExpressionTree) (levels : ℕ) (ts rest : List Token) → Spelled e first_place levels ts rest → begins_sum ts ≡ true
 first_begins e levels ts rest s =
@@ -86,19 +74,12 @@ first_begins e levels ts rest s =
 
 -- An expression is a sum or the first term of one.
 pub sum_cases : (e : ExpressionTree) (levels : ℕ) (ts rest : List Token) → Spelled e sum_place levels ts rest → ((f : ExpressionTree) × (fs : TermRow) × (e ≡ sum f fs) × ((fs ≡ no_term → ⊥) × (Spelled f first_place levels ▷ Further_terms fs levels) ts rest)) ⊎ Spelled e first_place levels ts rest
-sum_cases (number n) levels ts rest s = inr s
-sum_cases (text t) levels ts rest s = inr s
 sum_cases (named d no_expression) levels ts rest s = inr s
-sum_cases (named d (and_expression e es)) levels ts rest s = inr s
 sum_cases (call f no_expression) levels ts rest s = absurd s
-sum_cases (call f (and_expression e es)) levels ts rest s = inr s
-sum_cases (parenthesised e) levels ts rest s = inr s
 sum_cases (product e no_expression) levels ts rest s = absurd s
-sum_cases (product e (and_expression f fs)) levels ts rest s = inr s
-sum_cases (signed sign e) levels ts rest s = inr s
-sum_cases (sum e no_term) levels ts rest s = absurd s
 sum_cases (sum e (and_term sign f fs)) levels ts rest (u, (m, first, (n, sign_is, (o, one, more)))) =
     inl (e, and_term sign f fs, refl, (λ no. absurd cc, (m, first, (n, sign_is, (o, one, more)))))
+sum_cases _ levels ts rest s = inr s
 
 pub sum_begins : (e : ExpressionTree) (levels : ℕ) (ts rest : List Token) → Spelled e sum_place levels ts rest → begins_sum ts ≡ true
 sum_begins e levels ts rest s =
