@@ -1,11 +1,11 @@
 -- What expressions begin with, and what continues them.
-use Rattle.std.proofs.Common.{◌≡◌, ℕ, zero, suc, Bool, true, false, ◌||◌, List, [], ◌∷◌, refl, ap, ◌∙◌, inl, inr, ◌⊎◌}
-use Rattle.ss_parse_expressions.proofs.Common.{and_expression, and_term, begins, begins_sign, begins_sum, begins_value, call, Designated, Designator, designator_of_word, ExpressionRow, ExpressionTree, factor_place, first_place, Function, function_of, Further_factors, Further_terms, is, is_some, named, no_expression, no_term, number, opening, parenthesised, product, Sign, Sign_is, signed, Spelled, star, sum, sum_place, term_place, TermRow, text, Token, TokenKind, Word, word}
+use Rattle.std.proofs.Common.{◌≡◌, ℕ, zero, suc, Bool, true, false, ◌||◌, List, refl, ap, ◌∙◌, inl, inr, ◌⊎◌}
+use Rattle.ss_parse_expressions.proofs.Common.{and_expression, and_term, begins, begins_sign, begins_sum, call, Designated, Designator, designator_of_word, ExpressionRow, ExpressionTree, factor_place, first_place, Function, function_of, Further_factors, Further_terms, is_some, named, no_expression, no_term, number, opening, parenthesised, product, Sign, Sign_is, signed, Spelled, star, sum, sum_place, term_place, TermRow, text, Token, word}
 use Rattle.ss_lex.specs.declared.word.Word.TheVariants as words
-use Rattle.ss_lex.specs.declared.token.TokenKind.TheVariants as kinds
 use Rattle.ss_base.specs.declared.words.Sign.TheVariants as signs
 use Rattle.ss_tree.specs.declared.expression.Designator.TheVariants as designators
 use Rattle.ss_parse_expressions.specs.Shapes.{Shape, ◌▷◌, Word_for, nested_shape}
+use Rattle.ss_parse_expressions.proofs.Marks.{starts_otherwise}
 
 or_right : (a b : Bool) → b ≡ true → (a || b) ≡ true
 or_right true b e = refl
@@ -97,17 +97,8 @@ in_begins zero ts e rest s = absurd s
 in_begins (suc levels) ts e rest s = sum_begins e levels ts rest s
 
 -- no expression begins with AND
-word_no_and : (w : Word) → (is_some (designator_of_word w) || is_some (function_of w)) ≡ true → is (word words.And) (kinds.Word w) ≡ false
-word_no_and words.And e = absurd cc
-word_no_and _ e = refl
-
-value_no_and : (k : TokenKind) → begins_value k ≡ true → is (word words.And) k ≡ false
-value_no_and (kinds.Word w) e = word_no_and w e
-value_no_and _ e = refl
-
 pub sum_no_and : (ts : List Token) → begins_sum ts ≡ true → begins (word words.And) ts ≡ false
-sum_no_and [] e = refl
-sum_no_and (t ∷ ts) e = value_no_and t.kind e
+sum_no_and = starts_otherwise (word words.And) begins_sum (λ span line ts. refl)
 
 -- ---- what continues an expression
 

@@ -1,6 +1,6 @@
 -- Conditions: what is read is spelled, and what is spelled is read.
 use Rattle.std.proofs.Common.{◌≡◌, ℕ, zero, suc, ◌<◌, ◌≤◌, Bool, true, false, cond, ◌||◌, List, [], ◌∷◌, length, Option, Some, None, refl, sym, ap, subst, ◌∙◌, arith, inl, inr, ◌⊎◌}
-use Rattle.ss_parse_expressions.proofs.Common.{begins, begins_by, begins_sign, begins_sum, begins_value, choose_reader, closed, Designator, Equals, if_present, in_table, is, opening, Plain_name, reference_in, Reference_is, seq, skip, Spelled, star, Subscript, sum_in, Sum_is, sum_place, taken, the, Token, TokenKind, Word, word}
+use Rattle.ss_parse_expressions.proofs.Common.{begins, begins_by, begins_sign, begins_sum, choose_reader, closed, Designator, Equals, if_present, in_table, is, opening, Plain_name, reference_in, Reference_is, seq, skip, Spelled, star, Subscript, sum_in, Sum_is, sum_place, taken, the, Token, TokenKind, Word, word}
 use Rattle.ss_lex.specs.declared.word.Word.TheVariants as words
 use Rattle.ss_lex.specs.declared.token.TokenKind.TheVariants as kinds
 use Rattle.ss_base.specs.declared.words.Relation.{Relation}
@@ -16,7 +16,7 @@ use Rattle.ss_parse_expressions.specs.SpelledConditions.{In_words, Relation_is, 
 use Rattle.ss_parse_expressions.specs.WordTables.{relation_of}
 use Rattle.ss_parse_expressions.specs.ReadConditions.{relation_symbol, test_word_of, verb_end, worded_verb, verb, reference_of, empty_of, data_test, test_end, sum_test, test_in, conjunction_in, condition_in}
 use Rattle.ss_parse_expressions.proofs.Tools.{or_false}
-use Rattle.ss_parse_expressions.proofs.Marks.{token_less, In_table, begins_table}
+use Rattle.ss_parse_expressions.proofs.Marks.{token_less, starts_otherwise, In_table, begins_table}
 use Rattle.ss_parse_expressions.proofs.ReaderLaws.{Reads, Item, continues_never, Made, item_of, item_marked, item_skipped, expect_reads, taken_reads, seq_reads, bind_reads, made_reads, marked_reads, closed_reads, reshaped_reads, fewer_reads, optional_reads, too_deep_reads, done_reads, either_reads}
 use Rattle.ss_parse_expressions.proofs.Rows.{first_and_reads, first_less, Loop, loop_of}
 use Rattle.ss_parse_expressions.proofs.WordLaws.{word_in_reads, present_reads, fail_reads}
@@ -226,17 +226,8 @@ stops_place ts stop =
     let none : begins opening ts ≡ false = b.1 in
     rw none refl
 
-word_no_data : (w : Word) → begins_value (kinds.Word w) ≡ true → is (word words.Data) (kinds.Word w) ≡ false
-word_no_data words.Data e = absurd cc
-word_no_data _ e = refl
-
-value_no_data : (k : TokenKind) → begins_value k ≡ true → is (word words.Data) k ≡ false
-value_no_data (kinds.Word w) e = word_no_data w e
-value_no_data _ e = refl
-
 sum_no_data : (ts : List Token) → begins_sum ts ≡ true → begins (word words.Data) ts ≡ false
-sum_no_data [] e = refl
-sum_no_data (t ∷ ts) e = value_no_data t.kind e
+sum_no_data = starts_otherwise (word words.Data) begins_sum (λ span line ts. refl)
 
 module _ (n m : ℕ) (le : n ≤ m) where
   sum_reads : Reads (suc n) (sum_in (suc n)) (sum_in (suc m)) (λ e. Sum_is n e) continues_sum

@@ -9,7 +9,7 @@ use Rattle.ss_parse_expressions.specs.Shapes.{Shape, ◌▷◌, never, optional,
 use Rattle.ss_parse_expressions.specs.Words.{has_word, One_of, Item_is, perhaps_listed}
 use Rattle.ss_parse_expressions.specs.ReadWords.{in_class, begins_class, skip_class, expect_class, if_present, fail, begins_noisy, expect_noisy, begins_name, names, begins_item, articled_name, items, among, begins_among}
 use Rattle.ss_parse_expressions.proofs.Tools.{which, chosen, carry}
-use Rattle.ss_parse_expressions.proofs.Marks.{token, Mark_is, is_true, token_of, mark_begins, mark_skips, begins_mark, no_skip, token_less, skip_openers, In_table, begins_table}
+use Rattle.ss_parse_expressions.proofs.Marks.{token, Mark_is, is_true, token_of, mark_begins, mark_skips, begins_mark, no_skip, token_less, skip_openers, starts_otherwise, In_table, begins_table}
 use Rattle.ss_parse_expressions.proofs.Depth.{upto_same, Bounded}
 use Rattle.ss_parse_expressions.proofs.ReaderLaws.{Reads, Item, continues_never, Made, item_of, made_reads, marked_reads, expect_reads, taken_reads, reshaped_reads, skipped_reads, optional_reads, maybe_list_reads}
 use Rattle.ss_parse_expressions.proofs.Rows.{list_reads, Loop, loop_of, separated_item}
@@ -159,13 +159,8 @@ name_begins ts n rest s = begins_table name_in_token ts rest n (kinds.Name n, re
 pub name_less : (ts : List Token) (n : List ℕ) (rest : List Token) → Name_is n ts rest → length rest < length ts
 name_less ts n rest s = omega (arith, token_less (kinds.Name n) ts rest s)
 
-kind_no_and : (k : TokenKind) → begins_name (token k (record { start = 0; length = 0 }) (record { 0 = 0 }) ∷ []) ≡ true → is (word words.And) k ≡ false
-kind_no_and (kinds.Name n) e = refl
-kind_no_and _ e = absurd cc
-
 pub name_no_and : (ts : List Token) → begins_name ts ≡ true → begins (word words.And) ts ≡ false
-name_no_and [] e = absurd cc
-name_no_and (t ∷ ts) e = kind_no_and t.kind e
+name_no_and = starts_otherwise (word words.And) begins_name (λ span line ts. refl)
 
 abbrev pub continues_names : List Token → Bool
 continues_names ts = begins_more begins_name ts
@@ -192,12 +187,8 @@ pub item_less : (ts : List Token) (n : List ℕ) (rest : List Token) → Item_is
 item_less ts n rest (a, inl e, s) = omega (arith, ap length e, name_less a n rest s)
 item_less ts n rest (a, inr w, s) = omega (arith, one_less classes.Article ts a w, name_less a n rest s)
 
-and_no_item : (ts : List Token) → begins (word words.And) ts ≡ true → begins_item ts ≡ false
-and_no_item [] e = refl
-and_no_item (t ∷ ts) e = let kind : t.kind ≡ kinds.Word words.And = is_true (word words.And) t.kind e in rw kind refl
-
 pub item_no_and : (ts : List Token) → begins_item ts ≡ true → begins (word words.And) ts ≡ false
-item_no_and ts e = elim (which (begins (word words.And) ts)) [ inl p ↦ absurd (let no = and_no_item ts p in cc) | inr p ↦ p ]
+item_no_and = starts_otherwise (word words.And) begins_item (λ span line ts. refl)
 
 pub items_reads : (k : ℕ) → Reads k items items (separated_list Item_is) (λ ts. begins_more begins_item ts || (continues_never ts || continues_never ts))
 items_reads k = list_reads (item_reads k) begins_item item_begins item_no_and item_less (λ span line ts. refl) (λ span line ts. refl)

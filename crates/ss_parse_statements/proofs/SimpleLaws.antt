@@ -20,8 +20,8 @@ use Rattle.ss_parse_expressions.specs.Reading.{word, is, is_some, begins, begins
 use Rattle.ss_parse_expressions.specs.ReadWords.{begins_class}
 use Rattle.ss_parse_expressions.specs.ReadExpressions.{begins_value, begins_sum, sum_in}
 use Rattle.ss_parse_expressions.specs.ReadPlaces.{target_in}
-use Rattle.ss_parse_expressions.proofs.Tools.{which, or_false}
-use Rattle.ss_parse_expressions.proofs.Marks.{token_less, is_true, begins_table}
+use Rattle.ss_parse_expressions.proofs.Tools.{or_false}
+use Rattle.ss_parse_expressions.proofs.Marks.{token_less, starts_otherwise, begins_table}
 use Rattle.ss_parse_expressions.proofs.ReaderLaws.{Reads, Item, continues_never, Made, item_of, expect_reads, seq_reads, marked_reads, closed_reads, bind_reads, made_reads, following_reads, reshaped_reads, fewer_reads, optional_reads, done_reads, either_reads}
 use Rattle.ss_parse_expressions.proofs.WordLaws.{word_in_reads, expect_class_reads, optional_class_reads, fail_reads, name_reads, names_reads, item_made}
 use Rattle.ss_parse_expressions.proofs.Beginnings.{in_begins, continues_sum}
@@ -67,14 +67,6 @@ Form_is n line w x ts rest = (line_of_first_word x ≡ line) × (opening_word x 
 
 -- ---- what words no expression begins with
 
-sum_no_word : (w : Word) → begins_value (kinds.Word w) ≡ false → (ts : List Token) → begins_sum ts ≡ true → begins (word w) ts ≡ false
-sum_no_word w none [] e = refl
-sum_no_word w none (t ∷ ts) e =
-    elim (which (is (word w) t.kind)) [
-      | inl there ↦ absurd (let kind : t.kind ≡ kinds.Word w = is_true (word w) t.kind there in let v : begins_value t.kind ≡ begins_value (kinds.Word w) = ap begins_value kind in cc)
-      | inr other ↦ other
-    ]
-
 word_no_end : (w : Word) → begins_value (kinds.Word w) ≡ true → is_some (end_of w) ≡ false
 word_no_end words.First e = absurd cc
 word_no_end words.Last e = absurd cc
@@ -103,7 +95,7 @@ module _ (n m : ℕ) (le : n ≤ m) where
   sum_begins_in ts e rest s = in_begins (suc n) ts e rest s
 
   no_the_sum : (ts : List Token) (e : ExpressionTree) (rest : List Token) → Sum_is n e ts rest → begins (word words.The) ts ≡ false
-  no_the_sum ts e rest s = sum_no_word words.The refl ts (sum_begins_in ts e rest s)
+  no_the_sum ts e rest s = starts_otherwise (word words.The) begins_sum (λ span line ts. refl) ts (sum_begins_in ts e rest s)
 
   -- ---- parts of statements
 
