@@ -41,13 +41,10 @@ terms_listed levels (and_term sign x es) ts rest (n, signs_is, (m, one, more)) =
 
 -- ---- signs
 
-sign_to : (sign : Sign) (ts rest : List Token) → In_table sign_of_token sign ts rest → Sign_is sign ts rest
-sign_to sign ts rest (k, takes, at) = go k takes at
-  where
-    go : (k : TokenKind) → sign_of_token k ≡ Some sign → Token_is k ts rest → Sign_is sign ts rest
-    go (kinds.Symbol Plus) e at = let is_plus : signs.Plus ≡ sign = cc in subst (λ s. Sign_is s ts rest) is_plus at
-    go (kinds.Symbol Minus) e at = let is_minus : signs.Minus ≡ sign = cc in subst (λ s. Sign_is s ts rest) is_minus at
-    go _ e at = absurd cc
+sign_to : (k : TokenKind) (sign : Sign) (ts rest : List Token) → sign_of_token k ≡ Some sign → Token_is k ts rest → Sign_is sign ts rest
+sign_to (kinds.Symbol Plus) sign ts rest e at = let is_plus : signs.Plus ≡ sign = cc in subst (λ s. Sign_is s ts rest) is_plus at
+sign_to (kinds.Symbol Minus) sign ts rest e at = let is_minus : signs.Minus ≡ sign = cc in subst (λ s. Sign_is s ts rest) is_minus at
+sign_to _ sign ts rest e at = absurd cc
 
 sign_from : (sign : Sign) (ts rest : List Token) → Sign_is sign ts rest → In_table sign_of_token sign ts rest
 sign_from signs.Plus ts rest at = (kinds.Symbol Plus, refl, at)
@@ -110,7 +107,7 @@ module _ (n m : ℕ) (inner : Reads n (sum_in n) (sum_in m) (In n) continues_sum
 
   signed_term_reads : Reads (suc n) (signed_term_with (sum_in n)) (signed_term_with (sum_in m)) (Term_is n) continues_term
   unfolding signed_term_with
-  signed_term_reads = seq_reads (reshaped_reads (taken_reads (suc n) sign_of_token) Sign_is sign_to sign_from) term_reads (λ x ts rest s stop. refl)
+  signed_term_reads = seq_reads (reshaped_reads (taken_reads (suc n) sign_of_token) Sign_is (λ sign ts rest s. sign_to s.0 sign ts rest s.1 s.2) sign_from) term_reads (λ x ts rest s stop. refl)
 
   signed_term_less : (ts : List Token) (x : Sign × ExpressionTree) (rest : List Token) → Term_is n x ts rest → length rest < length ts
   signed_term_less ts (signs.Plus, e) rest (m, sign_is, one) = omega (arith, token_less (kinds.Symbol Plus) ts m sign_is, term_less m e rest one)

@@ -9,22 +9,19 @@ use Rattle.ss_parse_expressions.specs.Shapes.{Shape, ◌▷◌, never, optional,
 use Rattle.ss_parse_expressions.specs.Words.{has_word, One_of, Item_is, perhaps_listed}
 use Rattle.ss_parse_expressions.specs.ReadWords.{in_class, begins_class, skip_class, expect_class, if_present, fail, begins_noisy, expect_noisy, begins_name, names, begins_item, articled_name, items, among, begins_among}
 use Rattle.ss_parse_expressions.proofs.Tools.{which, chosen, carry}
-use Rattle.ss_parse_expressions.proofs.Marks.{token, Mark_is, is_true, token_of, mark_begins, mark_skips, begins_mark, no_skip, token_less, skip_openers, starts_otherwise, In_table, begins_table}
+use Rattle.ss_parse_expressions.proofs.Marks.{token, Mark_is, is_true, token_of, mark_begins, mark_skips, begins_mark, no_skip, token_less, skip_openers, starts_otherwise, begins_table}
 use Rattle.ss_parse_expressions.proofs.Depth.{upto_same, Bounded}
 use Rattle.ss_parse_expressions.proofs.ReaderLaws.{Reads, Item, continues_never, Made, item_of, made_reads, marked_reads, expect_reads, taken_reads, reshaped_reads, skipped_reads, optional_reads, maybe_list_reads}
 use Rattle.ss_parse_expressions.proofs.Rows.{list_reads, Loop, loop_of, separated_item}
 
 -- ---- words of a table
 
-word_for_to : {A : Type 0} (table : Word → Option A) (x : A) (ts rest : List Token) → In_table (in_table table) x ts rest → Word_for table x ts rest
-word_for_to table x ts rest (k, takes, at) = go k takes at
-  where
-    go : (k : TokenKind) → in_table table k ≡ Some x → Token_is k ts rest → Word_for table x ts rest
-    go (kinds.Word w) e at = (w, e, at)
-    go _ e at = absurd cc
+word_for_to : {A : Type 0} (table : Word → Option A) (k : TokenKind) (x : A) (ts rest : List Token) → in_table table k ≡ Some x → Token_is k ts rest → Word_for table x ts rest
+word_for_to table (kinds.Word w) x ts rest e at = (w, e, at)
+word_for_to table _ x ts rest e at = absurd cc
 
 pub word_in_reads : {A : Type 0} (k : ℕ) (table : Word → Option A) → Reads k (taken (in_table table)) (taken (in_table table)) (Word_for table) continues_never
-word_in_reads k table = reshaped_reads (taken_reads k (in_table table)) (Word_for table) (word_for_to table) (λ x ts rest s. (kinds.Word s.0, s.1, s.2))
+word_in_reads k table = reshaped_reads (taken_reads k (in_table table)) (Word_for table) (λ x ts rest s. word_for_to table s.0 x ts rest s.1 s.2) (λ x ts rest s. (kinds.Word s.0, s.1, s.2))
 
 -- ---- words of a class
 
@@ -143,15 +140,12 @@ noisy_stops c m alone noisy ts rest (a, inr (span, line, e), (span', line', f)) 
 
 -- ---- names
 
-name_to : (n : List ℕ) (ts rest : List Token) → In_table name_in_token n ts rest → Name_is n ts rest
-name_to n ts rest (k, takes, at) = go k takes at
-  where
-    go : (k : TokenKind) → name_in_token k ≡ Some n → Token_is k ts rest → Name_is n ts rest
-    go (kinds.Name v) e at = let same : v ≡ n = cc in subst (λ n. Name_is n ts rest) same at
-    go _ e at = absurd cc
+name_to : (k : TokenKind) (n : List ℕ) (ts rest : List Token) → name_in_token k ≡ Some n → Token_is k ts rest → Name_is n ts rest
+name_to (kinds.Name v) n ts rest e at = let same : v ≡ n = cc in subst (λ n. Name_is n ts rest) same at
+name_to _ n ts rest e at = absurd cc
 
 pub name_reads : (k : ℕ) → Reads k (taken name_in_token) (taken name_in_token) Name_is continues_never
-name_reads k = reshaped_reads (taken_reads k name_in_token) Name_is name_to (λ n ts rest s. (kinds.Name n, refl, s))
+name_reads k = reshaped_reads (taken_reads k name_in_token) Name_is (λ n ts rest s. name_to s.0 n ts rest s.1 s.2) (λ n ts rest s. (kinds.Name n, refl, s))
 
 pub name_begins : (ts : List Token) (n : List ℕ) (rest : List Token) → Name_is n ts rest → begins_name ts ≡ true
 name_begins ts n rest s = begins_table name_in_token ts rest n (kinds.Name n, refl, s)

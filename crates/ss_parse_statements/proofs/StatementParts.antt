@@ -84,15 +84,12 @@ print_head_reads n m le =
     stops ts rest (inr (inl (m, (span, line, e), s))) stop = rw e refl
     stops ts rest (inr (inr (m, (span, line, e), s))) stop = rw e refl
 
-pictures_to : (bytes : List ℕ) (ts rest : List Token) → In_table picture_token bytes ts rest → Picture_is bytes ts rest
-pictures_to bytes ts rest (k, takes, at) = go k takes at
-  where
-    go : (k : TokenKind) → picture_token k ≡ Some bytes → Token_is k ts rest → Picture_is bytes ts rest
-    go (kinds.Picture b) e at = let same : b ≡ bytes = cc in subst (λ b. Picture_is b ts rest) same at
-    go _ e at = absurd cc
+picture_to : (k : TokenKind) (bytes : List ℕ) (ts rest : List Token) → picture_token k ≡ Some bytes → Token_is k ts rest → Picture_is bytes ts rest
+picture_to (kinds.Picture b) bytes ts rest e at = let same : b ≡ bytes = cc in subst (λ b. Picture_is b ts rest) same at
+picture_to _ bytes ts rest e at = absurd cc
 
 picture_reads : (k : ℕ) → Reads k (taken picture_token) (taken picture_token) Picture_is continues_never
-picture_reads k = reshaped_reads (taken_reads k picture_token) Picture_is pictures_to (λ bytes ts rest s. (kinds.Picture bytes, refl, s))
+picture_reads k = reshaped_reads (taken_reads k picture_token) Picture_is (λ bytes ts rest s. picture_to s.0 bytes ts rest s.1 s.2) (λ bytes ts rest s. (kinds.Picture bytes, refl, s))
 
 -- so many pictures
 abbrev pub Pictures_are : ℕ → List (List ℕ) → Shape
