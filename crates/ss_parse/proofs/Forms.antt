@@ -8,6 +8,7 @@ use Rattle.ss_tree.specs.Tree.{ClauseTree, PreambleTree, permanent_entities, tem
 use Rattle.ss_parse_expressions.specs.declared.classes.WordClass.TheVariants as alike
 use Rattle.ss_parse_expressions.specs.Shapes.{Shape, ◌▷◌, never, either_shape, Word_is, Name_is, Word_for, separated_list}
 use Rattle.ss_parse_expressions.specs.Reading.{word, begins, begins_by, expect, in_table, taken, closed, apply, begins_more}
+use Rattle.ss_parse_expressions.specs.ReadWords.{fail}
 use Rattle.ss_parse_expressions.proofs.Marks.{token_less, begins_table}
 use Rattle.ss_parse_statements.proofs.Beginnings.{both_false}
 use Rattle.ss_parse_expressions.proofs.ReaderLaws.{Reads, Item, continues_never, Made, made_reads, reshaped_reads, seq_reads, following_reads, bind_reads, marked_reads, closed_reads, fewer_reads, item_of, item_marked, expect_reads}
@@ -114,9 +115,12 @@ module _ (k : ℕ) where
       fewer_reads (made_reads (marked_reads (word words.Notices) (perhaps_listed_reads (item_marked (word words.Include) (names_reads k)))) (event_notices line))
       continues_preamble (λ ts stop. let a : begins (word words.Include) ts ≡ false = over words.Include refl ts stop in let b : (begins_more begins_name ts || (continues_never ts || continues_never ts)) ≡ false = over_list begins_name ts stop in both_false _ _ a b)
 
+  none_reads : Reads k fail fail (λ (x : PreambleTree). never) continues_preamble
+  none_reads = fewer_reads (fail_reads k) continues_preamble (λ ts stop. refl)
+
   every_reads : (group : Option ClassKind) (line : Line) → Reads k (every_at group line) (every_at group line) (Every_parts group line) continues_preamble
   unfolding every_at
-  every_reads None line = fewer_reads (fail_reads k) continues_preamble (λ ts stop. refl)
+  every_reads None line = none_reads
   every_reads (Some kind) line = made_reads (seq_reads (name_reads k) (clauses_reads k) (λ p ts rest s stop. refl)) (λ p. every line kind p.0 p.1)
 
   mode_item : (line : Line) (ns : List (List ℕ)) → Item k (begins_by (in_table mode_of_word)) (apply (define_variables line ns) (closed (taken (in_table mode_of_word)) (expect (word words.Variable)))) (apply (define_variables line ns) (closed (taken (in_table mode_of_word)) (expect (word words.Variable)))) (Mode_end line ns) continues_never
@@ -155,7 +159,7 @@ module _ (k : ℕ) where
   parts_reads group line words.Break = made_reads (seq_reads (name_reads k) (marked_reads (word words.Ties) (marked_reads (word words.By) (keys_reads k))) (λ p ts rest s stop. refl)) (λ p. break_ties line p.0 p.1)
   parts_reads group line words.Tally = statistics_reads line weightings.Tally
   parts_reads group line words.Accumulate = statistics_reads line weightings.Accumulate
-  parts_reads group line _ = fewer_reads (fail_reads k) continues_preamble (λ ts stop. refl)
+  parts_reads group line _ = none_reads
 
   pub word_law : (group : Option ClassKind) (line : Line) (w : Word) → Reads k (preamble_at group line w) (preamble_at group line w) (Pre_is group line w) continues_preamble
   word_law group line w = reshaped_reads (parts_reads group line w) (Pre_is group line w) (parts_to group line w) (parts_from group line w)

@@ -17,7 +17,7 @@ use Rattle.ss_parse_expressions.specs.Words.{has_word, One_of, the, perhaps_list
 use Rattle.ss_parse_expressions.specs.SpelledExpressions.{Sum_is, Target_is, Reference_is}
 use Rattle.ss_parse_expressions.specs.SpelledConditions.{guard_word, loop_head_word}
 use Rattle.ss_parse_expressions.specs.Reading.{word, is, is_some, begins, begins_by, expect, in_table, taken, name_in_token, seq, after_dropped}
-use Rattle.ss_parse_expressions.specs.ReadWords.{begins_class}
+use Rattle.ss_parse_expressions.specs.ReadWords.{fail, begins_class}
 use Rattle.ss_parse_expressions.specs.ReadExpressions.{begins_value, begins_sum, sum_in}
 use Rattle.ss_parse_expressions.specs.ReadPlaces.{target_in}
 use Rattle.ss_parse_expressions.proofs.Tools.{or_false}
@@ -310,6 +310,9 @@ module _ (n m : ℕ) (le : n ≤ m) where
       fewer_reads (made_reads {S = Skip_parts} (closed_reads (sum_reads n m le) (optional_reads (expect_reads (suc n) (word words.Line)) (word words.Output) (λ u ts rest s. ap (begins (word words.Output)) s.2)) line_stops) (skip_statement line))
       continues_simple (λ ts stop. refl)
 
+  none_reads : Reads (suc n) fail fail (λ (x : StatementTree). never) continues_simple
+  none_reads = fewer_reads (fail_reads (suc n)) continues_simple (λ ts stop. refl)
+
   simple_reads : (line : Line) (w : Word) → Reads (suc n) (simple_at line (suc n) w) (simple_at line (suc m) w) (Parts line w) continues_simple
   unfolding simple_at read_at start_at create_at destroy_at cancel_at remove_at schedule_at print_at
   simple_reads line words.Let = let_reads line
@@ -333,7 +336,7 @@ module _ (n m : ℕ) (le : n ≤ m) where
   simple_reads line words.Reset = reset_reads line
   simple_reads line words.Print = fewer_reads (bind_reads (print_head_reads (suc n) (suc m) (omega arith)) (λ h. made_reads (pictures_reads (suc n) h.0) (λ ps. print_statement line h.1 ps)) (λ h x ts rest s stop. refl)) continues_simple (λ ts stop. refl)
   simple_reads line words.Skip = skip_reads line
-  simple_reads line _ = fewer_reads (fail_reads (suc n)) continues_simple (λ ts stop. refl)
+  simple_reads line _ = none_reads
 
   pub simple_law : (line : Line) (w : Word) → nested_word w ≡ false → Reads (suc n) (simple_at line (suc n) w) (simple_at line (suc m) w) (Form_is n line w) continues_simple
   simple_law line w simple = reshaped_reads (simple_reads line w) (Form_is n line w) (parts_to line w) (parts_from line w simple)
