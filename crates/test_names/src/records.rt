@@ -17,34 +17,25 @@ const MACHINE: usize = 2;
 
 const POOL: usize = 0;
 
-// Jobs with a rank, bells, and machines, which are permanent.
-static CLASSES: [(ClassKind, &[Mode]); 3] = [
-    (ClassKind::Temporary, &[Mode::Integer]),
-    (ClassKind::Notice, &[]),
-    (ClassKind::Permanent, &[]),
-];
-
-// A pool of the system, for jobs.
-static SETS: [SetLayout; 1] = [SetLayout {
-    owner: Owner::System,
-    member: JOB,
-}];
-
-fn classes(alloc: Global) -> Result<Vec<ClassLayout>, AllocError> {
-    let mut classes = Vec::new(alloc);
-    for (kind, modes) in &CLASSES {
-        let class = ClassLayout {
-            kind: *kind,
-            fields: Vec::from_slice(alloc, modes)?,
-        };
-        classes.push(class)?;
-    }
-    Ok(classes)
+// A class with attributes of these modes.
+fn class(alloc: Global, kind: ClassKind, modes: &[Mode]) -> Result<ClassLayout, AllocError> {
+    Ok(ClassLayout {
+        kind,
+        fields: Vec::from_slice(alloc, modes)?,
+    })
 }
 
+// Jobs with a rank, bells, and machines, which are permanent; and a pool of the system, for jobs.
 fn layout(alloc: Global) -> Result<Option<Layout>, AllocError> {
-    let sets = Vec::from_slice(alloc, &SETS)?;
-    let classes = classes(alloc)?;
+    let mut classes = Vec::new(alloc);
+    classes.push(class(alloc, ClassKind::Temporary, &[Mode::Integer])?)?;
+    classes.push(class(alloc, ClassKind::Notice, &[])?)?;
+    classes.push(class(alloc, ClassKind::Permanent, &[])?)?;
+    let pool = SetLayout {
+        owner: Owner::System,
+        member: JOB,
+    };
+    let sets = Vec::from_slice(alloc, &[pool])?;
     Ok(Layout::new(classes, sets))
 }
 
