@@ -1,11 +1,11 @@
 -- Where the runs of a session were cut as memory, its reader or its writer failed.
 use Rattle.std.proofs.Common.{◌≡◌, ℕ, ◌+◌, false, List, [], inl, Option, Some, None, refl, arith}
 use Rattle.std.proofs.KnownBytes.{Appends-nil, Consumes-nil}
-use Rattle.ss_engine.proofs.Common.{code_of, does_read, does_write, Ended, Failed, Fault, Generated, HasCome, HasComeTo, HasTakenLast, Input, IsAtStart, IsCodeOf, IsEndKnown, IsFresh, IsProgramOf, last_stop, Memory, Output, Paused, Program, Situation, Source, source_block, source_reader, start, Stop}
+use Rattle.ss_engine.proofs.Common.{code_of, does_read, Ended, Failed, Fault, Generated, HasCome, HasComeTo, HasTakenLast, Input, IsAtStart, IsCodeOf, IsEndKnown, IsFresh, IsProgramOf, last_stop, Memory, Output, Paused, Program, Situation, Source, source_block, source_reader, start, Stop}
 use Rattle.ss_meaning.specs.Meaning.{Ended as EndedThere, Fault as FaultThere}
 use Rattle.ss_engine.specs.Cuts.{IsCutBy, HasBeenCut}
 use Rattle.ss_engine.proofs.Inputs.{fresh_gave, reads_find}
-use Rattle.ss_engine.proofs.Pieces.{Saying, EachSays, EachLed, finishing, cutting, cutting_at}
+use Rattle.ss_engine.proofs.Pieces.{Saying, EachSays, EachLed, finishing, cutting, cutting_at, cutting_writing}
 use Rattle.ss_engine.proofs.Headline.{compiled_of, at_first}
 
 module _ {R W : Type 0} (remaining : R → Option (List ℕ)) (contents : W → Option (List ℕ)) (reader last_reader : R) (writer last_writer : W) (text : List ℕ) (p : Program) (is_program : IsProgramOf text p) (code : Generated) (first new : Situation) (source last : Source R) (used made : ℕ)
@@ -41,7 +41,7 @@ module _ {R W : Type 0} (remaining : R → Option (List ℕ)) (contents : W → 
   came_cut (Some (Fault kind line)) h = took_last (Fault kind line) (finishing (FaultThere kind line)) (λ bytes input s. tt) h
   came_cut (Some Paused) h = goes h.0
   came_cut (Some Memory) h = took_last Memory cutting (λ bytes input s. s) h
-  came_cut (Some Output) h = took_last Output (cutting_at does_write) (λ bytes input s. s) h
+  came_cut (Some Output) h = took_last Output cutting_writing (λ bytes input s. s) h
   came_cut (Some Input) h = took_last Input (cutting_at does_read) (λ bytes input s. s) h
   came_cut (Some Failed) h = absurd h
 

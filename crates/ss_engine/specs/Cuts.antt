@@ -8,21 +8,21 @@ use Rattle.ss_code_instructions.specs.Running.{start}
 use Rattle.ss_code_instructions.specs.Translation.{code_of}
 use Rattle.ss_machine.specs.declared.stop.Stop.{Stop}
 use Rattle.ss_machine.specs.declared.stop.Stop.TheVariants.{Ended, Fault, Paused, Memory, Output, Input, Failed}
-use Rattle.ss_machine.specs.Runs.{IsCut, IsCutAt, does_read, does_write}
+use Rattle.ss_machine.specs.Runs.{IsCut, IsCutAt, IsCutWriting, does_read}
 use Rattle.ss_engine.specs.declared.outcome.Outcome.{Outcome}
 use Rattle.ss_engine.specs.declared.outcome.Outcome.TheVariants.{Refused, Stopped}
 use Rattle.ss_engine.specs.Accepting.{IsProgramOf}
 use Rattle.ss_engine.specs.Headline.{HasGivenInput}
 
 -- the code, run from its first state with so many ticks and any more, passes after so many steps a state with those more left:
--- there or in its next step the report is cut to these bytes; where the writer failed the next instruction writes, where the
--- reader failed it reads. Of every other stop the meaning says all
+-- there or in its next step the report is cut to these bytes; where the reader failed the next instruction reads, where the
+-- writer failed it writes, and not all that it writes is in these bytes. Of every other stop the meaning says all
 abbrev pub IsCutBy : Stop → Code → (used made : ℕ) → (bytes input : List ℕ) → Type 0
 IsCutBy Ended code used made bytes input = Unit {0}
 IsCutBy (Fault kind line) code used made bytes input = Unit {0}
 IsCutBy Paused code used made bytes input = Unit {0}
 IsCutBy Memory code used made bytes input = (more : ℕ) → IsCut code (start code input (used + more)) made bytes more
-IsCutBy Output code used made bytes input = (more : ℕ) → IsCutAt does_write code (start code input (used + more)) made bytes more
+IsCutBy Output code used made bytes input = (more : ℕ) → IsCutWriting code (start code input (used + more)) made bytes more
 IsCutBy Input code used made bytes input = (more : ℕ) → IsCutAt does_read code (start code input (used + more)) made bytes more
 IsCutBy Failed code used made bytes input = Unit {0}
 
