@@ -22,7 +22,7 @@ pub use Rattle.ss_input.specs.Inputs.{HasFound, IsFresh, source_block, source_re
 pub use Rattle.ss_input.specs.declared.source.Source.{Source}
 pub use Rattle.ss_lex.specs.declared.token.Token.{Token}
 pub use Rattle.ss_machine.specs.Held.{kept_after}
-pub use Rattle.ss_machine.specs.Runs.{HasCome, HasRunToEnd, HasTakenLast, IsCut, IsPausing, IsRunResult, does_read, does_write}
+pub use Rattle.ss_machine.specs.Runs.{HasCome, HasRunToEnd, HasTakenBeforeFailure, HasTakenLast, IsCut, IsCutReading, IsCutWriting, IsPausing, IsRunResult}
 pub use Rattle.ss_machine.specs.Situations.{IsCodeOf, Situation}
 pub use Rattle.ss_machine.specs.Start.{IsAtStart}
 pub use Rattle.ss_machine.specs.declared.stop.Stop.{Stop}

@@ -1,13 +1,13 @@
 -- A run of the machine is what the text of its code means.
 use Rattle.std.proofs.Common.{◌≡◌, ◌≢◌, ℕ, suc, ◌+◌, ◌-◌, ◌<◌, false, List, [], ◌++◌, ◌⊎◌, inl, inr, Option, refl, sym, ap, ◌∙◌, subst, append_assoc, append-nil, arith}
 use Rattle.std.proofs.KnownBytes.{Appends-nil, Consumes-nil}
-use Rattle.ss_engine.proofs.Common.{Code, code_of, Compiled, does_read, does_write, Ended, Failed, Fault, Generated, Goes, HasCome, HasFound, HasRunToEnd, HasTakenLast, Input, IsAtStart, IsCodeOf, IsCut, IsEndKnown, IsFor, IsFresh, IsPausing, IsProgramOf, IsRunResult, IsWellTyped, MachineState, Memory, OneProgram, Output, Paused, Program, Situation, Source, source_block, source_reader, step, Stop}
+use Rattle.ss_engine.proofs.Common.{at_core, Code, code_of, Compiled, Ended, Failed, Fault, Generated, Goes, HasCome, HasFound, HasRunToEnd, HasTakenBeforeFailure, HasTakenLast, Input, IsAtStart, IsCodeOf, IsCut, IsCutReading, IsCutWriting, IsEndKnown, IsFor, IsFresh, IsPausing, IsProgramOf, IsRunResult, IsWellTyped, MachineState, Memory, OneProgram, Output, Paused, Program, Situation, Source, source_block, source_reader, step, Stop}
 use Rattle.ss_meaning.specs.Meaning.{Ending, Ended as EndedThere, Fault as FaultThere, Paused as PausedThere, WentWrong, Run, meaning}
 use Rattle.ss_code_instructions.specs.Running.{Underway, Ends, IsFaithful, start, steps, after_one_step as goes_on}
 use Rattle.ss_code_instructions.specs.Laws.{EndingsStay, IsReportPrefix, HasShape, OnTheWay, OneTickFewer, Pauses, Prefixes, StepsGoOn}
 use Rattle.ss_engine.specs.Headline.{IsMeaning, IsCutShort, IsMeantRun, HasGivenInput, IsSimulated}
-use Rattle.ss_engine.proofs.Inputs.{fresh_gave, reads_find}
-use Rattle.ss_engine.proofs.Pieces.{Saying, EachSays, EachLed, finishing, cutting, cutting_at}
+use Rattle.ss_engine.proofs.Inputs.{fails_find, fresh_gave, reads_find}
+use Rattle.ss_engine.proofs.Pieces.{Saying, EachSays, EachLed, finishing, cutting, cutting_reading, cutting_writing}
 use Rattle.ss_engine.proofs.Ticks.{pauses_with_fewer}
 
 -- ## The code of a program, and its first state
@@ -23,6 +23,24 @@ is_of shape p code typed f = record { compiled = record { typed = typed; code = 
 pub at_first : (Q : Saying) (p : Program) (code : Generated) (first : Situation) → IsCodeOf code (compiled_of p code) → IsAtStart code first → (used made : ℕ) (bytes input : List ℕ) →
     EachSays Q code first used made bytes input → (ticks : ℕ) → Q (code_of p) made (start (code_of p) input (used + ticks)) bytes ticks
 at_first Q p code first of starts used made bytes input s ticks = s (compiled_of p code) of (start (code_of p) input 0).core refl (starts (compiled_of p code) of input) [] ticks
+
+-- a cut within what an instruction writes, as any cut
+cut_so : (code : Code) (s : MachineState) (made : ℕ) (report : List ℕ) (ticks : ℕ) → IsCutWriting code s made report ticks → IsCut code s made report ticks
+cut_so code s made report ticks c = record {
+  state = c.state;
+  passed = c.passed;
+  left = c.left;
+  cut = record { part = c.cut.part; begins = c.cut.begins; within = inr (c.cut.next, c.cut.rest, c.cut.goes, c.cut.whole) };
+}
+
+-- and so is one before an instruction that reads
+cut_before : (code : Code) (s : MachineState) (made : ℕ) (report later : List ℕ) (ticks : ℕ) → IsCutReading code s made report later ticks → IsCut code s made report ticks
+cut_before code s made report later ticks c = record {
+  state = c.state;
+  passed = c.passed;
+  left = c.left;
+  cut = record { part = []; begins = sym c.written ∙ sym (append-nil c.state.report); within = inl refl };
+}
 
 -- ## Numbers and reports
 
@@ -132,14 +150,23 @@ module _ (on_the_way : OnTheWay) (fewer_ticks : OneTickFewer) (pauses : Pauses) 
           (reads_find remaining source last (EachLed run first new used made h.bytes) h.says);
     }
 
+    -- a run in which the reader failed, as any that was cut
+    failed : HasTakenBeforeFailure remaining source last (contents writer) (contents last_writer) (λ bytes input later. EachSays (cutting_reading later) run first used made bytes input) → HasTakenLast remaining source last (contents writer) (contents last_writer) (EachSays cutting run first used made)
+    failed h = record {
+      bytes = h.bytes;
+      took = h.took;
+      says = fails_find remaining source last (λ input later. EachSays (cutting_reading later) run first used made h.bytes input) (EachSays cutting run first used made h.bytes)
+          (λ input later s w is k e located report ticks. cut_before w.code (at_core k report (used + ticks)) made (report ++ h.bytes) later ticks (s w is k e located report ticks)) h.says;
+    }
+
     -- what a run from the start did
     pub ran_simulated : (stop : Stop) → IsRunResult remaining stop run first new source last (contents writer) (contents last_writer) used made → IsSimulated remaining contents text stop used reader last_reader writer last_writer
     ran_simulated Ended h = took_last Ended (finishing EndedThere) (over EndedThere) h
     ran_simulated (Fault kind line) h = took_last (Fault kind line) (finishing (FaultThere kind line)) (over (FaultThere kind line)) h
     ran_simulated Paused h = paused h.0 h.1
     ran_simulated Memory h = took_last Memory cutting cut h
-    ran_simulated Output h = took_last Output (cutting_at does_write) (λ bytes input s. cut bytes input (λ more. (s more).cut)) h
-    ran_simulated Input h = took_last Input (cutting_at does_read) (λ bytes input s. cut bytes input (λ more. (s more).cut)) h
+    ran_simulated Output h = took_last Output cutting_writing (λ bytes input s. cut bytes input (λ more. cut_so code (start code input (used + more)) made bytes more (s more))) h
+    ran_simulated Input h = took_last Input cutting cut (failed h)
     ran_simulated Failed h = absurd h
 
 none_fewer : (fewer : ℕ) → fewer < 0 → ⊥

@@ -4,9 +4,14 @@ use Rattle.std.proofs.KnownBytes.{Consumes-trans}
 use Rattle.ss_engine.proofs.Common.{HasGivenInput, IsEndKnown, Option, Source}
 use Rattle.std.specs.Io.KnownBytes.{Consumes, IsAtEnd}
 use Rattle.ss_input.specs.Inputs.{source_block, source_reader, IsAhead, HasReadInput, HasFound, IsFresh}
+use Rattle.ss_machine.specs.Runs.{HasFailedRead}
 
 none_more : (xs more : List ℕ) → xs ≡ [] → more ≡ [] → xs ++ more ≡ []
 none_more xs more e f = ap (λ l. l ++ more) e ∙ f
+
+not_both : (b : Bool) → b ≡ false → b ≡ true → ⊥
+not_both true e f = absurd cc
+not_both false e f = absurd cc
 
 module _ {R : Type 0} (remaining : R → Option (List ℕ)) (a b c : Source R) where
   -- a call that read, and one after which no more is read
@@ -18,6 +23,18 @@ module _ {R : Type 0} (remaining : R → Option (List ℕ)) (a b c : Source R) w
     says = λ more input e st.
         let first = h.says (g.got ++ more) input (λ q. let v = g.after_end q in none_more g.got more v.0 (e v.1)) (subst (λ l. IsAhead a l input) (append_assoc h.got g.got more) st) in
         join input first.rest first.says (g.says more first.rest e first.ahead);
+  }
+
+  -- a call that read, and one in which the reader failed
+  pub reads_then_fails : (S : (input rest : List ℕ) → Type 0) (T U : (input later : List ℕ) → Type 0) → ((input rest later : List ℕ) → S input rest → T rest later → U input later) → HasReadInput remaining a b S → HasFailedRead remaining b c T → HasFailedRead remaining a c U
+  reads_then_fails S T U join h g = record {
+    got = h.got ++ g.got;
+    consumed = Consumes-trans (remaining (source_reader a)) (remaining (source_reader b)) (remaining (source_reader c)) h.got g.got h.consumed g.consumed;
+    after_end = λ e. let u = h.after_end e in let v = g.after_end u.1 in (none_more h.got g.got u.0 v.0, v.1);
+    goes_on = g.goes_on;
+    says = λ later input st.
+        let first = h.says (g.got ++ later) input (λ q. let v = g.after_end q in absurd (not_both (source_block c).ended g.goes_on v.1)) (subst (λ l. IsAhead a l input) (append_assoc h.got g.got later) st) in
+        join input first.rest later first.says (g.says later first.rest first.ahead);
   }
 
   -- a call that read, and another
@@ -41,23 +58,41 @@ fresh_start reader s input f = record {
   input_is = sym (ap (λ l. l ++ input) f.left);
 }
 
-not_both : (b : Bool) → b ≡ false → b ≡ true → ⊥
-not_both true e f = absurd cc
-not_both false e f = absurd cc
-
 -- a fresh source has not met the end of its reader
 pub fresh_knows : {R : Type 0} (remaining : R → Option (List ℕ)) (reader : R) (s : Source R) → IsFresh reader s → IsEndKnown remaining (source_block s)
 fresh_knows remaining reader s f e = absurd (not_both (source_block s).ended f.not_ended e)
 
 module _ {R : Type 0} (remaining : R → Option (List ℕ)) (source last : Source R) where
+  -- what the reader of a fresh source gave
+  fresh_took : (reader last_reader : R) → IsFresh reader source → source_reader last ≡ last_reader → (got : List ℕ) → Consumes (remaining (source_reader source)) (remaining (source_reader last)) got → Consumes (remaining reader) (remaining last_reader) got
+  fresh_took reader last_reader fresh at_last got h =
+      subst (λ r. Consumes (remaining reader) (remaining r) got) at_last (subst (λ r. Consumes (remaining r) (remaining (source_reader last)) got) fresh.reader_is h)
+
   -- what holds of the input before a run holds of what the reader of a fresh source gave
   pub fresh_gave : (reader last_reader : R) → IsFresh reader source → source_reader last ≡ last_reader → IsEndKnown remaining (source_block last) → (Says Means : List ℕ → Type 0) → ((input : List ℕ) → Says input → Means input) → HasFound remaining source last Says → HasGivenInput remaining reader last_reader Means
   fresh_gave reader last_reader fresh at_last knows Says Means to f = record {
     read = f.got;
     ended = (source_block last).ended;
-    gave = subst (λ r. Consumes (remaining reader) (remaining r) f.got) at_last (subst (λ r. Consumes (remaining r) (remaining (source_reader last)) f.got) fresh.reader_is f.consumed);
+    gave = fresh_took reader last_reader fresh at_last f.got f.consumed;
     at_end = λ e. subst (λ r. IsAtEnd (remaining r)) at_last (knows e);
     says = λ more e. to (f.got ++ more) (f.says more (f.got ++ more) e (fresh_start reader source (f.got ++ more) fresh));
+  }
+
+  -- and so it does where the reader failed
+  pub fresh_failed : (reader last_reader : R) → IsFresh reader source → source_reader last ≡ last_reader → (Says Means : (input later : List ℕ) → Type 0) → ((input later : List ℕ) → Says input later → Means input later) → HasFailedRead remaining source last Says → (read : List ℕ) × Consumes (remaining reader) (remaining last_reader) read × ((later : List ℕ) → Means (read ++ later) later)
+  fresh_failed reader last_reader fresh at_last Says Means to f = (
+    f.got,
+    fresh_took reader last_reader fresh at_last f.got f.consumed,
+    λ later. to (f.got ++ later) later (f.says later (f.got ++ later) (fresh_start reader source (f.got ++ later) fresh)),
+  )
+
+  -- what is so where the reader failed, a call finds
+  pub fails_find : (Says : (input later : List ℕ) → Type 0) (Finds : List ℕ → Type 0) → ((input later : List ℕ) → Says input later → Finds input) → HasFailedRead remaining source last Says → HasFound remaining source last Finds
+  fails_find Says Finds so h = record {
+    got = h.got;
+    consumed = h.consumed;
+    after_end = h.after_end;
+    says = λ later input e st. so input later (h.says later input st);
   }
 
   -- what a call reads, it finds

@@ -27,8 +27,10 @@ pub fn sessions_are_meant<R: FaultyRead, W: FaultyWrite>()
 }
 
 /// Where memory, the reader or the writer failed, the machine of a text's code goes from its first state, with the ticks used, to
-/// a place where its report is cut to the bytes that the writer took; where the writer failed the next instruction writes,
-/// where the reader failed it reads. It says that there is such a place, and not which of several.
+/// a place where its report is cut to the bytes that the writer took. Where the writer failed the next instruction writes, and
+/// not all that it writes is in these bytes: no second place is such. Where the reader failed the next instruction reads, and
+/// what the reader gave does not settle what, whatever would come next: no second place is such either. Where memory failed it
+/// says that there is such a place, and not which of several.
 pub fn sessions_are_cut<R: FaultyRead, W: FaultyWrite>()
     ensures { (session : SessionSeen R W) (text : List ℕ) (code : Generated) (reader : R) (writer : W) (pieces : List ℕ) → IsCompiledTo text code → HasRun R.remaining R.faults W.contents W.faults code reader writer pieces session → HasBeenCut R.remaining W.contents text (last_stop (session_machine session).stopped) (session_machine session).used reader (session_reader session) writer (session_writer session) }
 {

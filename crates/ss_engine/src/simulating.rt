@@ -25,8 +25,9 @@ use std::alloc::Global;
 /// ended, a fault at its line, or paused with all ticks used. Where memory, the reader or the writer
 /// failed, the writer took the first bytes of that report, at least those that it means for a tick
 /// fewer than were used, and with these ticks used the text's code reaches a place where its report is
-/// cut so. `Output` comes only where the writer's count of failures rose in the last run, `Input` only
-/// where the reader's did. A text that is refused leaves both untouched.
+/// cut so, after `Output` within what one instruction writes, and after `Input` before one that what
+/// was read does not settle. `Output` comes only where the writer's count of failures rose in the last
+/// run, `Input` only where the reader's did. A text that is refused leaves both untouched.
 pub fn simulate<R: FaultyRead, W: FaultyWrite>(
     alloc: Global,
     text: &[u8],

@@ -27,13 +27,13 @@ pub use Rattle.ss_machine.specs.Beginning.{IsFirstState, first_here, firsts_laid
 pub use Rattle.ss_machine.specs.Counts.{HasSteps, last_steps, left_in_all, left_in_calls, reads, stop_for, takes_tick, takes_tick_at, writes}
 pub use Rattle.ss_machine.specs.Held.{IsReady}
 pub use Rattle.ss_machine.specs.Reading.{HasRead}
-pub use Rattle.ss_machine.specs.Runs.{HasCome, IsCutOfStep, IsFinished, IsLeadingTo, IsRunResult, does_read, does_write}
-pub use Rattle.ss_machine.specs.Sent.{HasTakenPart}
-pub use Rattle.ss_machine.specs.Shown.{AreShown, CanShow, CanShowOne, CanTakeAll, HasSentAll, HasSentPart, IsPrintable, IsShown}
+pub use Rattle.ss_machine.specs.Runs.{HasCome, HasFailedRead, IsCutOfStep, IsFinished, IsLeadingTo, IsRunResult, does_read, does_write}
+pub use Rattle.ss_machine.specs.Sent.{HasTakenLess, HasTakenPart}
+pub use Rattle.ss_machine.specs.Shown.{AreShown, CanShow, CanShowOne, CanTakeAll, HasSentAll, HasSentLess, HasSentPart, IsPrintable, IsShown}
 pub use Rattle.ss_machine.specs.Situations.{CanRunCode, IsCodeOf, IsHere, IsRepresented, IsSituated, Situation, situated}
 pub use Rattle.ss_machine.specs.Start.{IsAtStart}
-pub use Rattle.ss_machine.specs.Steps.{HasGoneOn, HasWalked, IsDoingSo, IsLast, IsPausedStep, IsStepResult, IsStoppedBy, IsUnmade}
-pub use Rattle.ss_machine.specs.Writing.{HasWritten, IsSending, IsUnsent}
+pub use Rattle.ss_machine.specs.Steps.{HasGoneOn, HasWalked, IsDoingSo, IsLast, IsPausedStep, IsStepResult, IsStoppedBy, IsUnmade, IsUnmadeWriting}
+pub use Rattle.ss_machine.specs.Writing.{HasWritten, IsSending}
 pub use Rattle.ss_machine.specs.declared.stop.Stop.{Stop}
 pub use Rattle.ss_machine_frames.proofs.Entering.{cut}
 pub use Rattle.ss_machine_frames.proofs.Writing.{cells_held}

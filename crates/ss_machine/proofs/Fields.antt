@@ -13,11 +13,11 @@ one_picture ps i p lt is = ap (flat_map picture_fields) (drop_more ps i p lt ∙
 
 -- ## Items that suit their fields
 
-first_true : (a b : Bool) → (a && b) ≡ true → a ≡ true
+pub first_true : (a b : Bool) → (a && b) ≡ true → a ≡ true
 first_true true b e = refl
 first_true false b e = absurd cc
 
-then_true : (a b : Bool) → (a && b) ≡ true → b ≡ true
+pub then_true : (a b : Bool) → (a && b) ≡ true → b ≡ true
 then_true true b e = e
 then_true false b e = absurd cc
 

@@ -3,7 +3,7 @@ use Rattle.std.proofs.Common.{◌≡◌, ℕ, ◌-◌, ◌≤◌, List, Option, 
 use Rattle.ss_machine.proofs.Common.{Compiled, Core, Generated, HasCome, Here, IsFinished, IsRepresented, IsRunResult, IsSituated, situated, Situation, Source, State, Stop}
 use Rattle.ss_machine.specs.declared.stop.Stop.TheVariants.{Input, Memory, Output, Ended, Fault, Paused, Failed}
 use Rattle.ss_meaning.specs.Meaning as endings
-use Rattle.ss_machine.proofs.Inputs.{reads_so, finds_so}
+use Rattle.ss_machine.proofs.Inputs.{reads_so, fails_so, finds_so}
 
 -- ## Ticks are handed out
 
@@ -38,7 +38,7 @@ module _ {R : Type 0} (remaining : R → Option (List ℕ)) (code : Generated) (
   ran_from Paused h = (comes_from h.0, h.1)
   ran_from Memory h = record { bytes = h.bytes; took = h.took; says = finds_so remaining source last _ _ (λ input g w of c e st. g w of c e (from w c st)) h.says }
   ran_from Output h = record { bytes = h.bytes; took = h.took; says = finds_so remaining source last _ _ (λ input g w of c e st. g w of c e (from w c st)) h.says }
-  ran_from Input h = record { bytes = h.bytes; took = h.took; says = finds_so remaining source last _ _ (λ input g w of c e st. g w of c e (from w c st)) h.says }
+  ran_from Input h = record { bytes = h.bytes; took = h.took; says = fails_so remaining source last _ _ (λ input more g w of c e st. g w of c e (from w c st)) h.says }
   ran_from Failed h = absurd h
 
 -- no run is ever stuck

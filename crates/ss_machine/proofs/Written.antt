@@ -7,7 +7,7 @@ use Rattle.ss_code_instructions.specs.Carried.{lines_of_running, RunningLines, k
 use Rattle.ss_code_instructions.specs.Machine.{act, values_shown, print_lines, cells_of_kinds}
 use Rattle.ss_code_instructions.specs.Shape.{IsSuited, AreFitForItems, modes_onto}
 use Rattle.ss_code_instructions.specs.States.{Breaks, Core, Moved, Rest, Sends, Stuck, did, fit, core_at, with_block, at_height}
-use Rattle.ss_machine.specs.Writing.{HasWritten, HasWrittenPart, IsSending, IsUnsent, IsSendingOn, HasStoppedWriting}
+use Rattle.ss_machine.specs.Writing.{HasWritten, HasWrittenLess, HasWrittenPart, IsSending, IsUnsent, IsSendingOn, HasStoppedWriting}
 use Rattle.ss_machine_instructions.proofs.Placing.{suits, site, located, deep_here, goes_with}
 use Rattle.ss_meaning.specs.Values.{Fails, line_end, lines_with, unless_fault, printed, take_all, empty_lines}
 use Rattle.ss_code_instructions.specs.declared.item.ItemKind.TheVariants as shows
@@ -229,15 +229,21 @@ bad_lines (negsuc k) e = refl
 -- ## Stops
 
 -- lines that were not all sent
-pub unsent : (P : Compiled → Type 0) (here : Here) (old : State) (i : Running) (before after : Option (List ℕ)) (e : Ending) (new : State) (result : Option Here) → IsUnsent e → HasWrittenPart P here old i before after → new ≡ stopped e old → result ≡ None → HasWritten P here old i before after new result
-unsent P here old i before after e new result un part is none =
+pub unsent : (P : Compiled → Type 0) (here : Here) (old : State) (i : Running) (before after : Option (List ℕ)) (e : Ending) (new : State) (result : Option Here) → IsUnsent e → HasWrittenPart P here old i before after → (e ≡ NoOutput → HasWrittenLess P here old i before after) → new ≡ stopped e old → result ≡ None → HasWritten P here old i before after new result
+unsent P here old i before after e new result un part less is none =
     subst (λ o. HasWritten P here old i before after new o) (sym none)
-    (subst (λ n. HasStoppedWriting P here old i before after n n.ending) (sym is) (by e un))
+    (subst (λ n. HasStoppedWriting P here old i before after n n.ending) (sym is) (by e un less))
   where
-    by : (e : Ending) → IsUnsent e → HasStoppedWriting P here old i before after (stopped e old) e
-    by NoMemory u = part
-    by NoOutput u = part
-    by Ended u = absurd u
-    by Paused u = absurd u
-    by Faulted u = absurd u
-    by NoInput u = absurd u
+    by : (e : Ending) → IsUnsent e → (e ≡ NoOutput → HasWrittenLess P here old i before after) → HasStoppedWriting P here old i before after (stopped e old) e
+    by NoMemory u less_so = part
+    by NoOutput u less_so = less_so refl
+    by Ended u less_so = absurd u
+    by Paused u less_so = absurd u
+    by Faulted u less_so = absurd u
+    by NoInput u less_so = absurd u
+
+-- lines of which the writer did not take all
+pub unwritten : (P : Compiled → Type 0) (here : Here) (old : State) (i : Running) (before after : Option (List ℕ)) (e : Ending) (new : State) (result : Option Here) → e ≡ NoOutput → HasWrittenLess P here old i before after → new ≡ stopped e old → result ≡ None → HasWritten P here old i before after new result
+unwritten P here old i before after e new result failed less is none =
+    subst (λ o. HasWritten P here old i before after new o) (sym none)
+    (subst (λ (n : State). HasStoppedWriting P here old i before after n n.ending) (sym (is ∙ ap (λ (k : Ending). stopped k old) failed)) less)

@@ -19,6 +19,7 @@ use Rattle.ss_machine_world.specs.Seen.{Seen, with_seen}
 use Rattle.ss_machine_world.specs.Numbers.{HasValidSubject, IsReferenceToSubject}
 use Rattle.ss_machine_frames.specs.Rows.{TwoRows}
 use Rattle.ss_machine_frames.specs.Holding.{AreValuesAt}
+use Rattle.ss_machine.specs.Sent.{HasTakenLess}
 
 -- an item that can be printed in a field that takes it
 abbrev pub IsPrintable : Item → Type 0
@@ -81,6 +82,12 @@ pub record HasSentPart (e : Seen) (r : TwoRows) (at : ℕ) (l : RunningLines) (b
   pub part : List ℕ
   pub took : Appends before after part
   pub within : (part ≡ []) ⊎ ((items : List Item) × (rest : List ℕ) × AreShown e r at l.items items × (lines_with l.pictures items ≡ part ++ rest))
+
+-- the first bytes of the lines were sent, but not all of them
+pub record HasSentLess (e : Seen) (r : TwoRows) (at : ℕ) (l : RunningLines) (before after : Option (List ℕ)) : Type 0 where
+  pub items : List Item
+  pub shown : AreShown e r at l.items items
+  pub less : HasTakenLess before after (lines_with l.pictures items)
 
 -- all lines were sent
 pub record HasSentAll (e : Seen) (r : TwoRows) (at : ℕ) (l : RunningLines) (before after : Option (List ℕ)) : Type 0 where

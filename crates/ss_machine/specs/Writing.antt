@@ -1,5 +1,5 @@
 -- What an instruction that writes does to a machine that holds a state of the definition.
-use Rattle.std.specs.Prelude.{◌≡◌, ℕ, List, [], ◌++◌, ◌⊎◌, Option, Some, None}
+use Rattle.std.specs.Prelude.{◌≡◌, ◌≢◌, ℕ, List, [], ◌++◌, ◌⊎◌, Option, Some, None}
 use Rattle.std.specs.Io.KnownBytes.{Appends, Keeps}
 use Rattle.ss_code_instructions.specs.declared.instruction.Instruction.{Instruction as Running}
 use Rattle.ss_code_instructions.specs.States.{Core, Sends, Rest, Breaks}
@@ -49,11 +49,17 @@ module _ (P : Compiled → Type 0) (here : Here) (old : State) (i : Running) (be
     pub took : Appends before after part
     pub within : (part ≡ []) ⊎ ForReady (λ w c r. (rest : List ℕ) × IsSending here old i w c r (part ++ rest))
 
+  -- it took the first of them, but not all
+  pub record HasWrittenLess : Type 0 where
+    pub part : List ℕ
+    pub took : Appends before after part
+    pub within : ForReady (λ w c r. (rest : List ℕ) × (rest ≢ []) × IsSending here old i w c r (part ++ rest))
+
   abbrev pub HasStoppedWriting : State → Ending → Type 0
   HasStoppedWriting new Faulted =
       Keeps before after × ForReady (λ w c r. act w.code r.placed.line r.placed.instruction c ≡ Rest (Breaks new.fault (line_or r.placed.line new.fault_line)))
   HasStoppedWriting new NoMemory = HasWrittenPart
-  HasStoppedWriting new NoOutput = HasWrittenPart
+  HasStoppedWriting new NoOutput = HasWrittenLess
   HasStoppedWriting new Ended = ⊥
   HasStoppedWriting new Paused = ⊥
   HasStoppedWriting new NoInput = ⊥

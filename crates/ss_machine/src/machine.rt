@@ -120,7 +120,8 @@ impl Machine {
     /// the writer's count of failures rose in this run, and `Input` only where the current instruction reads
     /// or tests its input and the reader's count did. What was written by then is the beginning of the
     /// report: at least what is written before the last tick used, and no more than what is written before
-    /// the next.
+    /// the next. After `Output` not all that the current instruction writes went out. After `Input` the bytes
+    /// that were read do not settle what the current instruction reads, and no end of the input was met.
     pub fn run<R: FaultyRead, W: FaultyWrite>(
         &mut self,
         ticks: u64,
@@ -195,7 +196,8 @@ impl Machine {
     /// The steps made since the start: each instruction that was carried out, the one that ended the
     /// program and the one that came to a fault among them. A pause is no step, nor is an instruction
     /// that ran out of memory or failed at its reader or writer. The count is exact at an end, a fault and a
-    /// pause.
+    /// pause, after `Output` where the bytes that the writer took are known, and after `Input` where those
+    /// that the reader gave are known.
     ///
     /// After u ticks there are at least u, and at most 3u + 4 times as many as there are instructions.
     pub fn steps(&self) -> u128

@@ -10,8 +10,8 @@ ghost use Rattle.ss_picture.specs.Suited.{AreSuitedItems};
 ghost use Rattle.ss_machine_instructions.specs.declared.flow.Ending.{Ending as EndingSeen};
 ghost use Rattle.ss_machine_instructions.specs.Doing.{Can, CanWhere};
 ghost use Rattle.ss_machine.specs.Reading.{IsQuiet};
-ghost use Rattle.ss_machine.specs.Sent.{HasTakenPart};
-ghost use Rattle.ss_machine.specs.Shown.{CanShow, CanTakeAll, HasSentAll, HasSentPart};
+ghost use Rattle.ss_machine.specs.Sent.{HasTakenLess, HasTakenPart};
+ghost use Rattle.ss_machine.specs.Shown.{CanShow, CanTakeAll, HasSentAll, HasSentLess, HasSentPart};
 ghost use Rattle.ss_machine.specs.Writing.{IsUnsent, HasWritten};
 ghost use Rattle.ss_machine_instructions.specs.Ways.{on_after};
 
@@ -38,6 +38,7 @@ fn print_line<W: FaultyWrite>(
     requires suited { AreSuitedItems (picture_fields picture.now) items.now }
     ensures ok { OnOk result (Appends (W.contents sink.old.writer) (W.contents sink.new.writer) (filled picture.now items.now ++ line_end ∷ [])) }
     ensures err { OnErr result (HasTakenPart (W.contents sink.old.writer) (W.contents sink.new.writer) (filled picture.now items.now ++ line_end ∷ [])) }
+    ensures less { IsErrOf result Ending.NoOutput → HasTakenLess (W.contents sink.old.writer) (W.contents sink.new.writer) (filled picture.now items.now ++ line_end ∷ []) }
     ensures unsent { (e : EndingSeen) → result ≡ Err e → IsUnsent e }
     ensures output { IsErrOf result Ending.NoOutput → HasRisen (W.faults sink.old.writer) (W.faults sink.new.writer) }
     ensures never_falls { HasRisenBy 0 (W.faults sink.old.writer) (W.faults sink.new.writer) }
@@ -62,6 +63,7 @@ fn print_lines<W: FaultyWrite>(
     requires suited { AreSuitedItems (flat_map picture_fields pictures.now) items.now }
     ensures ok { OnOk result (Appends (W.contents sink.old.writer) (W.contents sink.new.writer) (lines_with pictures.now items.now)) }
     ensures err { OnErr result (HasTakenPart (W.contents sink.old.writer) (W.contents sink.new.writer) (lines_with pictures.now items.now)) }
+    ensures less { IsErrOf result Ending.NoOutput → HasTakenLess (W.contents sink.old.writer) (W.contents sink.new.writer) (lines_with pictures.now items.now) }
     ensures unsent { (e : EndingSeen) → result ≡ Err e → IsUnsent e }
     ensures output { IsErrOf result Ending.NoOutput → HasRisen (W.faults sink.old.writer) (W.faults sink.new.writer) }
     ensures never_falls { HasRisenBy 0 (W.faults sink.old.writer) (W.faults sink.new.writer) }
@@ -90,6 +92,7 @@ fn print_from<W: FaultyWrite>(
     requires fields { CanTakeAll state.now.world state.now.rows from lines.now }
     ensures ok { OnOk result (HasSentAll state.now.world state.now.rows from lines.now (W.contents sink.old.writer) (W.contents sink.new.writer)) }
     ensures err { OnErr result (HasSentPart state.now.world state.now.rows from lines.now (W.contents sink.old.writer) (W.contents sink.new.writer)) }
+    ensures less { IsErrOf result Ending.NoOutput → HasSentLess state.now.world state.now.rows from lines.now (W.contents sink.old.writer) (W.contents sink.new.writer) }
     ensures unsent { (e : EndingSeen) → result ≡ Err e → IsUnsent e }
     ensures output { IsErrOf result Ending.NoOutput → HasRisen (W.faults sink.old.writer) (W.faults sink.new.writer) }
     ensures never_falls { HasRisenBy 0 (W.faults sink.old.writer) (W.faults sink.new.writer) }
@@ -127,7 +130,7 @@ pub(crate) fn print<W: FaultyWrite>(
 #[inline(never)]
 fn send_empty<W: FaultyWrite>(lines: usize, sink: &mut Sink<W>) -> Result<(), Ending>
     ensures ok { OnOk result (Appends (W.contents sink.old.writer) (W.contents sink.new.writer) (replicate lines line_end)) }
-    ensures err { OnErr result (HasTakenPart (W.contents sink.old.writer) (W.contents sink.new.writer) (replicate lines line_end)) }
+    ensures err { OnErr result (HasTakenLess (W.contents sink.old.writer) (W.contents sink.new.writer) (replicate lines line_end)) }
     ensures reason { (e : EndingSeen) → result ≡ Err e → e ≡ Ending.NoOutput }
     ensures risen { OnErr result (HasRisen (W.faults sink.old.writer) (W.faults sink.new.writer)) }
     ensures never_falls { HasRisenBy 0 (W.faults sink.old.writer) (W.faults sink.new.writer) }

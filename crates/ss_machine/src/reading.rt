@@ -7,7 +7,8 @@ ghost use Rattle.ss_base.specs.declared.value.Value.TheVariants.{Whole, Text};
 ghost use Rattle.ss_base.specs.Failures.{HasRisen, HasRisenBy};
 ghost use Rattle.ss_input.specs.Blocks.{IsEndKnown};
 ghost use Rattle.ss_input.specs.Inputs.{source_block, source_missed, source_reader, HasReadInput, HasFound, missed_of};
-ghost use Rattle.ss_input.specs.Words.{value_given, is_ended};
+ghost use Rattle.ss_input.specs.Sources.{IsLackingWord, MustAskMore};
+ghost use Rattle.ss_input.specs.Words.{value_given, is_ended, is_separator};
 ghost use Rattle.ss_machine_instructions.specs.Doing.{Can};
 ghost use Rattle.ss_machine.specs.Reading.{missed_by, HasRead, IsQuiet};
 ghost use Rattle.ss_machine_instructions.specs.Ways.{on_after, tested_at};
@@ -37,7 +38,7 @@ fn next_number<R: FaultyRead>(source: &mut Source<R>) -> Result<i64, Missed>
     requires { source_missed source.old ≡ None }
     ensures read { (number : ℤ) → result ≡ Ok number → HasReadInput R.remaining source.old source.new (λ input rest. value_given Integer input ≡ Ok (record { value = Whole number; rest = rest })) }
     ensures fault { (kind : FaultSeen) → result ≡ Err (Missed.Fault kind) → HasFound R.remaining source.old source.new (λ input. value_given Integer input ≡ Err kind) }
-    ensures lost { result ≡ Err Missed.Input → HasFound R.remaining source.old source.new (λ input. Unit {0}) }
+    ensures lacks { result ≡ Err Missed.Input → IsLackingWord R.remaining (source_block source.old) (source_block source.new) }
     ensures input { result ≡ Err Missed.Input → HasRisen (R.faults (source_reader source.old)) (R.faults (source_reader source.new)) }
     ensures missed { source_missed source.new ≡ missed_of result }
     ensures never_falls { HasRisenBy 0 (R.faults (source_reader source.old)) (R.faults (source_reader source.new)) }
@@ -52,7 +53,7 @@ fn next_text<R: FaultyRead>(source: &mut Source<R>) -> Result<Alpha, Missed>
     requires { source_missed source.old ≡ None }
     ensures read { (text : List ℕ) → result ≡ Ok text → HasReadInput R.remaining source.old source.new (λ input rest. value_given AlphaMode input ≡ Ok (record { value = Text text; rest = rest })) }
     ensures fault { (kind : FaultSeen) → result ≡ Err (Missed.Fault kind) → HasFound R.remaining source.old source.new (λ input. value_given AlphaMode input ≡ Err kind) }
-    ensures lost { result ≡ Err Missed.Input → HasFound R.remaining source.old source.new (λ input. Unit {0}) }
+    ensures lacks { result ≡ Err Missed.Input → IsLackingWord R.remaining (source_block source.old) (source_block source.new) }
     ensures input { result ≡ Err Missed.Input → HasRisen (R.faults (source_reader source.old)) (R.faults (source_reader source.new)) }
     ensures missed { source_missed source.new ≡ missed_of result }
     ensures never_falls { HasRisenBy 0 (R.faults (source_reader source.old)) (R.faults (source_reader source.new)) }
@@ -67,7 +68,7 @@ fn is_ended<R: FaultyRead>(source: &mut Source<R>) -> Result<bool, Missed>
     requires { source_missed source.old ≡ None }
     ensures read { (ended : Bool) → result ≡ Ok ended → HasReadInput R.remaining source.old source.new (λ input rest. (rest ≡ input) × (is_ended input ≡ Ok ended)) }
     ensures fault { (kind : FaultSeen) → result ≡ Err (Missed.Fault kind) → HasFound R.remaining source.old source.new (λ input. is_ended input ≡ Err kind) }
-    ensures lost { result ≡ Err Missed.Input → HasFound R.remaining source.old source.new (λ input. Unit {0}) }
+    ensures wants { result ≡ Err Missed.Input → MustAskMore R.remaining is_separator (source_block source.old) (source_block source.new) }
     ensures input { result ≡ Err Missed.Input → HasRisen (R.faults (source_reader source.old)) (R.faults (source_reader source.new)) }
     ensures missed { source_missed source.new ≡ missed_of result }
     ensures never_falls { HasRisenBy 0 (R.faults (source_reader source.old)) (R.faults (source_reader source.new)) }

@@ -1,8 +1,8 @@
-use Rattle.std.proofs.Common.{rules, sym, ap, subst}
+use Rattle.std.proofs.Common.{rules, Err, sym, ap, ◌∙◌, subst}
 use Rattle.ss_code_instructions.specs.declared.instruction.Instruction.TheVariants.{Print as Runs}
-use Rattle.ss_machine.proofs.Common.{CanShow, CanTakeAll, HasSentAll, HasSentPart, on_after}
+use Rattle.ss_machine.proofs.Common.{CanShow, CanTakeAll, HasSentAll, HasSentLess, HasSentPart, on_after}
 use Rattle.ss_machine.proofs.Written.{can_show, take_given, unsent}
-use Rattle.ss_machine.proofs.Sending.{Hands, all_sent, part_sent}
+use Rattle.ss_machine.proofs.Sending.{Hands, all_sent, part_sent, less_sent}
 use Rattle.ss_machine.proofs.printing.print.Goals as goal
 
 pub print_from-requires : goal.print_from-requires
@@ -36,6 +36,7 @@ returns-in-Err-clause-written g c = λ number.
     unsent (Hands c.args.here s number c.args.cell l before after) c.args.here s (Runs number c.args.cell) before after c.in-Err.ending c.stop.new.self (on_after c.args.here c.stop.result)
     (c.print_from.ensures.unsent c.in-Err.ending c.in-Err.is)
     (part_sent c.args.here s number c.args.cell l before after (subst (λ k. HasSentPart s.world s.rows k l before after) c.cell-from.ensures sent))
+    (λ failed. less_sent c.args.here s number c.args.cell l before after (subst (λ k. HasSentLess s.world s.rows k l before after) c.cell-from.ensures (c.print_from.ensures.less (c.in-Err.is ∙ ap Err failed))))
     c.stop.ensures.stopped (ap (on_after c.args.here) c.stop.ensures.none)
 
 pub returns-in-Err-clause-output : goal.returns-in-Err-clause-output

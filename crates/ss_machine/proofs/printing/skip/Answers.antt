@@ -1,9 +1,9 @@
-use Rattle.std.proofs.Common.{rules, ◌≡◌, true, replicate, inr, sym, ap, ◌∙◌, subst, w64, of_z, to_z, pos}
+use Rattle.std.proofs.Common.{rules, ◌≡◌, true, replicate, sym, ap, ◌∙◌, subst, w64, of_z, to_z, pos}
 use Rattle.std.specs.Prelude.{int_lt, ◌||◌}
-use Rattle.ss_machine.proofs.Common.{Appends, BadCount, Breaks, Compiled, HasTakenPart, HasWritten, IsSending, IsUnsent, line_end, line_or, NoOutput, on_after, Rest}
+use Rattle.ss_machine.proofs.Common.{Appends, BadCount, Breaks, Compiled, HasTakenLess, HasWritten, IsSending, line_end, line_or, NoOutput, on_after, Rest}
 use Rattle.ss_code_instructions.specs.declared.instruction.Instruction.TheVariants.{Skip as Runs}
 use Rattle.ss_machine.proofs.Known.{keeps_same}
-use Rattle.ss_machine.proofs.Written.{count_within, skip_fails, skip_sends, skip_on, few_lines, bad_lines, unsent}
+use Rattle.ss_machine.proofs.Written.{count_within, skip_fails, skip_sends, skip_on, few_lines, bad_lines, unwritten}
 use Rattle.ss_machine.proofs.printing.skip.Goals as goal
 
 abbrev None_handed : Compiled → Type 0
@@ -54,13 +54,12 @@ returns-in-Err-clause-written g c =
     let after = g.W.FaultyWrite.contents c.send_empty.new.sink.writer in
     let same : to_z w64 (of_z w64 n) ≡ n = search rules in
     let good = few_lines n k (sym same ∙ c.lines_in.ensures.number) c.lines_in.ensures.few in
-    let part : HasTakenPart before after (replicate k line_end) = search rules in
+    let less : HasTakenLess before after (replicate k line_end) = search rules in
     let failed : c.in-Err.ending ≡ NoOutput = c.send_empty.ensures.reason c.in-Err.ending c.in-Err.is in
-    unsent None_handed c.args.here s (Runs c.args.count.now) before after c.in-Err.ending c.stop.new.self (on_after c.args.here c.stop.result)
-    (subst IsUnsent (sym failed) tt)
+    unwritten None_handed c.args.here s (Runs c.args.count.now) before after c.in-Err.ending c.stop.new.self (on_after c.args.here c.stop.result) failed
     (record {
-      part = part.part;
-      took = part.took;
-      within = inr (λ w core u r. (part.rest, subst (IsSending c.args.here s (Runs c.args.count.now) w core r) part.whole (skip_sends w core c.args.here s c.args.count.now r n c.number-count.ensures (replicate k line_end) good)));
+      part = less.part;
+      took = less.took;
+      within = λ w core u r. (less.rest, less.more, subst (IsSending c.args.here s (Runs c.args.count.now) w core r) less.whole (skip_sends w core c.args.here s c.args.count.now r n c.number-count.ensures (replicate k line_end) good));
     })
     c.stop.ensures.stopped (ap (on_after c.args.here) c.stop.ensures.none)

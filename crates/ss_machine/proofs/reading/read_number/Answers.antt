@@ -3,7 +3,7 @@ use Rattle.ss_machine.proofs.Common.{Integer, on_after, put_within, value_given,
 use Rattle.ss_machine_frames.specs.Rows.{place_at, with_number}
 use Rattle.ss_code_instructions.specs.declared.instruction.Instruction.TheVariants.{Read as Runs}
 use Rattle.ss_machine.proofs.Inputs.{reads_so, finds_so}
-use Rattle.ss_machine.proofs.Worded.{read_delivers, read_on, read_fails, missed_did}
+use Rattle.ss_machine.proofs.Worded.{read_delivers, read_on, read_fails, read_unsettled, lost_in_word, missed_did}
 use Rattle.ss_machine.proofs.reading.read_number.Goals as goal
 
 pub set_number-requires : goal.set_number-requires
@@ -19,7 +19,9 @@ returns-in-Err-clause-read g c =
     (λ kind q. finds_so g.R.FaultyRead.remaining c.args.source.now c.next_number.new.source _ _
     (λ input h w core same r. read_fails w core c.args.here c.args.state.now (Runs c.args.to.now) r Integer c.args.to.now r.runs.carries (Whole (pos 0)) refl kind (subst (λ l. value_given Integer l ≡ Err kind) (sym same) h))
     (e.fault kind (c.in-Err.is ∙ ap Err q)))
-    (λ q. e.lost (c.in-Err.is ∙ ap Err q))
+    (λ q. lost_in_word g.R.FaultyRead.remaining c.args.here c.args.state.now (Runs c.args.to.now) c.args.source.now c.next_number.new.source
+    (λ w core r. read_unsettled w core c.args.here c.args.state.now (Runs c.args.to.now) r Integer c.args.to.now r.runs.carries)
+    (e.lacks (c.in-Err.is ∙ ap Err q)))
     c.unread.ensures.state (ap (on_after c.args.here) c.unread.ensures.none)
 
 pub returns-in-Ok-clause-read : goal.returns-in-Ok-clause-read

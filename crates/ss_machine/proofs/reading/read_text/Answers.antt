@@ -3,7 +3,7 @@ use Rattle.ss_base.specs.declared.layout.Mode.TheVariants.{Alpha}
 use Rattle.ss_machine.proofs.Common.{on_after, put_within, Text, value_given}
 use Rattle.ss_code_instructions.specs.declared.instruction.Instruction.TheVariants.{ReadText as Runs}
 use Rattle.ss_machine.proofs.Inputs.{reads_so, finds_so}
-use Rattle.ss_machine.proofs.Worded.{read_delivers, read_on, read_fails, missed_did}
+use Rattle.ss_machine.proofs.Worded.{read_delivers, read_on, read_fails, read_unsettled, lost_in_word, missed_did}
 use Rattle.ss_machine.proofs.reading.read_text.Goals as goal
 
 pub set_text-requires : goal.set_text-requires
@@ -19,7 +19,9 @@ returns-in-Err-clause-read g c =
     (λ kind q. finds_so g.R.FaultyRead.remaining c.args.source.now c.next_text.new.source _ _
     (λ input h w core same r. read_fails w core c.args.here c.args.state.now (Runs c.args.to.now) r Alpha c.args.to.now r.runs.carries (Text []) refl kind (subst (λ l. value_given Alpha l ≡ Err kind) (sym same) h))
     (e.fault kind (c.in-Err.is ∙ ap Err q)))
-    (λ q. e.lost (c.in-Err.is ∙ ap Err q))
+    (λ q. lost_in_word g.R.FaultyRead.remaining c.args.here c.args.state.now (Runs c.args.to.now) c.args.source.now c.next_text.new.source
+    (λ w core r. read_unsettled w core c.args.here c.args.state.now (Runs c.args.to.now) r Alpha c.args.to.now r.runs.carries)
+    (e.lacks (c.in-Err.is ∙ ap Err q)))
     c.unread.ensures.state (ap (on_after c.args.here) c.unread.ensures.none)
 
 pub returns-in-Ok-clause-read : goal.returns-in-Ok-clause-read

@@ -5,7 +5,7 @@ use Rattle.ss_machine.proofs.Common.{HasRead, is_ended, not_if, on_if_at, past, 
 use Rattle.ss_code_instructions.specs.declared.instruction.Instruction.TheVariants.{UnlessEnded as Runs}
 use Rattle.ss_machine_instructions.proofs.Placing.{on_if_is}
 use Rattle.ss_machine.proofs.Inputs.{reads_so, finds_so}
-use Rattle.ss_machine.proofs.Worded.{test_on, test_fails, missed_did, moved_to}
+use Rattle.ss_machine.proofs.Worded.{test_on, test_fails, test_unsettled, lost_in_gap, missed_did, moved_to}
 use Rattle.ss_machine.proofs.reading.unless_ended.Goals as goal
 
 -- whether one differs from the other
@@ -22,7 +22,9 @@ returns-in-Err-clause-read g c = λ skip.
     (λ kind q. finds_so g.R.FaultyRead.remaining c.args.source.now c.is_ended.new.source _ _
     (λ input h w core same r. test_fails w core c.args.here c.args.state.now (Runs skip c.args.negated) r c.args.negated skip r.runs.carries kind (subst (λ l. is_ended l ≡ Err kind) (sym same) h))
     (e.fault kind (c.in-Err.is ∙ ap Err q)))
-    (λ q. e.lost (c.in-Err.is ∙ ap Err q))
+    (λ q. lost_in_gap g.R.FaultyRead.remaining c.args.here c.args.state.now (Runs skip c.args.negated) c.args.source.now c.is_ended.new.source
+    (λ w core r. test_unsettled w core c.args.here c.args.state.now (Runs skip c.args.negated) r c.args.negated skip r.runs.carries)
+    (e.wants (c.in-Err.is ∙ ap Err q)))
     c.unread.ensures.state (ap (λ o. tested_at c.args.here o skip) c.unread.ensures.none)
 
 pub returns-in-Ok-clause-read : goal.returns-in-Ok-clause-read
