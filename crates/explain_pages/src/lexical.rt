@@ -3,6 +3,7 @@
 use crate::page::Part::{Bytes, Line, Words};
 use crate::page::{Made, Page};
 use crate::places::{Stretch, bytes_of, line_at, line_bytes, word_at};
+use ss_engine::Refusal;
 use ss_lex::{LexError, Word, tokens};
 use std::alloc::Global;
 
@@ -35,7 +36,7 @@ fn piece_length(rest: &[u8]) -> usize {
 // Whether a piece is refused by itself as the text is, or is the word that calls for pictures.
 fn is_wrong(alloc: Global, error: &LexError, piece: &[u8]) -> bool {
     match tokens(alloc, piece) {
-        Err(found) => found.number() == error.number(),
+        Err(found) => Refusal::from(found).number() == Refusal::from(*error).number(),
         Ok(all) => {
             let word = word_at(all.list(), 0);
             matches!(error, LexError::PictureCut(_))
@@ -148,7 +149,7 @@ impl Page<'_> {
 
     /// Explains a text that has no tokens.
     pub fn explain_lexical(&mut self, error: &LexError) -> Made<()> {
-        let number = error.line().0;
+        let number = Refusal::from(*error).line();
         if number > 0 {
             self.wrong_line(error, number)?;
         }

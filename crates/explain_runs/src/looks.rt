@@ -20,7 +20,10 @@ pub fn time(machine: &Machine) -> i64 {
 pub fn value(machine: &Machine, place: usize, mode: Mode) -> Option<Value> {
     let rows = &machine.state().rows;
     if place < rows.len() {
-        Some(rows.value_at(place, mode))
+        Some(match mode {
+            Mode::Integer => Value::Whole(rows.number_at(place)),
+            Mode::Alpha => Value::Text(rows.text_at(place)),
+        })
     } else {
         None
     }

@@ -13,6 +13,7 @@ use crate::used::explain_used;
 use explain_cures::syntax::{explain_depth, explain_syntax};
 use explain_pages::{Made, Page};
 use ss_check_rules::{CheckError, judge};
+use ss_engine::Refusal;
 use ss_lex::{LexError, Tokens, tokens};
 use ss_names_declarations::Breach;
 use ss_parse::{ParseError, Reach, parse, reach_of};
@@ -34,8 +35,8 @@ impl Wrong {
     /// The number of the refusal.
     pub fn number(&self) -> u32 {
         match self {
-            Wrong::Lexed(error) => error.number(),
-            Wrong::Parsed(error) => error.number(),
+            Wrong::Lexed(error) => Refusal::from(*error).number(),
+            Wrong::Parsed(error) => Refusal::from(*error).number(),
             Wrong::Declared(error) => Breach::order_of(error).0,
             Wrong::Used(error) => used_number(error),
         }
