@@ -1,12 +1,10 @@
 -- The first of a line goes out: the slots once its slot is free.
-use Rattle.std.proofs.Common.{◌≡◌, ◌≢◌, ◌⊎◌, ℕ, ◌+◌, ◌-◌, ◌<◌, ◌≤◌, ℤ, int_eq, false, List, ◌∷◌, length, get_or, take, refl, sym, ap, subst, ◌∙◌, ⊎_elim, inl, inr, arith}
-use Rattle.ss_events_entries.proofs.Common.{AreHeld, at_put, cases_eq, Entry, entry_at, entry_in, followers, following, get_or-set_other, get_or-set_same, get_or-take, heads, HeapNode, ints, IsBefore, IsGuess, IsPermutation, IsTaken, length-set, length-take-le, no_entry, no_node, no_slot, node, same_lists, slice_index_or, slice_set, Slot, slot_at, SlotDirectory}
+use Rattle.std.proofs.Common.{◌≡◌, ◌≢◌, ℕ, ◌+◌, ◌<◌, ◌≤◌, ℤ, List, ◌∷◌, length, get_or, take, refl, sym, ap, subst, ◌∙◌, ⊎_elim, inl, inr, arith}
+use Rattle.ss_events_entries.proofs.Common.{AreHeld, at_put, cases_eq, Entry, entry_at, entry_in, followers, following, get_or-set_other, get_or-set_same, get_or-take, heads, HeapNode, IsBefore, IsGuess, IsPermutation, IsTaken, length-set, length-take-le, no_entry, no_node, no_slot, node, slice_index_or, slice_set, Slot, slot_at, SlotDirectory}
 use Rattle.ss_events_entries.proofs.Marks.{in-plain, plain_differs}
-use Rattle.ss_events_entries.proofs.HeadsAndFollowers.{slot_at-same, slot_at-other, long_heads, head_at, follower, followers-placed, followers-left}
-use Rattle.ss_events_entries.proofs.Released.{freed, freed-same, freed-other, freed-long, room_of_follower, fits-released, distinct-released, led-released}
-
-pub differ : (m n : ℤ) → m ≢ n → int_eq m n ≡ false
-differ m n h = grind (arith, ints)
+use Rattle.ss_events_entries.proofs.HeadsAndFollowers.{slot_at-same, slot_at-other, long_heads, head_at, follower, followers-placed, followers-left, heads_are}
+use Rattle.ss_events_entries.proofs.Released.{freed, freed-same, freed-other, freed-long, room_of_follower}
+use Rattle.ss_events_entries.proofs.Parts.{taken_as, not_taken, unplaced, at_put_same, ArePlaced, there_by, back_by, marked_by, AreLined, next_by, before_as, held_of, noted_kept, led_without}
 
 module _ (count free : ℕ) (slots : List Slot) (wholes : List Entry) (nodes : List HeapNode) (d : SlotDirectory) (h : AreHeld count free slots wholes nodes d) where
   -- ---- the first of a line goes, and the next comes into its place
@@ -79,57 +77,51 @@ module _ (count free : ℕ) (slots : List Slot) (wholes : List Entry) (nodes : L
     pub advanced_long : length advanced ≡ length slots
     advanced_long = length-set raised_slots head (record (slot_at raised_slots head) { at = spare }) ∙ raised_slots_long
 
-    advanced_head : (slot_at advanced head).at ≡ spare
-    advanced_head = ap (λ (x : Slot). x.at) (slot_at-same raised_slots head (record (slot_at raised_slots head) { at = spare }) (omega (arith, head_there.0, raised_slots_long)))
+    head_in : head < length raised_slots
+    head_in = omega (arith, head_there.0, raised_slots_long)
 
-    raised_second : slot_at raised_slots second ≡ record (slot_at slots second) { at = k }
-    raised_second = slot_at-same slots second (record (slot_at slots second) { at = k }) second_there.0
+    -- nothing but the places of slots is another then
+    advanced_same : (u : ℕ) → unplaced (slot_at advanced u) ≡ unplaced (slot_at slots u)
+    advanced_same u = at_put_same raised_slots head spare u head_in ∙ at_put_same slots second k u second_there.0
 
-    raised_other : (u : ℕ) → u ≢ second → slot_at raised_slots u ≡ slot_at slots u
-    raised_other u other = slot_at-other slots second u (record (slot_at slots second) { at = k }) other
+    advanced_mark : (u : ℕ) → (slot_at advanced u).mark ≡ (slot_at slots u).mark
+    advanced_mark u = ap (λ (x : Slot). x.mark) (advanced_same u)
 
-    advanced_other : (u : ℕ) → u ≢ head → slot_at advanced u ≡ slot_at raised_slots u
-    advanced_other u other = slot_at-other raised_slots head u (record (slot_at raised_slots head) { at = spare }) other
+    advanced_next : (u : ℕ) → (slot_at advanced u).next ≡ (slot_at slots u).next
+    advanced_next u = ap (λ (x : Slot). x.next) (advanced_same u)
 
-    -- the contents of another slot
-    abbrev IsSecond : ℕ → Type 0
-    IsSecond u = (u ≡ second) × (slot_at advanced u ≡ record (slot_at slots u) { at = k })
+    entry_advanced : (u : ℕ) → entry_at advanced wholes u ≡ entry_at slots wholes u
+    entry_advanced u = ap (λ (x : Slot). entry_in x.mark x.notice (slice_index_or wholes u no_entry)) (advanced_same u)
 
-    abbrev IsSame : ℕ → Type 0
-    IsSame u = (u ≢ second) × (slot_at advanced u ≡ slot_at slots u)
+    at_head : (slot_at advanced head).at ≡ spare
+    at_head = ap (λ (x : Slot). x.at) (slot_at-same raised_slots head (record (slot_at raised_slots head) { at = spare }) head_in)
 
-    moved_or_not : (u : ℕ) → u ≢ head → IsSecond u ⊎ IsSame u
-    moved_or_not u other = ⊎_elim
-        (λ e. inl (e, subst (λ v. slot_at advanced v ≡ record (slot_at slots v) { at = k }) (sym e) (advanced_other second second_other ∙ raised_second)))
-        (λ apart. inr (apart, advanced_other u other ∙ raised_other u apart))
-        (cases_eq u second)
+    at_second : (slot_at advanced second).at ≡ k
+    at_second =
+        ap (λ (x : Slot). x.at) (slot_at-other raised_slots head second (record (slot_at raised_slots head) { at = spare }) second_other)
+        ∙ ap (λ (x : Slot). x.at) (slot_at-same slots second (record (slot_at slots second) { at = k }) second_there.0)
 
-    advanced_mark : (u : ℕ) → u ≢ head → (slot_at advanced u).mark ≡ (slot_at slots u).mark
-    advanced_mark u other = ⊎_elim (λ m. ap (λ (x : Slot). x.mark) m.1) (λ m. ap (λ (x : Slot). x.mark) m.1) (moved_or_not u other)
+    at_else : (u : ℕ) → u ≢ head → u ≢ second → (slot_at advanced u).at ≡ (slot_at slots u).at
+    at_else u other apart =
+        ap (λ (x : Slot). x.at) (slot_at-other raised_slots head u (record (slot_at raised_slots head) { at = spare }) other)
+        ∙ ap (λ (x : Slot). x.at) (slot_at-other slots second u (record (slot_at slots second) { at = k }) apart)
 
-    advanced_notice : (u : ℕ) → u ≢ head → (slot_at advanced u).notice ≡ (slot_at slots u).notice
-    advanced_notice u other = ⊎_elim (λ m. ap (λ (x : Slot). x.notice) m.1) (λ m. ap (λ (x : Slot). x.notice) m.1) (moved_or_not u other)
-
-    advanced_next : (u : ℕ) → u ≢ head → (slot_at advanced u).next ≡ (slot_at slots u).next
-    advanced_next u other = ⊎_elim (λ m. ap (λ (x : Slot). x.next) m.1) (λ m. ap (λ (x : Slot). x.next) m.1) (moved_or_not u other)
-
-    advanced_taken : (u : ℕ) → u < length slots → IsTaken count (slot_at advanced u) → (u ≢ head) × IsTaken count (slot_at slots u)
+    advanced_taken : (u : ℕ) → u < length advanced → IsTaken count (slot_at advanced u) → (u < length slots) × (u ≢ head) × IsTaken count (slot_at slots u)
     advanced_taken u u_in is =
-        let other : u ≢ head = (λ e.
-        let here : (slot_at advanced u).at ≡ spare = ap (λ v. (slot_at advanced v).at) e ∙ advanced_head in
-        ⊎_elim (λ lt. omega (arith, lt, here)) (λ ge. omega (arith, ge, here, spare_apart)) is) in (
+        let other : u ≢ head = (λ e. not_taken count spare (slot_at advanced u) (ap (λ v. (slot_at advanced v).at) e ∙ at_head) (omega arith) spare_apart is) in (
+          omega (arith, u_in, advanced_long),
           other,
           ⊎_elim
-              (λ m. inr (omega (arith, second_follows, ap (λ v. (slot_at slots v).at) m.0)))
-              (λ m. subst (λ x. IsTaken count x) m.1 is)
-              (moved_or_not u other),
+              (λ e. inr (omega (arith, second_follows, ap (λ v. (slot_at slots v).at) e)))
+              (λ apart. taken_as count (slot_at slots u) (slot_at advanced u) (sym (at_else u other apart)) is)
+              (cases_eq u second),
         )
 
     taken_advanced : (u : ℕ) → u ≢ head → IsTaken count (slot_at slots u) → IsTaken count (slot_at advanced u)
     taken_advanced u other is = ⊎_elim
-        (λ m. inl (omega (arith, k_in, ap (λ (x : Slot). x.at) m.1)))
-        (λ m. subst (λ x. IsTaken count x) (sym m.1) is)
-        (moved_or_not u other)
+        (λ e. inl (omega (arith, k_in, ap (λ v. (slot_at advanced v).at) e, at_second)))
+        (λ apart. taken_as count (slot_at advanced u) (slot_at slots u) (at_else u other apart) is)
+        (cases_eq u second)
 
     -- which slot is in which place
     nodes_spare : (node advanced_nodes spare).slot ≡ head
@@ -150,103 +142,69 @@ module _ (count free : ℕ) (slots : List Slot) (wholes : List Entry) (nodes : L
     elsewhere_apart : (j : ℕ) → j < count + free → (node nodes j).slot ≢ second
     elsewhere_apart j j_in e = omega (arith, (h.there j j_in).1, ap (λ u. (slot_at slots u).at) e, second_follows, j_in, spare_apart)
 
-    there_advanced : (j : ℕ) → j < count + (free + 1) → ((node advanced_nodes j).slot < length advanced) × ((slot_at advanced (node advanced_nodes j).slot).at ≡ j)
-    there_advanced j j_in =
-        let by_slot : (u : ℕ) → (node advanced_nodes j).slot ≡ u → u < length slots → (slot_at advanced u).at ≡ j → ((node advanced_nodes j).slot < length advanced) × ((slot_at advanced (node advanced_nodes j).slot).at ≡ j)
-        = (λ u e u_in at. (omega (arith, e, u_in, advanced_long), ap (λ v. (slot_at advanced v).at) e ∙ at)) in
-        ⊎_elim
-        (λ e. by_slot head (ap (λ i. (node advanced_nodes i).slot) e ∙ nodes_spare) head_there.0 (advanced_head ∙ sym e))
-        (λ other. ⊎_elim
-        (λ e.
-        by_slot second (ap (λ i. (node advanced_nodes i).slot) e ∙ ap (λ (x : HeapNode). x.slot) nodes_put_there) second_there.0
-        (ap (λ (x : Slot). x.at) (advanced_other second second_other ∙ raised_second) ∙ sym e))
-        (λ apart.
-        let lt : j < count + free = omega (arith, j_in, other) in
-        let u = (node nodes j).slot in
-        by_slot u (ap (λ (x : HeapNode). x.slot) (nodes_elsewhere j other apart)) (h.there j lt).0
-        (ap (λ (x : Slot). x.at) (advanced_other u (elsewhere_other j lt apart) ∙ raised_other u (elsewhere_apart j lt)) ∙ (h.there j lt).1))
-        (cases_eq j k))
-        (cases_eq j spare)
+    placed : ArePlaced count (free + 1) advanced advanced_nodes
+    placed = record {
+      many = nodes_long ∙ h.many ∙ sym advanced_long;
+      few = omega (arith, room_spare, nodes_long);
+      small = omega (arith, advanced_long, h.small);
+      there = λ j j_in. ⊎_elim
+          (λ e. there_by advanced advanced_nodes j head (ap (λ i. (node advanced_nodes i).slot) e ∙ nodes_spare) (omega (arith, head_there.0, advanced_long)) (at_head ∙ sym e))
+          (λ other. ⊎_elim
+          (λ e.
+          there_by advanced advanced_nodes j second (ap (λ i. (node advanced_nodes i).slot) e ∙ ap (λ (x : HeapNode). x.slot) nodes_put_there) (omega (arith, second_there.0, advanced_long)) (at_second ∙ sym e))
+          (λ apart.
+          let lt : j < count + free = omega (arith, j_in, other) in
+          let u = (node nodes j).slot in
+          there_by advanced advanced_nodes j u (ap (λ (x : HeapNode). x.slot) (nodes_elsewhere j other apart)) (omega (arith, (h.there j lt).0, advanced_long))
+          (at_else u (elsewhere_other j lt apart) (elsewhere_apart j lt) ∙ (h.there j lt).1))
+          (cases_eq j k))
+          (cases_eq j spare);
+      back = λ u u_in lt. ⊎_elim
+          (λ e. back_by (count + (free + 1)) advanced advanced_nodes u spare (ap (λ v. (slot_at advanced v).at) e ∙ at_head) (omega arith) (nodes_spare ∙ sym e))
+          (λ other. ⊎_elim
+          (λ e.
+          back_by (count + (free + 1)) advanced advanced_nodes u k (ap (λ v. (slot_at advanced v).at) e ∙ at_second) (omega (arith, k_in)) (ap (λ (x : HeapNode). x.slot) nodes_put_there ∙ sym e))
+          (λ apart.
+          let same = at_else u other apart in
+          let was = h.back u (omega (arith, u_in, advanced_long)) (omega (arith, lt, same)) in
+          let j = (slot_at slots u).at in
+          back_by (count + (free + 1)) advanced advanced_nodes u j same (omega (arith, was.0))
+          (ap (λ (x : HeapNode). x.slot) (nodes_elsewhere j (λ e. omega (arith, e, was.0)) (λ e. other (sym was.1 ∙ ap (λ i. (node nodes i).slot) e))) ∙ was.1))
+          (cases_eq u second))
+          (cases_eq u head);
+      marked = λ j j_in. ⊎_elim
+          (λ e.
+          let is : node advanced_nodes j ≡ comes = ap (node advanced_nodes) e ∙ nodes_put_there in
+          ap (λ (x : HeapNode). x.mark) is ∙ sym (advanced_mark second) ∙ ap (λ (x : HeapNode). (slot_at advanced x.slot).mark) (sym is))
+          (λ apart. marked_by slots advanced nodes advanced_nodes j j (nodes_elsewhere j (λ e. omega (arith, e, j_in)) apart) (advanced_mark (node nodes j).slot) (h.marked j j_in))
+          (cases_eq j k);
+    }
 
-    back_advanced : (u : ℕ) → u < length advanced → (slot_at advanced u).at < following → ((slot_at advanced u).at < count + (free + 1)) × ((node advanced_nodes (slot_at advanced u).at).slot ≡ u)
-    back_advanced u u_in lt =
-        let by_place : (j : ℕ) → (slot_at advanced u).at ≡ j → j < count + (free + 1) → (node advanced_nodes j).slot ≡ u → ((slot_at advanced u).at < count + (free + 1)) × ((node advanced_nodes (slot_at advanced u).at).slot ≡ u)
-        = (λ j e j_in is. (omega (arith, e, j_in), ap (λ i. (node advanced_nodes i).slot) e ∙ is)) in
-        ⊎_elim
-        (λ e. by_place spare (ap (λ v. (slot_at advanced v).at) e ∙ advanced_head) (omega arith) (nodes_spare ∙ sym e))
-        (λ other. ⊎_elim
-        (λ m. by_place k (ap (λ (x : Slot). x.at) m.1) (omega (arith, k_in)) (ap (λ (x : HeapNode). x.slot) nodes_put_there ∙ sym m.0))
-        (λ m.
-        let same = ap (λ (x : Slot). x.at) m.1 in
-        let was = h.back u (omega (arith, u_in, advanced_long)) (omega (arith, lt, same)) in
-        let j = (slot_at slots u).at in
-        by_place j same (omega (arith, was.0))
-        (ap (λ (x : HeapNode). x.slot) (nodes_elsewhere j (λ e. omega (arith, e, was.0)) (λ e. other (sym was.1 ∙ ap (λ i. (node nodes i).slot) e))) ∙ was.1))
-        (moved_or_not u other))
-        (cases_eq u head)
-
-    marked_advanced : (j : ℕ) → j < count → (node advanced_nodes j).mark ≡ (slot_at advanced (node advanced_nodes j).slot).mark
-    marked_advanced j j_in = ⊎_elim
-        (λ e.
-        let is : node advanced_nodes j ≡ comes = ap (node advanced_nodes) e ∙ nodes_put_there in
-        ap (λ (x : HeapNode). x.mark) is ∙ sym (advanced_mark second second_other) ∙ ap (λ (x : HeapNode). (slot_at advanced x.slot).mark) (sym is))
-        (λ apart.
-        let same = nodes_elsewhere j (λ e. omega (arith, e, j_in)) apart in
-        ap (λ (x : HeapNode). x.mark) same ∙ h.marked j j_in ∙ sym (advanced_mark (node nodes j).slot (elsewhere_other j (omega (arith, j_in)) apart))
-        ∙ ap (λ (x : HeapNode). (slot_at advanced x.slot).mark) (sym same))
-        (cases_eq j k)
-
-    next_advanced : (u : ℕ) → u < length advanced → IsTaken count (slot_at advanced u) → (slot_at advanced u).next ≢ no_slot → ((slot_at advanced u).next < length advanced) × ((slot_at advanced (slot_at advanced u).next).at ≡ following + u)
-    next_advanced u u_in is some =
-        let within : u < length slots = omega (arith, u_in, advanced_long) in
-        let was = advanced_taken u within is in
-        let e = advanced_next u was.0 in
-        let v = (slot_at slots u).next in
-        let it = h.next u within was.1 (λ none. some (e ∙ none)) in
-        let v_other : v ≢ head = (λ same. omega (arith, it.1, head_low, ap (λ w. (slot_at slots w).at) same)) in
-        let v_apart : v ≢ second = (λ same. was.0 (omega (arith, it.1, second_there.1, ap (λ w. (slot_at slots w).at) same))) in (
-          omega (arith, e, it.0, advanced_long),
-          ap (λ w. (slot_at advanced w).at) e ∙ ap (λ (x : Slot). x.at) (advanced_other v v_other ∙ raised_other v v_apart) ∙ it.1,
-        )
-
-    before_advanced : (u r : ℕ) → u < length advanced → (slot_at advanced u).at ≡ following + r → IsBefore count advanced r u
-    before_advanced u r u_in at =
-        let within : u < length slots = omega (arith, u_in, advanced_long) in
-        let other : u ≢ head = (λ e. omega (arith, at, ap (λ v. (slot_at advanced v).at) e ∙ advanced_head, spare_apart)) in
-        ⊎_elim
-        (λ m. absurd (omega (arith, at, ap (λ (x : Slot). x.at) m.1, k_apart)))
-        (λ m.
-        let b = h.before u r within (sym (ap (λ (x : Slot). x.at) m.1) ∙ at) in
-        let r_other : r ≢ head = (λ e. m.0 (sym b.next ∙ ap (λ v. (slot_at slots v).next) e)) in
-        record {
-          within = omega (arith, b.within, advanced_long);
-          taken = taken_advanced r r_other b.taken;
-          next = advanced_next r r_other ∙ b.next;
-          time = ap (λ m. m.time) (advanced_mark r r_other) ∙ b.time ∙ sym (ap (λ m. m.time) (advanced_mark u other));
-          order = omega (arith, b.order, ap (λ m. m.order) (advanced_mark r r_other), ap (λ m. m.order) (advanced_mark u other));
-          plain = omega (arith, b.plain, ap (λ m. m.order) (advanced_mark u other));
-        })
-        (moved_or_not u other)
+    lined : AreLined count advanced
+    lined = record {
+      next = λ u u_in is some.
+          let was = advanced_taken u u_in is in
+          let e = advanced_next u in
+          let v = (slot_at slots u).next in
+          let it = h.next u was.0 was.2 (λ none. some (e ∙ none)) in
+          let v_other : v ≢ head = (λ same. omega (arith, it.1, head_low, ap (λ w. (slot_at slots w).at) same)) in
+          let v_apart : v ≢ second = (λ same. was.1 (omega (arith, it.1, second_there.1, ap (λ w. (slot_at slots w).at) same))) in
+          next_by advanced u v e (omega (arith, it.0, advanced_long)) (at_else v v_other v_apart ∙ it.1);
+      before = λ u r u_in at.
+          let within : u < length slots = omega (arith, u_in, advanced_long) in
+          let other : u ≢ head = (λ e. omega (arith, at, ap (λ v. (slot_at advanced v).at) e, at_head, spare_apart)) in
+          let apart : u ≢ second = (λ e. omega (arith, at, ap (λ v. (slot_at advanced v).at) e, at_second, k_apart)) in
+          let b = h.before u r within (sym (at_else u other apart) ∙ at) in
+          let r_other : r ≢ head = (λ e. apart (sym b.next ∙ ap (λ v. (slot_at slots v).next) e)) in
+          before_as count count slots advanced r u (omega (arith, advanced_long)) b (taken_advanced r r_other b.taken) (advanced_next r) (advanced_mark r) (advanced_mark u);
+    }
 
     module _ (g : SlotDirectory) (others : (m : ℤ) (t : ℕ) → m ≢ (slot_at slots head).notice → t ≢ head → IsGuess d m t → IsGuess g m t) where
       -- each slot then
       pub held-advanced : AreHeld count (free + 1) advanced wholes advanced_nodes g
-      held-advanced = record {
-        many = nodes_long ∙ h.many ∙ sym advanced_long;
-        few = omega (arith, room_spare, nodes_long);
-        small = omega (arith, advanced_long, h.small);
-        there = there_advanced;
-        back = back_advanced;
-        marked = marked_advanced;
-        fits = fits-released count free slots wholes nodes d h count advanced wholes g head advanced_long advanced_mark advanced_notice (λ t _. refl) advanced_taken head_there.0 head_taken others;
-        next = next_advanced;
-        before = before_advanced;
-        distinct = distinct-released count free slots wholes nodes d h count advanced wholes g head advanced_long advanced_mark advanced_notice (λ t _. refl) advanced_taken head_there.0 head_taken others;
-        led = led-released count free slots wholes nodes d h count advanced wholes g head advanced_long advanced_mark advanced_notice (λ t _. refl) advanced_taken head_there.0 head_taken others;
-      }
-
-    entry_advanced : (u : ℕ) → u ≢ head → entry_at advanced wholes u ≡ entry_at slots wholes u
-    entry_advanced u other = λ i. entry_in (advanced_mark u other i) (advanced_notice u other i) (slice_index_or wholes u no_entry)
+      held-advanced =
+          held_of placed lined
+          (noted_kept h count advanced wholes g head advanced_taken (λ u _ _. advanced_mark u) (λ u _ _. ap (λ (x : Slot). x.notice) (advanced_same u)) (λ u _. refl) (led_without h g head head_there.0 head_taken others))
 
     -- the next is a plain entry
     second_plain : entry_at slots wholes second ≡ follower (slot_at slots second)
@@ -255,22 +213,18 @@ module _ (count free : ℕ) (slots : List Slot) (wholes : List Entry) (nodes : L
     pub heads-advanced : heads count advanced wholes advanced_nodes ≡ slice_set (heads count slots wholes nodes) k (follower (slot_at slots second))
     heads-advanced =
         let few : count ≤ length nodes = omega (arith, h.few) in
-        let few_then : count ≤ length advanced_nodes = omega (arith, few, nodes_long) in
         let old = heads count slots wholes nodes in
         let e = follower (slot_at slots second) in
-        let long_old = long_heads count slots wholes nodes few in
-        let long_new = long_heads count advanced wholes advanced_nodes few_then in
-        same_lists (heads count advanced wholes advanced_nodes) (slice_set old k e) (long_new ∙ sym long_old ∙ sym (length-set old k e))
-        (λ j c j_then.
-        let j_in : j < count = omega (arith, j_then, long_new) in
-        head_at count advanced wholes advanced_nodes few_then j c j_in ∙ ⊎_elim
+        let long = long_heads count slots wholes nodes few in
+        heads_are count advanced wholes advanced_nodes (omega (arith, few, nodes_long)) (slice_set old k e) (length-set old k e ∙ long)
+        (λ j c j_in. ⊎_elim
         (λ is.
         ap (λ (x : HeapNode). entry_at advanced wholes x.slot) (ap (node advanced_nodes) is ∙ nodes_put_there)
-        ∙ entry_advanced second second_other ∙ second_plain
-        ∙ sym (ap (λ i. get_or (slice_set old k e) i c) is ∙ get_or-set_same old k e c (omega (arith, k_in, long_old))))
+        ∙ entry_advanced second ∙ second_plain
+        ∙ sym (ap (λ i. get_or (slice_set old k e) i c) is ∙ get_or-set_same old k e c (omega (arith, k_in, long))))
         (λ apart.
         ap (λ (x : HeapNode). entry_at advanced wholes x.slot) (nodes_elsewhere j (λ e. omega (arith, e, j_in)) apart)
-        ∙ entry_advanced (node nodes j).slot (elsewhere_other j (omega (arith, j_in)) apart)
+        ∙ entry_advanced (node nodes j).slot
         ∙ sym (head_at count slots wholes nodes few j c j_in)
         ∙ sym (get_or-set_other old k j e c apart))
         (cases_eq j k))
@@ -278,9 +232,9 @@ module _ (count free : ℕ) (slots : List Slot) (wholes : List Entry) (nodes : L
     -- and one follower less
     pub followers-advanced : IsPermutation (followers slots) (follower (slot_at slots second) ∷ followers advanced)
     followers-advanced =
-        let same = raised_other head (λ e. second_other (sym e)) in
+        let same : slot_at raised_slots head ≡ slot_at slots head = slot_at-other slots second head (record (slot_at slots second) { at = k }) (λ e. second_other (sym e)) in
         subst (λ l. IsPermutation (followers slots) (follower (slot_at slots second) ∷ l))
-        (sym (followers-placed raised_slots head (record (slot_at raised_slots head) { at = spare }) (omega (arith, head_there.0, raised_slots_long)) (omega (arith, head_low, ap (λ (x : Slot). x.at) same)) spare_apart))
+        (sym (followers-placed raised_slots head (record (slot_at raised_slots head) { at = spare }) head_in (omega (arith, head_low, ap (λ (x : Slot). x.at) same)) spare_apart))
         (followers-left slots second (record (slot_at slots second) { at = k }) second_there.0 second_follows k_apart)
 
   -- ---- the first of the last line goes, which has no other
@@ -296,11 +250,10 @@ module _ (count free : ℕ) (slots : List Slot) (wholes : List Entry) (nodes : L
     last_apart : n < following
     last_apart = omega (arith, one, h.few, h.many, h.small)
 
-    dropped_taken : (t : ℕ) → t < length slots → IsTaken n (slot_at slots t) → (t ≢ s) × IsTaken count (slot_at slots t)
+    dropped_taken : (t : ℕ) → t < length slots → IsTaken n (slot_at slots t) → (t < length slots) × (t ≢ s) × IsTaken count (slot_at slots t)
     dropped_taken t t_in is = (
-      (λ e.
-          let here : (slot_at slots t).at ≡ n = ap (λ u. (slot_at slots u).at) e ∙ last_there.1 in
-          ⊎_elim (λ lt. omega (arith, lt, here)) (λ ge. omega (arith, ge, here, last_apart)) is),
+      t_in,
+      (λ e. not_taken n n (slot_at slots t) (ap (λ u. (slot_at slots u).at) e ∙ last_there.1) (omega arith) last_apart is),
       ⊎_elim (λ lt. inl (omega (arith, lt, one))) (λ ge. inr ge) is,
     )
 
@@ -315,47 +268,41 @@ module _ (count free : ℕ) (slots : List Slot) (wholes : List Entry) (nodes : L
         (λ ge. inr ge)
         is
 
-    before_dropped : (t p : ℕ) → t < length slots → (slot_at slots t).at ≡ following + p → IsBefore n slots p t
-    before_dropped t p t_in at =
-        let b = h.before t p t_in at in record {
-          within = b.within;
-          taken = taken_dropped p b.within (λ e. omega (arith, t_in, h.small, sym b.next ∙ ap (λ u. (slot_at slots u).next) e ∙ none)) b.taken;
-          next = b.next;
-          time = b.time;
-          order = b.order;
-          plain = b.plain;
-        }
+    placed_dropped : ArePlaced n (free + 1) slots nodes
+    placed_dropped = record {
+      many = h.many;
+      few = omega (arith, h.few, one);
+      small = h.small;
+      there = λ k k_in. h.there k (omega (arith, k_in, one));
+      back = λ t t_in lt. let was = h.back t t_in lt in (omega (arith, was.0, one), was.1);
+      marked = λ k k_in. h.marked k (omega (arith, k_in, one));
+    }
+
+    lined_dropped : AreLined n slots
+    lined_dropped = record {
+      next = λ t t_in is. h.next t t_in (dropped_taken t t_in is).2;
+      before = λ t p t_in at.
+          let b = h.before t p t_in at in
+          let other : p ≢ s = (λ e. omega (arith, t_in, h.small, sym b.next ∙ ap (λ u. (slot_at slots u).next) e ∙ none)) in
+          before_as count n slots slots p t (omega arith) b (taken_dropped p b.within other b.taken) refl refl refl;
+    }
 
     module _ (g : SlotDirectory) (others : (m : ℤ) (t : ℕ) → m ≢ (slot_at slots s).notice → t ≢ s → IsGuess d m t → IsGuess g m t) where
       -- each slot then
       pub held-dropped : AreHeld n (free + 1) slots vs nodes g
-      held-dropped = record {
-        many = h.many;
-        few = omega (arith, h.few, one);
-        small = h.small;
-        there = λ k k_in. h.there k (omega (arith, k_in, one));
-        back = λ t t_in lt. let was = h.back t t_in lt in (omega (arith, was.0, one), was.1);
-        marked = λ k k_in. h.marked k (omega (arith, k_in, one));
-        fits = fits-released count free slots wholes nodes d h n slots vs g s refl (λ t _. refl) (λ t _. refl) same dropped_taken last_there.0 last_taken others;
-        next = λ t t_in is. h.next t t_in (dropped_taken t t_in is).1;
-        before = before_dropped;
-        distinct = distinct-released count free slots wholes nodes d h n slots vs g s refl (λ t _. refl) (λ t _. refl) same dropped_taken last_there.0 last_taken others;
-        led = led-released count free slots wholes nodes d h n slots vs g s refl (λ t _. refl) (λ t _. refl) same dropped_taken last_there.0 last_taken others;
-      }
+      held-dropped =
+          held_of placed_dropped lined_dropped
+          (noted_kept h n slots vs g s dropped_taken (λ t _ _. refl) (λ t _ _. refl) same (led_without h g s last_there.0 last_taken others))
 
     pub heads-dropped : heads n slots vs nodes ≡ take n (heads count slots wholes nodes)
     heads-dropped =
         let few : count ≤ length nodes = omega (arith, h.few) in
-        let few_then : n ≤ length nodes = omega (arith, few, one) in
         let old = heads count slots wholes nodes in
-        let long_old = long_heads count slots wholes nodes few in
-        let long_new = long_heads n slots vs nodes few_then in
-        same_lists (heads n slots vs nodes) (take n old) (long_new ∙ sym (length-take-le n old (omega (arith, long_old, one))))
-        (λ j c j_then.
-        let j_in : j < n = omega (arith, j_then, long_new) in
+        let long = long_heads count slots wholes nodes few in
+        heads_are n slots vs nodes (omega (arith, few, one)) (take n old) (length-take-le n old (omega (arith, long, one)))
+        (λ j c j_in.
         let u = (node nodes j).slot in
         let other : u ≢ s = (λ e. omega (arith, (h.there j (omega (arith, j_in, one))).1, last_there.1, j_in, ap (λ v. (slot_at slots v).at) e)) in
-        head_at n slots vs nodes few_then j c j_in
-        ∙ ap (λ w. entry_in (slot_at slots u).mark (slot_at slots u).notice w) (same u other)
+        ap (λ w. entry_in (slot_at slots u).mark (slot_at slots u).notice w) (same u other)
         ∙ sym (head_at count slots wholes nodes few j c (omega (arith, j_in, one)))
         ∙ sym (get_or-take n old j c j_in))

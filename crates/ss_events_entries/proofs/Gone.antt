@@ -1,14 +1,13 @@
--- A head that went out of its place, and whether a follower has a notice.
-use Rattle.std.proofs.Common.{◌≡◌, ◌≢◌, ◌⊎◌, ℕ, ◌+◌, ◌<◌, ◌≤◌, ℤ, pos, int_eq, Bool, true, false, cond, List, length, get_or, set, take, swap, sym, ap, subst, ◌∙◌, ⊎_elim, inl, inr, arith}
+-- A head that went out of its place.
+use Rattle.std.proofs.Common.{◌≡◌, ◌≢◌, ◌⊎◌, ℕ, ◌+◌, ◌<◌, ◌≤◌, ℤ, cond, List, length, get_or, set, take, swap, refl, sym, ap, subst, ◌∙◌, inl, inr, arith}
 use Rattle.std.specs.Prelude.{◌==◌, slice_index_or}
-use Rattle.ss_events_entries.proofs.Common.{AreHeld, blank_slot, cases_Bool, Entry, entry_at, exchanged, followers, following, get_or-map, get_or-set_other, get_or_default, heads, HeapNode, int_eq_equiv, IsGuess, length-map, list_any, nat_tests, no_entry, no_node, no_slot, node, not_plain, Slot, slot_at, SlotDirectory, swap_remove}
-use Rattle.ss_events_entries.specs.HeapEntries.{HeadsAndFollowers, HasAdvanced, notices_of}
-use Rattle.ss_events_entries.proofs.Marks.{notice_in}
-use Rattle.ss_events_entries.proofs.Lists.{removed_by_swap, each_fails, none_passes}
-use Rattle.ss_events_entries.proofs.Exchanging.{exchange}
-use Rattle.ss_events_entries.proofs.Swapped.{slot_at-exchanged, node-swapped, held-swapped, heads-swapped, followers-swapped}
-use Rattle.ss_events_entries.proofs.HeadsAndFollowers.{long_heads, head_at, follower, follower_at, slot_of_follower}
-use Rattle.ss_events_entries.proofs.Advanced.{followers-advanced, heads-advanced, heads-dropped, held-advanced, held-dropped, advanced, advanced_nodes, differ}
+use Rattle.ss_events_entries.proofs.Common.{AreHeld, blank_slot, Entry, entry_at, exchanged, followers, get_or_default, heads, HeapNode, IsGuess, no_entry, no_node, no_slot, node, not_plain, Slot, slot_at, SlotDirectory, swap_remove}
+use Rattle.ss_events_entries.specs.HeapEntries.{HeadsAndFollowers, HasAdvanced}
+use Rattle.ss_events_entries.proofs.Marks.{notice_in, other_whole}
+use Rattle.ss_events_entries.proofs.Lists.{removed_by_swap, exchange-second}
+use Rattle.ss_events_entries.proofs.Swapped.{node-swapped, held-swapped, heads-swapped, followers-swapped, exchanged-same}
+use Rattle.ss_events_entries.proofs.HeadsAndFollowers.{long_heads, head_at, follower}
+use Rattle.ss_events_entries.proofs.Advanced.{followers-advanced, heads-advanced, heads-dropped, held-advanced, held-dropped, advanced, advanced_nodes}
 
 -- what is seen of them
 abbrev pub lines : ℕ → List Slot → List Entry → List HeapNode → HeadsAndFollowers
@@ -27,14 +26,6 @@ gone_like old k e n m f l ys xs vs ws us ss g n_is f_is ys_is vs_is us_is gone =
     (subst (λ a. Gone old k e m l a vs us g) (sym ys_is)
     (subst (λ a. Gone old k e m l xs a us g) (sym vs_is)
     (subst (λ a. Gone old k e m l xs ws a g) (sym us_is) gone))))
-
-last_place : (k n : ℕ) → exchange k n n ≡ k
-last_place k n = grind (arith, nat_tests)
-
--- a slot that is cleared
-cleared_by : (b : Bool) (ws vs : List Entry) (s : ℕ) (e : Entry) → vs ≡ cond b (set ws s e) ws → (t : ℕ) → t ≢ s → get_or vs t no_entry ≡ get_or ws t no_entry
-cleared_by true ws vs s e is t other = ap (λ l. get_or l t no_entry) is ∙ get_or-set_other ws s t e no_entry other
-cleared_by false ws vs s e is t other = ap (λ l. get_or l t no_entry) is
 
 module _ (count free : ℕ) (slots : List Slot) (wholes : List Entry) (nodes : List HeapNode) (d : SlotDirectory) (h : AreHeld count free slots wholes nodes d) (k : ℕ) (k_in : k < count) where
   abbrev pub seen : HeadsAndFollowers
@@ -91,11 +82,11 @@ module _ (count free : ℕ) (slots : List Slot) (wholes : List Entry) (nodes : L
       let ys = exchanged nodes slots k n in
       let nodes_put = swap nodes k n in
       let held = held-swapped count free slots wholes nodes d h k n k_in n_in in
-      let slot_so = slot_at-exchanged count free slots wholes nodes d h k n k_in n_in s out_slot in
+      let slot_so = exchanged-same count free slots wholes nodes d h k n k_in n_in s in
       let s_is : (node nodes_put n).slot ≡ s
-      = ap (λ (x : HeapNode). x.slot) (node-swapped count free slots wholes nodes d h k n k_in n_in n) ∙ ap (λ j. (node nodes j).slot) (last_place k n) in
+      = ap (λ (x : HeapNode). x.slot) (node-swapped count free slots wholes nodes d h k n k_in n_in n) ∙ ap (λ j. (node nodes j).slot) (exchange-second k n n refl) in
       let none_then : (slot_at ys s).next ≡ no_slot = ap (λ (x : Slot). x.next) slot_so ∙ none in
-      let clear = cleared_by (o == not_plain) wholes vs s no_entry vs_is in
+      let clear = other_whole (o == not_plain) wholes vs s no_entry vs_is in
       let few : count ≤ length nodes = omega (arith, h.few) in
       let long = long_heads count slots wholes nodes few in
       let seen_heads : heads n ys vs nodes_put ≡ swap_remove (heads count slots wholes nodes) k out
@@ -109,30 +100,7 @@ module _ (count free : ℕ) (slots : List Slot) (wholes : List Entry) (nodes : L
         rest = inl (λ i. record { heads = seen_heads i; followers = followers-swapped count free slots wholes nodes d h k n k_in n_in i });
       }
 
--- ---- whether a follower has a notice
+-- ---- what is read of a slot
 
 pub read_slot : (xs : List Slot) (s : ℕ) (y : Slot) → y ≡ get_or xs s y → s < length xs → y ≡ slot_at xs s
 read_slot xs s y is s_in = is ∙ get_or_default xs s y blank_slot s_in
-
-pub no_follower_has : (xs : List Slot) (m : ℤ) → ((s : ℕ) → s < length xs → following ≤ (slot_at xs s).at → (slot_at xs s).notice ≢ m) → list_any (int_eq m) (notices_of (followers xs)) ≡ false
-no_follower_has xs m none =
-    none_passes (int_eq m) (notices_of (followers xs)) (pos 0)
-    (λ k k_in.
-    let within : k < length (followers xs) = omega (arith, k_in, length-map (followers xs) (λ (e : Entry). e.notice)) in
-    let it = slot_of_follower xs k within in
-    let is : get_or (notices_of (followers xs)) k (pos 0) ≡ (slot_at xs it.0).notice
-    = get_or-map (λ (e : Entry). e.notice) (followers xs) k no_entry (pos 0) within ∙ ap (λ (e : Entry). e.notice) (it.1.is no_entry) in
-    differ m (get_or (notices_of (followers xs)) k (pos 0)) (λ e. none it.0 it.1.within it.1.nodes (sym is ∙ sym e)))
-
-pub follower_has : (xs : List Slot) (m : ℤ) (s : ℕ) → s < length xs → following ≤ (slot_at xs s).at → (slot_at xs s).notice ≡ m → list_any (int_eq m) (notices_of (followers xs)) ≡ true
-follower_has xs m s s_in s_follows is = ⊎_elim
-    (λ yes. yes)
-    (λ no.
-    let it = follower_at xs s s_in s_follows in
-    let there : get_or (notices_of (followers xs)) it.0 (pos 0) ≡ m
-    = get_or-map (λ (e : Entry). e.notice) (followers xs) it.0 no_entry (pos 0) it.1.listed ∙ ap (λ (e : Entry). e.notice) (it.1.is no_entry) ∙ is in
-    let fails : int_eq m m ≡ false
-    = ap (int_eq m) (sym there) ∙ each_fails (int_eq m) (notices_of (followers xs)) (pos 0) no it.0 (omega (arith, it.1.listed, length-map (followers xs) (λ (e : Entry). e.notice))) in
-    let passes : int_eq m m ≡ true = int_eq_equiv.refl m in
-    cc)
-    (cases_Bool (list_any (int_eq m) (notices_of (followers xs))))

@@ -1,8 +1,10 @@
 -- One more slot, which is free.
-use Rattle.std.proofs.Common.{◌≡◌, ◌≢◌, ℕ, ◌+◌, ◌-◌, ◌<◌, ◌≤◌, ℤ, true, false, cond, List, [], ◌∷◌, ◌++◌, length, get_or, set, refl, sym, ap, subst, ◌∙◌, ⊎_elim, arith}
+use Rattle.std.proofs.Common.{◌≡◌, ◌≢◌, ℕ, ◌+◌, ◌<◌, ◌≤◌, ℤ, cond, List, [], ◌∷◌, ◌++◌, length, get_or, set, refl, sym, ap, subst, ◌∙◌, ⊎_elim, arith}
 use Rattle.std.specs.Prelude.{◌==◌}
-use Rattle.ss_events_entries.proofs.Common.{AreDistinct, AreHeld, AreLed, blank_slot, cases_eq, Entry, entry_at, entry_in, followers, following, get_or-set_other, get_or-set_same, get_or_append_left, get_or_push, heads, HeapNode, IsBefore, IsGuess, IsTaken, length-set, length_push, mark_of, nat_tests, no_entry, no_node, no_slot, node, Slot, slot_at, SlotDirectory}
+use Rattle.ss_events_entries.proofs.Common.{AreDistinct, AreHeld, AreLed, blank_slot, cases_eq, Entry, entry_at, entry_in, followers, following, get_or-set_other, get_or-set_same, get_or_append_left, get_or_push, heads, HeapNode, IsGuess, IsTaken, length-set, length_push, mark_of, no_entry, no_node, no_slot, node, Slot, slot_at, SlotDirectory}
 use Rattle.ss_events_entries.proofs.HeadsAndFollowers.{same_heads, followers-pushed}
+use Rattle.ss_events_entries.proofs.Lists.{same_test, other_test}
+use Rattle.ss_events_entries.proofs.Parts.{not_taken, ArePlaced, there_by, back_by, marked_by, AreLined, next_by, before_as, AreNoted, held_of, held-noted, noted_kept}
 
 -- ---- a directory that leads to one slot more
 
@@ -24,42 +26,24 @@ led_more count slots d g k distinct within small before taken noted others s lt 
 -- ---- another directory
 
 pub held-led : (count free : ℕ) (slots : List Slot) (wholes : List Entry) (nodes : List HeapNode) (d g : SlotDirectory) → AreHeld count free slots wholes nodes d → AreLed g count slots → AreHeld count free slots wholes nodes g
-held-led count free slots wholes nodes d g h led = record {
-  many = h.many;
-  few = h.few;
-  small = h.small;
-  there = h.there;
-  back = h.back;
-  marked = h.marked;
-  fits = h.fits;
-  next = h.next;
-  before = h.before;
-  distinct = h.distinct;
-  led = led;
-}
+held-led count free slots wholes nodes d g h led = held-noted h wholes g (record { fits = h.fits; distinct = h.distinct; led = led })
 
 -- ---- entries that are stored whole: each slot reads as before
 
 held-wholes : (count free : ℕ) (slots : List Slot) (wholes ws : List Entry) (nodes : List HeapNode) (d : SlotDirectory) → ((s : ℕ) → get_or ws s no_entry ≡ get_or wholes s no_entry)
     → AreHeld count free slots wholes nodes d → AreHeld count free slots ws nodes d
-held-wholes count free slots wholes ws nodes d same h = record {
-  many = h.many;
-  few = h.few;
-  small = h.small;
-  there = h.there;
-  back = h.back;
-  marked = h.marked;
-  fits = λ s within taken. h.fits s within taken ∙ sym (ap (λ w. mark_of (entry_in (slot_at slots s).mark (slot_at slots s).notice w)) (same s));
-  next = h.next;
-  before = h.before;
-  distinct = h.distinct;
-  led = h.led;
-}
+held-wholes count free slots wholes ws nodes d same h =
+    held-noted h ws d
+    (record {
+      fits = λ s within taken. h.fits s within taken ∙ sym (ap (λ w. mark_of (entry_in (slot_at slots s).mark (slot_at slots s).notice w)) (same s));
+      distinct = h.distinct;
+      led = h.led;
+    })
 
 heads-wholes : (count : ℕ) (slots : List Slot) (wholes ws : List Entry) (nodes : List HeapNode) → ((s : ℕ) → get_or ws s no_entry ≡ get_or wholes s no_entry) → count ≤ length nodes
     → heads count slots ws nodes ≡ heads count slots wholes nodes
 heads-wholes count slots wholes ws nodes same few =
-    same_heads count count slots slots wholes ws nodes nodes refl few few
+    same_heads count slots slots wholes ws nodes nodes few few
     (λ k lt. ap (entry_in (slot_at slots (node nodes k).slot).mark (slot_at slots (node nodes k).slot).notice) (same (node nodes k).slot))
 
 -- ---- one more slot, which is free
@@ -113,112 +97,66 @@ module _ (count free : ℕ) (slots : List Slot) (wholes : List Entry) (nodes : L
 
   -- so it isn't taken
   taken_before : (s : ℕ) → s < length grown → IsTaken count (slot_at grown s) → s < length slots
-  taken_before s lt is = was s lt
-      (λ last. ⊎_elim
-      (λ less. omega (arith, less, last_at s last))
-      (λ past. omega (arith, past, last_at s last, h.few, h.many, h.small))
-      is)
+  taken_before s lt is = was s lt (λ last. not_taken count count (slot_at grown s) (last_at s last) (omega arith) (omega (arith, h.few, h.many, h.small)) is)
 
   taken_so : (s : ℕ) → s < length slots → IsTaken count (slot_at grown s) → IsTaken count (slot_at slots s)
   taken_so s lt is = subst (IsTaken count) (old_slot_at s lt) is
 
-  there_grown : (k : ℕ) → k < count + 1 → ((node grown_nodes k).slot < length grown) × ((slot_at grown (node grown_nodes k).slot).at ≡ k)
-  there_grown k lt = ⊎_elim
-      (λ is.
-      let slot : (node grown_nodes k).slot ≡ length slots = ap (λ (t : HeapNode). t.slot) (last_node k is) in (
-        omega (arith, slot, long_grown),
-        last_at (node grown_nodes k).slot slot ∙ sym is,
-      ))
-      (λ other.
-      let slot : (node grown_nodes k).slot ≡ (node nodes k).slot = ap (λ (t : HeapNode). t.slot) (old_node k (omega (arith, lt, other))) in
-      let old = h.there k (omega (arith, lt, other)) in (
-        omega (arith, slot, old.0, long_grown),
-        ap (λ s. (slot_at grown s).at) slot ∙ ap (λ (x : Slot). x.at) (old_slot_at (node nodes k).slot old.0) ∙ old.1,
-      ))
-      (cases_eq k count)
-
-  back_grown : (s : ℕ) → s < length grown → (slot_at grown s).at < following → ((slot_at grown s).at < count + 1) × ((node grown_nodes (slot_at grown s).at).slot ≡ s)
-  back_grown s lt placed = ⊎_elim
-      (λ is. (omega (arith, last_at s is), ap (λ (t : HeapNode). t.slot) (last_node (slot_at grown s).at (last_at s is)) ∙ sym is))
-      (λ other.
-      let same = ap (λ (x : Slot). x.at) (old_slot_at s (was s lt other)) in
-      let old = h.back s (was s lt other) (omega (arith, placed, same)) in
-      let less : (slot_at slots s).at < count = omega (arith, old.0, none) in (
-        omega (arith, less, same),
-        ap (λ k. (node grown_nodes k).slot) same ∙ ap (λ (t : HeapNode). t.slot) (old_node (slot_at slots s).at less) ∙ old.1,
-      ))
-      (cases_eq s (length slots))
-
-  marked_grown : (k : ℕ) → k < count → (node grown_nodes k).mark ≡ (slot_at grown (node grown_nodes k).slot).mark
-  marked_grown k lt =
-      let old = h.there k (omega (arith, lt)) in
-      ap (λ (t : HeapNode). t.mark) (old_node k lt) ∙ h.marked k lt
-      ∙ sym (ap (λ (t : HeapNode). (slot_at grown t.slot).mark) (old_node k lt) ∙ ap (λ (x : Slot). x.mark) (old_slot_at (node nodes k).slot old.0))
-
-  fits_grown : (s : ℕ) → s < length grown → IsTaken count (slot_at grown s) → (slot_at grown s).mark ≡ mark_of (entry_at grown wholes s)
-  fits_grown s lt is =
-      let old = taken_before s lt is in
-      ap (λ (x : Slot). x.mark) (old_slot_at s old) ∙ h.fits s old (taken_so s old is) ∙ ap mark_of (sym (old_entry s old))
-
-  next_grown : (s : ℕ) → s < length grown → IsTaken count (slot_at grown s) → (slot_at grown s).next ≢ no_slot → ((slot_at grown s).next < length grown) × ((slot_at grown (slot_at grown s).next).at ≡ following + s)
-  next_grown s lt is some =
-      let old = taken_before s lt is in
-      let same : (slot_at grown s).next ≡ (slot_at slots s).next = ap (λ (x : Slot). x.next) (old_slot_at s old) in
-      let then = h.next s old (taken_so s old is) (λ e. some (same ∙ e)) in (
-        omega (arith, then.0, same, long_grown),
-        ap (λ n. (slot_at grown n).at) same ∙ ap (λ (x : Slot). x.at) (old_slot_at (slot_at slots s).next then.0) ∙ then.1,
-      )
-
-  before_grown : (s p : ℕ) → s < length grown → (slot_at grown s).at ≡ following + p → IsBefore count grown p s
-  before_grown s p lt at =
-      let old : s < length slots = was s lt (λ last. omega (arith, last_at s last, at, h.few, h.many, h.small)) in
-      let here = old_slot_at s old in
-      let b = h.before s p old (sym (ap (λ (x : Slot). x.at) here) ∙ at) in
-      let prev = old_slot_at p b.within in record {
-        within = omega (arith, b.within, long_grown);
-        taken = subst (IsTaken count) (sym prev) b.taken;
-        next = ap (λ (x : Slot). x.next) prev ∙ b.next;
-        time = ap (λ (x : Slot). x.mark.time) prev ∙ b.time ∙ sym (ap (λ (x : Slot). x.mark.time) here);
-        order = omega (arith, b.order, ap (λ (x : Slot). x.mark.order) prev, ap (λ (x : Slot). x.mark.order) here);
-        plain = omega (arith, b.plain, ap (λ (x : Slot). x.mark.order) here);
-      }
-
-  pub held-grown : AreHeld count 1 grown wholes grown_nodes d
-  held-grown = record {
+  placed : ArePlaced count 1 grown grown_nodes
+  placed = record {
     many = long_nodes ∙ sym long_grown;
     few = omega (arith, long_nodes, h.few, h.many);
     small = omega (arith, more, long_grown);
-    there = there_grown;
-    back = back_grown;
-    marked = marked_grown;
-    fits = fits_grown;
-    next = next_grown;
-    before = before_grown;
-    distinct = λ s t s_in t_in s_is t_is same.
-        let s_old = taken_before s s_in s_is in
-        let t_old = taken_before t t_in t_is in
-        h.distinct s t s_old t_old (taken_so s s_old s_is) (taken_so t t_old t_is)
-        (sym (ap (λ (x : Slot). x.notice) (old_slot_at s s_old)) ∙ same ∙ ap (λ (x : Slot). x.notice) (old_slot_at t t_old));
-    led = λ s lt is.
-        let old = taken_before s lt is in
-        subst (λ (x : Slot). IsGuess d x.notice s) (sym (old_slot_at s old)) (h.led s old (taken_so s old is));
+    there = λ k lt. ⊎_elim
+        (λ is. there_by grown grown_nodes k (length slots) (ap (λ (t : HeapNode). t.slot) (last_node k is)) (omega (arith, long_grown)) (last_at (length slots) refl ∙ sym is))
+        (λ other.
+        let less : k < count = omega (arith, lt, other) in
+        let old = h.there k (omega (arith, less)) in
+        there_by grown grown_nodes k (node nodes k).slot (ap (λ (t : HeapNode). t.slot) (old_node k less)) (omega (arith, old.0, long_grown)) (ap (λ (x : Slot). x.at) (old_slot_at (node nodes k).slot old.0) ∙ old.1))
+        (cases_eq k count);
+    back = λ s lt low. ⊎_elim
+        (λ is. back_by (count + 1) grown grown_nodes s count (last_at s is) (omega arith) (ap (λ (t : HeapNode). t.slot) (last_node count refl) ∙ sym is))
+        (λ other.
+        let same : (slot_at grown s).at ≡ (slot_at slots s).at = ap (λ (x : Slot). x.at) (old_slot_at s (was s lt other)) in
+        let old = h.back s (was s lt other) (omega (arith, low, same)) in
+        let less : (slot_at slots s).at < count = omega (arith, old.0, none) in
+        back_by (count + 1) grown grown_nodes s (slot_at slots s).at same (omega (arith, less)) (ap (λ (t : HeapNode). t.slot) (old_node (slot_at slots s).at less) ∙ old.1))
+        (cases_eq s (length slots));
+    marked = λ k lt. marked_by slots grown nodes grown_nodes k k (old_node k lt) (ap (λ (x : Slot). x.mark) (old_slot_at (node nodes k).slot (h.there k (omega (arith, lt))).0)) (h.marked k lt);
   }
+
+  lined : AreLined count grown
+  lined = record {
+    next = λ s lt is some.
+        let old = taken_before s lt is in
+        let same : (slot_at grown s).next ≡ (slot_at slots s).next = ap (λ (x : Slot). x.next) (old_slot_at s old) in
+        let then = h.next s old (taken_so s old is) (λ e. some (same ∙ e)) in
+        next_by grown s (slot_at slots s).next same (omega (arith, then.0, long_grown)) (ap (λ (x : Slot). x.at) (old_slot_at (slot_at slots s).next then.0) ∙ then.1);
+    before = λ s p lt at.
+        let old : s < length slots = was s lt (λ last. omega (arith, last_at s last, at, h.few, h.many, h.small)) in
+        let here = old_slot_at s old in
+        let b = h.before s p old (sym (ap (λ (x : Slot). x.at) here) ∙ at) in
+        let prev = old_slot_at p b.within in
+        before_as count count slots grown p s (omega (arith, long_grown)) b (subst (IsTaken count) (sym prev) b.taken) (ap (λ (x : Slot). x.next) prev) (ap (λ (x : Slot). x.mark) prev) (ap (λ (x : Slot). x.mark) here);
+  }
+
+  noted : AreNoted count grown wholes d
+  noted =
+      noted_kept h count grown wholes d (length slots) (λ s lt is. let old = taken_before s lt is in (old, (λ e. omega (arith, e, old)), taken_so s old is))
+      (λ s old _. ap (λ (x : Slot). x.mark) (old_slot_at s old)) (λ s old _. ap (λ (x : Slot). x.notice) (old_slot_at s old)) (λ s _. refl) (λ s old _ is. h.led s old is)
+
+  pub held-grown : AreHeld count 1 grown wholes grown_nodes d
+  held-grown = held_of placed lined noted
 
   pub heads-grown : heads count grown wholes grown_nodes ≡ heads count slots wholes nodes
   heads-grown =
-      same_heads count count slots grown wholes wholes nodes grown_nodes refl (omega (arith, h.few)) (omega (arith, long_nodes, h.few, h.many))
+      same_heads count slots grown wholes wholes nodes grown_nodes (omega (arith, h.few)) (omega (arith, long_nodes, h.few, h.many))
       (λ k lt. ap (λ (t : HeapNode). entry_at grown wholes t.slot) (old_node k lt) ∙ old_entry (node nodes k).slot (h.there k (omega (arith, lt))).0)
 
   pub followers-grown : followers grown ≡ followers slots
   followers-grown = followers-pushed slots new_slot (omega (arith, h.few, h.many, h.small))
 
 -- ---- one more slot where none was free
-
-none_test : (n : ℕ) → n ≡ 0 → (n == 0) ≡ true
-none_test n is = grind (arith, nat_tests)
-
-some_test : (n : ℕ) → n ≢ 0 → (n == 0) ≡ false
-some_test n is = grind (arith, nat_tests)
 
 -- the invariant holds of equal lists
 pub same_held : (count free n : ℕ) (slots xs : List Slot) (wholes : List Entry) (nodes ts : List HeapNode) (d : SlotDirectory) → n ≡ free → xs ≡ slots → ts ≡ nodes
@@ -234,37 +172,36 @@ pub record HasSome (count n : ℕ) (slots xs : List Slot) (wholes ws : List Entr
   pub heads : heads count xs ws ts ≡ heads count slots wholes nodes
   pub followers : followers xs ≡ followers slots
 
+some_like : (count m n : ℕ) (slots ys xs : List Slot) (wholes ws : List Entry) (nodes us ts : List HeapNode) (d : SlotDirectory) → n ≡ m → xs ≡ ys → ts ≡ us
+    → HasSome count m slots ys wholes ws nodes us d → HasSome count n slots xs wholes ws nodes ts d
+some_like count m n slots ys xs wholes ws nodes us ts d a e g room =
+    subst (λ k. HasSome count k slots xs wholes ws nodes ts d) (sym a)
+    (subst (λ l. HasSome count m slots l wholes ws nodes ts d) (sym e)
+    (subst (λ l. HasSome count m slots ys wholes ws nodes l d) (sym g) room))
+
 pub some_more : (count free n : ℕ) (slots xs : List Slot) (wholes : List Entry) (nodes ts : List HeapNode) (d : SlotDirectory) → AreHeld count free slots wholes nodes d
     → n ≡ cond (free == 0) 1 free
     → xs ≡ cond (free == 0) (slots ++ record blank_slot { at = count } ∷ []) slots
     → ts ≡ cond (free == 0) (set (nodes ++ no_node ∷ []) count (record no_node { slot = length slots })) nodes
     → (free ≡ 0 → length slots + 1 < following)
     → HasSome count n slots xs wholes wholes nodes ts d
-some_more count free n slots xs wholes nodes ts d h a e g more = ⊎_elim
+some_more count free n slots xs wholes nodes ts d h a e g more =
+    let gs : List Slot = slots ++ record blank_slot { at = count } ∷ [] in
+    let gt : List HeapNode = set (nodes ++ no_node ∷ []) count (record no_node { slot = length slots }) in
+    ⊎_elim
     (λ none.
-    let t = none_test free none in
-    let gs : List Slot = slots ++ record blank_slot { at = count } ∷ [] in
-    let gt : List HeapNode = set (nodes ++ no_node ∷ []) count (record no_node { slot = length slots }) in
-    let a' : n ≡ 1 = a ∙ ap (λ b. cond b 1 free) t in
-    let e' : xs ≡ gs = e ∙ ap (λ b. cond b gs slots) t in
-    let g' : ts ≡ gt = g ∙ ap (λ b. cond b gt nodes) t in record {
-      held = same_held count 1 n gs xs wholes gt ts d a' e' g' (held-grown count free slots wholes nodes d h none (more none));
-      some = omega (arith, a');
-      heads = (λ i. heads count (e' i) wholes (g' i)) ∙ heads-grown count free slots wholes nodes d h none (more none);
-      followers = ap followers e' ∙ followers-grown count free slots wholes nodes d h none (more none);
-    })
+    let t = same_test free 0 none in
+    some_like count 1 n slots gs xs wholes wholes nodes gt ts d (a ∙ ap (λ b. cond b 1 free) t) (e ∙ ap (λ b. cond b gs slots) t) (g ∙ ap (λ b. cond b gt nodes) t)
+    (record {
+      held = held-grown count free slots wholes nodes d h none (more none);
+      some = omega arith;
+      heads = heads-grown count free slots wholes nodes d h none (more none);
+      followers = followers-grown count free slots wholes nodes d h none (more none);
+    }))
     (λ other.
-    let t = some_test free other in
-    let gs : List Slot = slots ++ record blank_slot { at = count } ∷ [] in
-    let gt : List HeapNode = set (nodes ++ no_node ∷ []) count (record no_node { slot = length slots }) in
-    let a' : n ≡ free = a ∙ ap (λ b. cond b 1 free) t in
-    let e' : xs ≡ slots = e ∙ ap (λ b. cond b gs slots) t in
-    let g' : ts ≡ nodes = g ∙ ap (λ b. cond b gt nodes) t in record {
-      held = same_held count free n slots xs wholes nodes ts d a' e' g' h;
-      some = omega (arith, a', other);
-      heads = λ i. heads count (e' i) wholes (g' i);
-      followers = ap followers e';
-    })
+    let t = other_test free 0 other in
+    some_like count free n slots slots xs wholes wholes nodes nodes ts d (a ∙ ap (λ b. cond b 1 free) t) (e ∙ ap (λ b. cond b gs slots) t) (g ∙ ap (λ b. cond b gt nodes) t)
+    (record { held = h; some = omega (arith, other); heads = refl; followers = refl }))
     (cases_eq free 0)
 
 -- room once there are cells, where calls say how many slots there are

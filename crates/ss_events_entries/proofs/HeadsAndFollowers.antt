@@ -1,7 +1,7 @@
 -- What is read of slots, of the entries in places, and of followers.
-use Rattle.std.proofs.Common.{◌≡◌, ℕ, zero, suc, ◌<◌, ◌≤◌, Bool, true, false, cond, List, [], ◌∷◌, ◌++◌, length, get_or, set, take, sym, ap, subst, ◌∙◌, ⊎_elim, arith}
+use Rattle.std.proofs.Common.{◌≡◌, ℕ, zero, suc, ◌<◌, ◌≤◌, Bool, true, false, cond, List, [], ◌∷◌, ◌++◌, length, get_or, set, take, refl, sym, ap, subst, ◌∙◌, ⊎_elim, arith}
 use Rattle.std.specs.Prelude.{nat_le}
-use Rattle.ss_events_entries.proofs.Common.{blank_slot, cases_lt, Entry, entry_at, followers, following, get_or-map, get_or-set_other, get_or-set_same, get_or-take, heads, HeapNode, IsPermutation, length-map, length-take-le, nat_tests, no_node, node, plain_entry, same_lists, Slot, slot_at}
+use Rattle.ss_events_entries.proofs.Common.{blank_slot, cases_lt, Entry, entry_at, followers, following, get_or-map, get_or-set_other, get_or-set_same, get_or-take, heads, HeapNode, IsPermutation, length-map, length-take-le, nat_tests, next_put, no_node, node, plain_entry, same_lists, Slot, slot_at}
 use Rattle.std.proofs.lemmas.List.Sorted.{IsPermutation-refl, IsPermutation-cons, IsPermutation-trans, IsPermutation-middle}
 
 -- ---- the contents of a slot, once another was written
@@ -23,15 +23,19 @@ module _ (count : ℕ) (slots : List Slot) (wholes : List Entry) (nodes : List H
       get_or-map (λ (t : HeapNode). entry_at slots wholes t.slot) (take count nodes) k no_node d (omega (arith, within, length-take-le count nodes few))
       ∙ ap (λ (t : HeapNode). entry_at slots wholes t.slot) (get_or-take count nodes k no_node within)
 
+  -- entries that are the heads, one by one
+  pub heads_are : (es : List Entry) → length es ≡ count → ((k : ℕ) (d : Entry) → k < count → entry_at slots wholes (node nodes k).slot ≡ get_or es k d) → heads count slots wholes nodes ≡ es
+  heads_are es long same =
+      same_lists (heads count slots wholes nodes) es (long_heads ∙ sym long)
+      (λ k d k_in.
+      let within : k < count = omega (arith, k_in, long_heads) in
+      head_at k d within ∙ same k d within)
+
 -- heads that are equal one by one
-pub same_heads : (count n : ℕ) (xs ys : List Slot) (ws vs : List Entry) (ss ts : List HeapNode) → n ≡ count → count ≤ length ss → count ≤ length ts
-    → ((k : ℕ) → k < count → entry_at ys vs (node ts k).slot ≡ entry_at xs ws (node ss k).slot) → heads n ys vs ts ≡ heads count xs ws ss
-same_heads count n xs ys ws vs ss ts is few_ss few_ts same =
-    ap (λ m. heads m ys vs ts) is
-    ∙ same_lists (heads count ys vs ts) (heads count xs ws ss) (long_heads count ys vs ts few_ts ∙ sym (long_heads count xs ws ss few_ss))
-    (λ k d k_in.
-    let within : k < count = omega (arith, k_in, long_heads count ys vs ts few_ts) in
-    head_at count ys vs ts few_ts k d within ∙ same k within ∙ sym (head_at count xs ws ss few_ss k d within))
+pub same_heads : (count : ℕ) (xs ys : List Slot) (ws vs : List Entry) (ss ts : List HeapNode) → count ≤ length ss → count ≤ length ts → ((k : ℕ) → k < count → entry_at ys vs (node ts k).slot ≡ entry_at xs ws (node ss k).slot)
+    → heads count ys vs ts ≡ heads count xs ws ss
+same_heads count xs ys ws vs ss ts few_ss few_ts same =
+    heads_are count ys vs ts few_ts (heads count xs ws ss) (long_heads count xs ws ss few_ss) (λ k d within. same k within ∙ sym (head_at count xs ws ss few_ss k d within))
 
 -- ---- the followers
 
@@ -63,6 +67,13 @@ followers-kept [] s y within h k same = absurd (omega (arith, within))
 followers-kept (x ∷ xs) zero y within h k same = followers-following y xs k ∙ ap (λ e. e ∷ followers xs) same ∙ sym (followers-following x xs h)
 followers-kept (x ∷ xs) (suc s) y within h k same =
     ap (λ l. cond (nat_le following x.at) (follower x ∷ l) l) (followers-kept xs s y (omega (arith, within)) h k same)
+
+-- another one after a slot changes no follower
+pub followers-next_put : (xs : List Slot) (s next : ℕ) → s < length xs → followers (next_put xs s next) ≡ followers xs
+followers-next_put xs s next within = ⊎_elim
+    (λ lt. followers-placed xs s (record (slot_at xs s) { next = next }) within lt lt)
+    (λ ge. followers-kept xs s (record (slot_at xs s) { next = next }) within ge ge refl)
+    (cases_lt (slot_at xs s).at following)
 
 pub swap_two : (e f : Entry) (l : List Entry) → IsPermutation (e ∷ f ∷ l) (f ∷ e ∷ l)
 swap_two e f l = IsPermutation-middle (e ∷ []) f l
@@ -106,6 +117,10 @@ pub record Follows (xs : List Slot) (s k : ℕ) : Type 0 where
   pub listed : k < length (followers xs)
   pub is : (d : Entry) → get_or (followers xs) k d ≡ follower (slot_at xs s)
 
+-- one slot further
+later : (x : Slot) (xs : List Slot) (s j k : ℕ) → k < length (followers (x ∷ xs)) → ((d : Entry) → get_or (followers (x ∷ xs)) k d ≡ get_or (followers xs) j d) → Follows xs s j → Follows (x ∷ xs) (suc s) k
+later x xs s j k listed same f = record { within = omega (arith, f.within); nodes = f.nodes; listed = listed; is = λ d. same d ∙ f.is d }
+
 pub follower_at : (xs : List Slot) (s : ℕ) → s < length xs → following ≤ (slot_at xs s).at → (k : ℕ) × Follows xs s k
 follower_at [] s within h = absurd (omega (arith, within))
 follower_at (x ∷ xs) zero within h =
@@ -116,14 +131,8 @@ follower_at (x ∷ xs) zero within h =
 follower_at (x ∷ xs) (suc s) within h =
     let k = follower_at xs s (omega (arith, within)) h in
     ⊎_elim
-    (λ lt. let is = followers-apart x xs lt in (
-      k.0,
-      record { within = within; nodes = h; listed = omega (arith, k.1.listed, ap length is); is = λ d. ap (λ l. get_or l k.0 d) is ∙ k.1.is d },
-    ))
-    (λ ge. let is = followers-following x xs ge in (
-      suc k.0,
-      record { within = within; nodes = h; listed = omega (arith, k.1.listed, ap length is); is = λ d. ap (λ l. get_or l (suc k.0) d) is ∙ k.1.is d },
-    ))
+    (λ lt. let is = followers-apart x xs lt in (k.0, later x xs s k.0 k.0 (omega (arith, k.1.listed, ap length is)) (λ d. ap (λ l. get_or l k.0 d) is) k.1))
+    (λ ge. let is = followers-following x xs ge in (suc k.0, later x xs s k.0 (suc k.0) (omega (arith, k.1.listed, ap length is)) (λ d. ap (λ l. get_or l (suc k.0) d) is) k.1))
     (cases_lt x.at following)
 
 pub slot_of_follower : (xs : List Slot) (k : ℕ) → k < length (followers xs) → (s : ℕ) × Follows xs s k
@@ -131,27 +140,14 @@ slot_of_follower [] k h = absurd (omega (arith, h))
 slot_of_follower (x ∷ xs) zero h = ⊎_elim
     (λ lt.
     let is = followers-apart x xs lt in
-    let s = slot_of_follower xs zero (omega (arith, h, ap length is)) in (
-      suc s.0,
-      record { within = omega (arith, s.1.within); nodes = s.1.nodes; listed = h; is = λ d. ap (λ l. get_or l zero d) is ∙ s.1.is d },
-    ))
-    (λ ge.
-    let is = followers-following x xs ge in (
-      zero,
-      record { within = omega arith; nodes = ge; listed = h; is = λ d. ap (λ l. get_or l zero d) is },
-    ))
+    let s = slot_of_follower xs zero (omega (arith, h, ap length is)) in (suc s.0, later x xs s.0 zero zero h (λ d. ap (λ l. get_or l zero d) is) s.1))
+    (λ ge. let is = followers-following x xs ge in (zero, record { within = omega arith; nodes = ge; listed = h; is = λ d. ap (λ l. get_or l zero d) is }))
     (cases_lt x.at following)
 slot_of_follower (x ∷ xs) (suc k) h = ⊎_elim
     (λ lt.
     let is = followers-apart x xs lt in
-    let s = slot_of_follower xs (suc k) (omega (arith, h, ap length is)) in (
-      suc s.0,
-      record { within = omega (arith, s.1.within); nodes = s.1.nodes; listed = h; is = λ d. ap (λ l. get_or l (suc k) d) is ∙ s.1.is d },
-    ))
+    let s = slot_of_follower xs (suc k) (omega (arith, h, ap length is)) in (suc s.0, later x xs s.0 (suc k) (suc k) h (λ d. ap (λ l. get_or l (suc k) d) is) s.1))
     (λ ge.
     let is = followers-following x xs ge in
-    let s = slot_of_follower xs k (omega (arith, h, ap length is)) in (
-      suc s.0,
-      record { within = omega (arith, s.1.within); nodes = s.1.nodes; listed = h; is = λ d. ap (λ l. get_or l (suc k) d) is ∙ s.1.is d },
-    ))
+    let s = slot_of_follower xs k (omega (arith, h, ap length is)) in (suc s.0, later x xs s.0 k (suc k) h (λ d. ap (λ l. get_or l (suc k) d) is) s.1))
     (cases_lt x.at following)

@@ -1,8 +1,9 @@
 -- A plain entry, put after the last of a line.
-use Rattle.std.proofs.Common.{◌≡◌, ◌≢◌, ℕ, ◌+◌, ◌*◌, ◌-◌, ◌<◌, ◌≤◌, ℤ, List, ◌∷◌, length, get_or, set, refl, sym, ap, subst, ◌∙◌, ⊎_elim, inl, inr, arith}
-use Rattle.ss_events_entries.proofs.Common.{AreHeld, cases_eq, cases_lt, Entry, entry_at, entry_in, followers, following, heads, HeapNode, IsBefore, IsGuess, IsPermutation, IsTaken, length-set, Mark, mark_of, next_put, no_entry, no_slot, node, plain_entry, plain_numbers, plain_ranks, Slot, slot_at, SlotDirectory}
+use Rattle.std.proofs.Common.{◌≡◌, ◌≢◌, ℕ, ◌+◌, ◌*◌, ◌-◌, ◌<◌, ◌≤◌, ℤ, List, ◌∷◌, length, get_or, set, refl, sym, ap, subst, ◌∙◌, ⊎_elim, arith}
+use Rattle.ss_events_entries.proofs.Common.{AreHeld, cases_eq, Entry, entry_at, entry_in, followers, following, heads, HeapNode, IsBefore, IsGuess, IsPermutation, IsTaken, length-set, Mark, mark_of, next_put, no_entry, no_slot, node, plain_entry, plain_numbers, plain_ranks, Slot, slot_at, SlotDirectory}
 use Rattle.ss_events_entries.proofs.Marks.{in-plain, plain_differs, plain_mark}
-use Rattle.ss_events_entries.proofs.HeadsAndFollowers.{slot_at-same, slot_at-other, same_heads, follower, followers-placed, followers-kept, followers-joined}
+use Rattle.ss_events_entries.proofs.HeadsAndFollowers.{slot_at-same, slot_at-other, same_heads, follower, followers-joined, followers-next_put}
+use Rattle.ss_events_entries.proofs.Parts.{taken_as, unlinked, next_put_same, ArePlaced, back_by, AreLined, next_by, before_as, held_of, IsFree, free_of, noted_with}
 
 -- a slot with another one after it
 abbrev pub followed : Slot → ℕ → Slot
@@ -33,119 +34,81 @@ module _ (count free : ℕ) (slots : List Slot) (wholes : List Entry) (nodes : L
   as_many = length-joined slots p s n m
 
   -- the slot is free
-  place : ((node nodes (count + free - 1)).slot < length slots) × ((slot_at slots (node nodes (count + free - 1)).slot).at ≡ count + free - 1)
-  place = h.there (count + free - 1) (omega (arith, some))
+  vacant : IsFree count slots (count + free - 1) s
+  vacant = free_of h (count + free - 1) s (omega (arith, some)) (omega (arith, some)) slot
 
   pub free_within : s < length slots
-  free_within = omega (arith, place.0, slot)
-
-  free_at : (slot_at slots s).at ≡ count + free - 1
-  free_at = ap (λ t. (slot_at slots t).at) slot ∙ place.1
-
-  free_low : (slot_at slots s).at < following
-  free_low = omega (arith, free_at, some, h.few, h.many, h.small)
-
-  not_taken : IsTaken count (slot_at slots s) → ⊥
-  not_taken = ⊎_elim (λ lt. omega (arith, lt, free_at, some)) (λ past. omega (arith, past, free_low))
-
-  -- so it is not the one that is taken
-  apart : (t : ℕ) → IsTaken count (slot_at slots t) → t ≡ s → ⊥
-  apart t taken is = not_taken (subst (λ u. IsTaken count (slot_at slots u)) is taken)
+  free_within = vacant.within
 
   -- each slot then
   slot_at-new : slot_at then s ≡ new
   slot_at-new = slot_at-same (next_put slots p s) s new (omega (arith, free_within, length-set slots p (followed (slot_at slots p) s)))
 
   slot_at-before : slot_at then p ≡ followed (slot_at slots p) s
-  slot_at-before = slot_at-other (next_put slots p s) s p new (apart p p_taken) ∙ slot_at-same slots p (followed (slot_at slots p) s) p_in
+  slot_at-before = slot_at-other (next_put slots p s) s p new (vacant.apart p p_taken) ∙ slot_at-same slots p (followed (slot_at slots p) s) p_in
 
-  slot_at-else : (t : ℕ) → (t ≡ s → ⊥) → (t ≡ p → ⊥) → slot_at then t ≡ slot_at slots t
+  slot_at-else : (t : ℕ) → t ≢ s → t ≢ p → slot_at then t ≡ slot_at slots t
   slot_at-else t not_s not_p = slot_at-other (next_put slots p s) s t new not_s ∙ slot_at-other slots p t (followed (slot_at slots p) s) not_p
 
-  module _ (t : ℕ) (old : t ≡ s → ⊥) where
-    slot_at-old : (next : ℕ) × (slot_at then t ≡ followed (slot_at slots t) next)
-    slot_at-old = ⊎_elim
-        (λ is. (s, ap (slot_at then) is ∙ slot_at-before ∙ ap (λ u. followed (slot_at slots u) s) (sym is)))
-        (λ other. ((slot_at slots t).next, slot_at-else t old other))
-        (cases_eq t p)
+  same_then : (t : ℕ) → t ≢ s → unlinked (slot_at then t) ≡ unlinked (slot_at slots t)
+  same_then t other = ap unlinked (slot_at-other (next_put slots p s) s t new other) ∙ next_put_same slots p s t p_in
 
-    at_then : (slot_at then t).at ≡ (slot_at slots t).at
-    at_then = ap (λ (x : Slot). x.at) slot_at-old.1
+  at_then : (t : ℕ) → t ≢ s → (slot_at then t).at ≡ (slot_at slots t).at
+  at_then t other = ap (λ (x : Slot). x.at) (same_then t other)
 
-    mark_then : (slot_at then t).mark ≡ (slot_at slots t).mark
-    mark_then = ap (λ (x : Slot). x.mark) slot_at-old.1
+  mark_then : (t : ℕ) → t ≢ s → (slot_at then t).mark ≡ (slot_at slots t).mark
+  mark_then t other = ap (λ (x : Slot). x.mark) (same_then t other)
 
-    notice_then : (slot_at then t).notice ≡ (slot_at slots t).notice
-    notice_then = ap (λ (x : Slot). x.notice) slot_at-old.1
+  taken_then : (t : ℕ) → t ≢ s → IsTaken count (slot_at slots t) → IsTaken count (slot_at then t)
+  taken_then t other is = taken_as count (slot_at then t) (slot_at slots t) (at_then t other) is
 
-    entry_then : entry_at then wholes t ≡ entry_at slots wholes t
-    entry_then = ap (λ (x : Slot). entry_in x.mark x.notice (get_or wholes t no_entry)) slot_at-old.1
-
-    taken_then : IsTaken count (slot_at slots t) → IsTaken count (slot_at then t)
-    taken_then = ⊎_elim (λ lt. inl (subst (λ k. k < count) (sym at_then) lt)) (λ past. inr (subst (λ k. following ≤ k) (sym at_then) past))
-
-    taken_before : IsTaken count (slot_at then t) → IsTaken count (slot_at slots t)
-    taken_before = ⊎_elim (λ lt. inl (subst (λ k. k < count) at_then lt)) (λ past. inr (subst (λ k. following ≤ k) at_then past))
+  taken_before : (t : ℕ) → t ≢ s → IsTaken count (slot_at then t) → IsTaken count (slot_at slots t)
+  taken_before t other is = taken_as count (slot_at slots t) (slot_at then t) (sym (at_then t other)) is
 
   -- the node of any other place
-  nodes_apart : (k : ℕ) → k < count + (free - 1) → (node nodes k).slot ≡ s → ⊥
-  nodes_apart k k_in is = omega (arith, k_in, (h.there k (omega (arith, k_in))).1, ap (λ t. (slot_at slots t).at) is, free_at, some)
+  nodes_apart : (k : ℕ) → k < count + (free - 1) → (node nodes k).slot ≢ s
+  nodes_apart k k_in is = omega (arith, k_in, (h.there k (omega (arith, k_in))).1, ap (λ t. (slot_at slots t).at) is, vacant.at, some)
 
-  there : (k : ℕ) → k < count + (free - 1) → ((node nodes k).slot < length then) × ((slot_at then (node nodes k).slot).at ≡ k)
-  there k k_in =
-      let old = h.there k (omega (arith, k_in)) in (
-        omega (arith, old.0, as_many),
-        at_then (node nodes k).slot (nodes_apart k k_in) ∙ old.1,
-      )
-
-  back : (t : ℕ) → t < length then → (slot_at then t).at < following → ((slot_at then t).at < count + (free - 1)) × ((node nodes (slot_at then t).at).slot ≡ t)
-  back t t_then lt = ⊎_elim
-      (λ is. absurd (omega (arith, lt, ap (λ u. (slot_at then u).at) is, ap (λ (x : Slot). x.at) slot_at-new)))
-      (λ other.
-      let was = h.back t (omega (arith, t_then, as_many)) (omega (arith, lt, at_then t other)) in
-      let not_last : (slot_at slots t).at ≡ count + free - 1 → ⊥ = λ is. other (sym was.1 ∙ ap (λ k. (node nodes k).slot) is ∙ sym slot) in (
-        omega (arith, was.0, not_last, at_then t other),
-        ap (λ k. (node nodes k).slot) (at_then t other) ∙ was.1,
-      ))
-      (cases_eq t s)
-
-  marked : (k : ℕ) → k < count → (node nodes k).mark ≡ (slot_at then (node nodes k).slot).mark
-  marked k k_in = h.marked k k_in ∙ sym (mark_then (node nodes k).slot (nodes_apart k (omega (arith, k_in))))
+  placed : ArePlaced count (free - 1) then nodes
+  placed = record {
+    many = h.many ∙ sym as_many;
+    few = omega (arith, h.few);
+    small = omega (arith, h.small, as_many);
+    there = λ k k_in. let old = h.there k (omega (arith, k_in)) in (omega (arith, old.0, as_many), at_then (node nodes k).slot (nodes_apart k k_in) ∙ old.1);
+    back = λ t t_then lt.
+        let other : t ≢ s = (λ is. omega (arith, lt, ap (λ u. (slot_at then u).at) is, ap (λ (x : Slot). x.at) slot_at-new)) in
+        let t_in : t < length slots = omega (arith, t_then, as_many) in
+        let was = h.back t t_in (omega (arith, lt, at_then t other)) in
+        let not_last : (slot_at slots t).at ≢ count + free - 1 = (λ is. other (vacant.alone t t_in is)) in
+        back_by (count + (free - 1)) then nodes t (slot_at slots t).at (at_then t other) (omega (arith, was.0, not_last)) was.1;
+    marked = λ k k_in. h.marked k k_in ∙ sym (mark_then (node nodes k).slot (nodes_apart k (omega (arith, k_in))));
+  }
 
   next : (t : ℕ) → t < length then → IsTaken count (slot_at then t) → (slot_at then t).next ≢ no_slot → ((slot_at then t).next < length then) × ((slot_at then (slot_at then t).next).at ≡ following + t)
-  next t t_then taken any = ⊎_elim
-      (λ is. absurd (any (ap (λ u. (slot_at then u).next) is ∙ ap (λ (x : Slot). x.next) slot_at-new)))
-      (λ not_s. ⊎_elim
+  next t t_then taken any =
+      let not_s : t ≢ s = (λ is. any (ap (λ u. (slot_at then u).next) is ∙ ap (λ (x : Slot). x.next) slot_at-new)) in
+      ⊎_elim
       (λ is.
-      let to : (slot_at then t).next ≡ s = ap (λ u. (slot_at then u).next) is ∙ ap (λ (x : Slot). x.next) slot_at-before in (
-        omega (arith, to, free_within, as_many),
-        ap (λ u. (slot_at then u).at) to ∙ ap (λ (x : Slot). x.at) slot_at-new ∙ ap (λ u. following + u) (sym is),
-      ))
+      next_by then t s (ap (λ u. (slot_at then u).next) is ∙ ap (λ (x : Slot). x.next) slot_at-before) (omega (arith, free_within, as_many))
+      (ap (λ (x : Slot). x.at) slot_at-new ∙ ap (λ u. following + u) (sym is)))
       (λ not_p.
       let to : (slot_at then t).next ≡ (slot_at slots t).next = ap (λ (x : Slot). x.next) (slot_at-else t not_s not_p) in
       let was = h.next t (omega (arith, t_then, as_many)) (taken_before t not_s taken) (λ none. any (to ∙ none)) in
-      let other : (slot_at slots t).next ≡ s → ⊥ = λ is. omega (arith, was.1, ap (λ u. (slot_at slots u).at) is, free_low) in (
-        omega (arith, to, was.0, as_many),
-        ap (λ u. (slot_at then u).at) to ∙ at_then (slot_at slots t).next other ∙ was.1,
-      ))
-      (cases_eq t p))
-      (cases_eq t s)
+      let other : (slot_at slots t).next ≢ s = (λ is. omega (arith, was.1, ap (λ u. (slot_at slots u).at) is, vacant.at, vacant.low)) in
+      next_by then t (slot_at slots t).next to (omega (arith, was.0, as_many)) (at_then (slot_at slots t).next other ∙ was.1))
+      (cases_eq t p)
 
   module _ (plain : m.order < plain_ranks * plain_numbers) where
-    fits : (t : ℕ) → t < length then → IsTaken count (slot_at then t) → (slot_at then t).mark ≡ mark_of (entry_at then wholes t)
-    fits t t_then taken = ⊎_elim
-        (λ is. subst (λ u. (slot_at then u).mark ≡ mark_of (entry_at then wholes u)) (sym is)
-        (ap (λ (x : Slot). x.mark) slot_at-new
+    fit : (slot_at then s).mark ≡ mark_of (entry_at then wholes s)
+    fit =
+        ap (λ (x : Slot). x.mark) slot_at-new
         ∙ sym (plain_mark m n plain)
         ∙ ap mark_of (sym (in-plain m n (get_or wholes s no_entry) (plain_differs m.order plain)))
-        ∙ ap (λ (x : Slot). mark_of (entry_in x.mark x.notice (get_or wholes s no_entry))) (sym slot_at-new)))
-        (λ other.
-        mark_then t other ∙ h.fits t (omega (arith, t_then, as_many)) (taken_before t other taken) ∙ ap mark_of (sym (entry_then t other)))
-        (cases_eq t s)
+        ∙ ap (λ (x : Slot). mark_of (entry_in x.mark x.notice (get_or wholes s no_entry))) (sym slot_at-new)
 
     module _ (time : (slot_at slots p).mark.time ≡ m.time) (order : (slot_at slots p).mark.order < m.order) where
-      p_apart : p ≡ s → ⊥
-      p_apart = apart p p_taken
+      p_apart : p ≢ s
+      p_apart = vacant.apart p p_taken
 
       new_before : IsBefore count then p s
       new_before = record {
@@ -165,74 +128,28 @@ module _ (count free : ℕ) (slots : List Slot) (wholes : List Entry) (nodes : L
           (λ other.
           let t_in : t < length slots = omega (arith, t_then, as_many) in
           let was = h.before t q t_in (sym (at_then t other) ∙ e) in
-          let q_apart : q ≡ s → ⊥ = apart q was.taken in
-          let q_other : q ≡ p → ⊥ = λ is. omega (arith, t_in, h.small, was.next, ap (λ u. (slot_at slots u).next) is, last) in record {
-            within = omega (arith, was.within, as_many);
-            taken = taken_then q q_apart was.taken;
-            next = ap (λ (x : Slot). x.next) (slot_at-else q q_apart q_other) ∙ was.next;
-            time = ap (λ (x : Mark). x.time) (mark_then q q_apart) ∙ was.time ∙ ap (λ (x : Mark). x.time) (sym (mark_then t other));
-            order = omega (arith, was.order, ap (λ (x : Mark). x.order) (mark_then q q_apart), ap (λ (x : Mark). x.order) (mark_then t other));
-            plain = omega (arith, was.plain, ap (λ (x : Mark). x.order) (mark_then t other));
-          })
+          let q_apart = vacant.apart q was.taken in
+          let q_other : q ≢ p = (λ is. omega (arith, t_in, h.small, was.next, ap (λ u. (slot_at slots u).next) is, last)) in
+          before_as count count slots then q t (omega (arith, as_many)) was (taken_then q q_apart was.taken) (ap (λ (x : Slot). x.next) (slot_at-else q q_apart q_other)) (mark_then q q_apart) (mark_then t other))
           (cases_eq t s)
 
-      module _ (fresh : (t : ℕ) → t < length slots → IsTaken count (slot_at slots t) → (slot_at slots t).notice ≢ n) where
-        distinct : (t u : ℕ) → t < length then → u < length then → IsTaken count (slot_at then t) → IsTaken count (slot_at then u) → (slot_at then t).notice ≡ (slot_at then u).notice → t ≡ u
-        distinct t u t_then u_then t_taken u_taken same =
-            let t_in : t < length slots = omega (arith, t_then, as_many) in
-            let u_in : u < length slots = omega (arith, u_then, as_many) in
-            let noticed : (v : ℕ) → v ≡ s → (slot_at then v).notice ≡ n = λ v is. ap (λ w. (slot_at then w).notice) is ∙ ap (λ (x : Slot). x.notice) slot_at-new in
-            ⊎_elim
-            (λ t_is. ⊎_elim
-            (λ u_is. t_is ∙ sym u_is)
-            (λ u_other. absurd (fresh u u_in (taken_before u u_other u_taken) (sym (notice_then u u_other) ∙ sym same ∙ noticed t t_is)))
-            (cases_eq u s))
-            (λ t_other. ⊎_elim
-            (λ u_is. absurd (fresh t t_in (taken_before t t_other t_taken) (sym (notice_then t t_other) ∙ same ∙ noticed u u_is)))
-            (λ u_other. h.distinct t u t_in u_in (taken_before t t_other t_taken) (taken_before u u_other u_taken) (sym (notice_then t t_other) ∙ same ∙ notice_then u u_other))
-            (cases_eq u s))
-            (cases_eq t s)
-
-        module _ (g : SlotDirectory) (noted : IsGuess g n s) (others : (i : ℤ) (t : ℕ) → i ≢ n → t ≢ no_slot → IsGuess d i t → IsGuess g i t) where
-          led : (t : ℕ) → t < length then → IsTaken count (slot_at then t) → IsGuess g (slot_at then t).notice t
-          led t t_then taken = ⊎_elim
-              (λ is. subst (λ u. IsGuess g (slot_at then u).notice u) (sym is) (subst (λ i. IsGuess g i s) (ap (λ (x : Slot). x.notice) (sym slot_at-new)) noted))
-              (λ other.
-              let t_in : t < length slots = omega (arith, t_then, as_many) in
-              let was = taken_before t other taken in
-              subst (λ i. IsGuess g i t) (sym (notice_then t other))
-              (others (slot_at slots t).notice t (fresh t t_in was) (λ none. omega (arith, none, t_in, h.small)) (h.led t t_in was)))
-              (cases_eq t s)
-
-          pub held-joined : AreHeld count (free - 1) (joined slots p s n m) wholes nodes g
-          held-joined = record {
-            many = h.many ∙ sym as_many;
-            few = omega (arith, h.few);
-            small = omega (arith, h.small, as_many);
-            there = there;
-            back = back;
-            marked = marked;
-            fits = fits;
-            next = next;
-            before = before;
-            distinct = distinct;
-            led = led;
-          }
+      module _ (fresh : (t : ℕ) → t < length slots → IsTaken count (slot_at slots t) → (slot_at slots t).notice ≢ n) (g : SlotDirectory) (noted : IsGuess g n s)
+          (others : (i : ℤ) (t : ℕ) → i ≢ n → t ≢ no_slot → IsGuess d i t → IsGuess g i t) where
+        pub held-joined : AreHeld count (free - 1) (joined slots p s n m) wholes nodes g
+        held-joined =
+            let lined : AreLined count then = record { next = next; before = before } in
+            held_of placed lined
+            (noted_with h count then wholes g s n (ap (λ (x : Slot). x.notice) slot_at-new) fit as_many mark_then (λ t other. ap (λ (x : Slot). x.notice) (same_then t other)) (λ t _. refl) (λ t _ other is. taken_before t other is) fresh noted others)
 
   -- what is seen then
   pub heads-joined : heads count (joined slots p s n m) wholes nodes ≡ heads count slots wholes nodes
   heads-joined =
       let few : count ≤ length nodes = omega (arith, h.few) in
-      same_heads count count slots then wholes wholes nodes nodes refl few few (λ k k_in. entry_then (node nodes k).slot (nodes_apart k (omega (arith, k_in))))
-
-  put_before : followers (next_put slots p s) ≡ followers slots
-  put_before = ⊎_elim
-      (λ lt. followers-placed slots p (followed (slot_at slots p) s) p_in lt lt)
-      (λ past. followers-kept slots p (followed (slot_at slots p) s) p_in past past refl)
-      (cases_lt (slot_at slots p).at following)
+      same_heads count slots then wholes wholes nodes nodes few few
+      (λ k k_in. ap (λ (x : Slot). entry_in x.mark x.notice (get_or wholes (node nodes k).slot no_entry)) (same_then (node nodes k).slot (nodes_apart k (omega (arith, k_in)))))
 
   pub followers-lined_up : IsPermutation (plain_entry m n ∷ followers slots) (followers (joined slots p s n m))
   followers-lined_up =
-      let low : (slot_at (next_put slots p s) s).at < following = subst (λ (x : Slot). x.at < following) (sym (slot_at-other slots p s (followed (slot_at slots p) s) (λ is. apart p p_taken (sym is)))) free_low in
-      subst (λ l. IsPermutation (follower new ∷ l) (followers then)) put_before
-      (followers-joined (next_put slots p s) s new (omega (arith, free_within, length-set slots p (followed (slot_at slots p) s))) low (omega arith))
+      let free_at : (slot_at (next_put slots p s) s).at ≡ count + free - 1 = ap (λ (x : Slot). x.at) (next_put_same slots p s s p_in) ∙ vacant.at in
+      subst (λ l. IsPermutation (follower new ∷ l) (followers then)) (followers-next_put slots p s p_in)
+      (followers-joined (next_put slots p s) s new (omega (arith, free_within, length-set slots p (followed (slot_at slots p) s))) (omega (arith, free_at, vacant.low)) (omega arith))

@@ -6,6 +6,7 @@ pub mod Lists
 pub mod Times
 pub mod Marks
 pub mod HeadsAndFollowers
+pub mod Parts
 pub mod Seen
 pub mod Swapped
 pub mod Fewer

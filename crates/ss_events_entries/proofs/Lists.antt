@@ -1,5 +1,6 @@
 -- Lists that calls change.
-use Rattle.std.proofs.Common.{◌≡◌, ℕ, zero, suc, ◌+◌, ◌-◌, ◌<◌, Bool, true, false, cond, ltb, Vec, List, [], ◌∷◌, length, get_or, set, take, swap, position, Some, None, refl, sym, ap, ◌∙◌, arith}
+use Rattle.std.proofs.Common.{◌≡◌, ◌≢◌, ℕ, zero, suc, ◌+◌, ◌-◌, ◌<◌, Bool, true, false, cond, ltb, Vec, List, [], ◌∷◌, length, get_or, set, take, swap, position, Some, None, refl, sym, ap, ◌∙◌, arith}
+use Rattle.std.specs.Prelude.{◌==◌}
 use Rattle.ss_events_entries.proofs.Common.{list_any, nat_tests, swap_remove, with_items}
 use Rattle.std.proofs.lemmas.Bool.{or_parts, or_from, lt-ltb, le-ltb}
 use Rattle.std.proofs.lemmas.List.{with_items_is, take-set}
@@ -35,10 +36,21 @@ module _ {X : Type 0} (p : X → Bool) where
       ap (λ n. cond (ltb n (length xs)) (Some n) None) (position_or_len_is p xs (length xs) d (omega arith) fails (λ lt. absurd (omega (arith, lt))))
       ∙ ap (λ b. cond b (Some (length xs)) None) (le-ltb (length xs) (length xs) (omega arith))
 
+-- ---- whether two numbers are one
+
+pub same_test : (m n : ℕ) → m ≡ n → (m == n) ≡ true
+same_test m n e = grind (arith, nat_tests)
+
+pub other_test : (m n : ℕ) → m ≢ n → (m == n) ≡ false
+other_test m n e = grind (arith, nat_tests)
+
 -- ---- two numbers in each other's place
 
 pub exchange-first : (a b m : ℕ) → m ≡ a → exchange a b m ≡ b
 exchange-first a b m e = grind (arith, nat_tests)
+
+pub exchange-second : (a b m : ℕ) → m ≡ b → exchange a b m ≡ a
+exchange-second a b m e = grind (arith, nat_tests)
 
 pub exchange-other : (a b m : ℕ) → (m ≡ a → ⊥) → (m ≡ b → ⊥) → exchange a b m ≡ m
 exchange-other a b m na nb = grind (arith, nat_tests)

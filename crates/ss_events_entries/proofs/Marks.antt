@@ -1,8 +1,9 @@
 -- Plain entries, which their marks describe, and entries that are stored whole.
-use Rattle.std.proofs.Common.{◌≡◌, ◌≢◌, ℕ, ◌+◌, ◌*◌, ◌/◌, ◌%◌, ◌<◌, ℤ, Bool, true, false, cond, ltb, [], refl, sym, ap, ◌∙◌, ⊎_elim, arith}
+use Rattle.std.proofs.Common.{◌≡◌, ◌≢◌, ℕ, ◌+◌, ◌*◌, ◌/◌, ◌%◌, ◌<◌, ℤ, Bool, true, false, cond, ltb, List, get_or, set, refl, sym, ap, ◌∙◌, ⊎_elim, arith}
 use Rattle.std.specs.Prelude.{◌==◌}
-use Rattle.ss_events_entries.proofs.Common.{cases_eq, Entry, entry_in, is_tied, lt-ltb, Mark, mark_of, nat_tests, not_plain, order_of, plain_entry, plain_numbers, plain_ranks}
-use Rattle.ss_events_entries.proofs.Times.{by_three, untied, below}
+use Rattle.ss_events_entries.proofs.Common.{cases_eq, Entry, entry_in, get_or-set_other, lt-ltb, Mark, mark_of, no_entry, not_plain, order_of, plain_entry, plain_numbers, plain_ranks}
+use Rattle.ss_events_entries.proofs.Times.{untied, plain_parts}
+use Rattle.ss_events_entries.proofs.Lists.{same_test, other_test}
 
 -- ---- one entry
 
@@ -13,17 +14,11 @@ by_test false e f n h k = k
 pub notice_in : (m : Mark) (n : ℤ) (w : Entry) → (entry_in m n w).notice ≡ n
 notice_in m n w = by_test (m.order == not_plain) (record { key = w.key; number = w.number; notice = n }) (plain_entry m n) n refl refl
 
-pub plain_test : (o : ℕ) → o ≢ not_plain → (o == not_plain) ≡ false
-plain_test o h = grind (arith, nat_tests)
-
-not_plain_test : (o : ℕ) → o ≡ not_plain → (o == not_plain) ≡ true
-not_plain_test o h = grind (arith, nat_tests)
-
 pub in-not_plain : (m : Mark) (n : ℤ) (w : Entry) → m.order ≡ not_plain → entry_in m n w ≡ record { key = w.key; number = w.number; notice = n }
-in-not_plain m n w h = ap (λ b. cond b (record { key = w.key; number = w.number; notice = n }) (plain_entry m n)) (not_plain_test m.order h)
+in-not_plain m n w h = ap (λ b. cond b (record { key = w.key; number = w.number; notice = n }) (plain_entry m n)) (same_test m.order not_plain h)
 
 pub in-plain : (m : Mark) (n : ℤ) (w : Entry) → m.order ≢ not_plain → entry_in m n w ≡ plain_entry m n
-in-plain m n w h = ap (λ b. cond b (record { key = w.key; number = w.number; notice = n }) (plain_entry m n)) (plain_test m.order h)
+in-plain m n w h = ap (λ b. cond b (record { key = w.key; number = w.number; notice = n }) (plain_entry m n)) (other_test m.order not_plain h)
 
 -- what the mark of a plain entry holds
 rank_back : (o r n : ℕ) → o ≡ r * plain_numbers + n → n < plain_numbers → o / plain_numbers ≡ r
@@ -32,24 +27,16 @@ rank_back o r n is lt = omega (arith, is, lt)
 number_back : (o r n : ℕ) → o ≡ r * plain_numbers + n → n < plain_numbers → o % plain_numbers ≡ n
 number_back o r n is lt = omega (arith, is, lt)
 
-plain_all : (e : Entry) → (order_of e ≡ not_plain → ⊥) → (e.key.ties ≡ []) × (e.key.rank < plain_ranks) × (e.number < plain_numbers) × (order_of e ≡ e.key.rank * plain_numbers + e.number)
-plain_all e h =
-    let it = by_three (is_tied e.key.ties) (ltb (e.key.rank) (plain_ranks)) (ltb (e.number) (plain_numbers)) not_plain (e.key.rank * plain_numbers + e.number) h in (
-      untied e.key.ties it.0,
-      below e.key.rank plain_ranks it.1,
-      below e.number plain_numbers it.2,
-      (λ i. cond (it.0 i) not_plain (cond (it.1 i) (cond (it.2 i) (e.key.rank * plain_numbers + e.number) not_plain) not_plain)),
-    )
-
 pub plain_again : (e : Entry) (n : ℤ) → (order_of e ≡ not_plain → ⊥) → plain_entry (mark_of e) n ≡ record { key = e.key; number = e.number; notice = n }
 plain_again e n h =
-    let it = plain_all e h in
+    let it = plain_parts e h in
+    let ties = sym (untied e.key.ties it.0) in
     let rank = rank_back (order_of e) e.key.rank e.number it.3 it.2 in
     let number = number_back (order_of e) e.key.rank e.number it.3 it.2 in
-    λ i. record { key = record { time = e.key.time; rank = rank i; ties = sym it.0 i }; number = number i; notice = n }
+    λ i. record { key = record { time = e.key.time; rank = rank i; ties = ties i }; number = number i; notice = n }
 
 pub plain_small : (e : Entry) → (order_of e ≡ not_plain → ⊥) → order_of e < plain_ranks * plain_numbers
-plain_small e h = let it = plain_all e h in omega (arith, it.1, it.2, it.3)
+plain_small e h = let it = plain_parts e h in omega (arith, it.1, it.2, it.3)
 
 -- the mark of the plain entry that a mark describes
 plain_order : (o : ℕ) → o < plain_ranks * plain_numbers → cond (ltb (o / plain_numbers) plain_ranks) (cond (ltb (o % plain_numbers) plain_numbers) (o / plain_numbers * plain_numbers + o % plain_numbers) not_plain) not_plain ≡ o
@@ -69,3 +56,8 @@ in_again e w h = ⊎_elim
     (λ is. in-not_plain (mark_of e) e.notice w is ∙ ap (λ (x : Entry). record { key = x.key; number = x.number; notice = e.notice }) (h is))
     (λ other. in-plain (mark_of e) e.notice w other ∙ plain_again e e.notice other)
     (cases_eq (order_of e) not_plain)
+
+-- another entry, once one was stored whole or not
+pub other_whole : (b : Bool) (ws vs : List Entry) (s : ℕ) (e : Entry) → vs ≡ cond b (set ws s e) ws → (t : ℕ) → t ≢ s → get_or vs t no_entry ≡ get_or ws t no_entry
+other_whole true ws vs s e is t other = ap (λ l. get_or l t no_entry) is ∙ get_or-set_other ws s t e no_entry other
+other_whole false ws vs s e is t other = ap (λ l. get_or l t no_entry) is

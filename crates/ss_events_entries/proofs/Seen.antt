@@ -31,6 +31,31 @@ notice_of es k d within = get_or-map (λ (e : Entry). e.notice) es k d (pos 0) w
 pub long_notices : (es : List Entry) → length (notices_of es) ≡ length es
 long_notices es = length-map es (λ (e : Entry). e.notice)
 
+-- ---- the notices of followers
+
+module _ (slots : List Slot) (n : ℤ) where
+  follower_notice : (s k : ℕ) → Follows slots s k → get_or (notices_of (followers slots)) k (pos 0) ≡ (slot_at slots s).notice
+  follower_notice s k f = notice_of (followers slots) k no_entry f.listed ∙ ap (λ (e : Entry). e.notice) (f.is no_entry)
+
+  -- no follower has a notice that no following slot has, and back
+  pub no_follower_has : ((s : ℕ) → s < length slots → following ≤ (slot_at slots s).at → (slot_at slots s).notice ≢ n) → list_any (int_eq n) (notices_of (followers slots)) ≡ false
+  no_follower_has none =
+      none_passes (int_eq n) (notices_of (followers slots)) (pos 0)
+      (λ k k_in.
+      let s = slot_of_follower slots k (omega (arith, k_in, long_notices (followers slots))) in
+      ap (int_eq n) (follower_notice s.0 k s.1)
+      ∙ apart_by_test n (slot_at slots s.0).notice (λ is. none s.0 s.1.within s.1.nodes (sym is)))
+
+  followers-without : list_any (int_eq n) (notices_of (followers slots)) ≡ false → (s : ℕ) → s < length slots → following ≤ (slot_at slots s).at → (slot_at slots s).notice ≢ n
+  followers-without none s within node_so is =
+      let k = follower_at slots s within node_so in
+      let fails = each_fails (int_eq n) (notices_of (followers slots)) (pos 0) none k.0 (omega (arith, k.1.listed, long_notices (followers slots))) in
+      apart_of_test n (slot_at slots s).notice (ap (int_eq n) (sym (follower_notice s k.0 k.1)) ∙ fails) (sym is)
+
+  -- where a following slot has it, a follower has it
+  pub follower_has : (s : ℕ) → s < length slots → following ≤ (slot_at slots s).at → (slot_at slots s).notice ≡ n → list_any (int_eq n) (notices_of (followers slots)) ≡ true
+  follower_has s within placed is = ⊎_elim (λ it. it) (λ none. absurd (followers-without none s within placed is)) (cases_Bool (list_any (int_eq n) (notices_of (followers slots))))
+
 module _ (count free : ℕ) (slots : List Slot) (wholes : List Entry) (nodes : List HeapNode) (directory : SlotDirectory) (h : AreHeld count free slots wholes nodes directory) where
   -- there are no more places than nodes
   pub few_places : count ≤ length nodes
@@ -81,10 +106,6 @@ module _ (count free : ℕ) (slots : List Slot) (wholes : List Entry) (nodes : L
   pub many_heads : length (notices_of (heads count slots wholes nodes)) ≡ count
   many_heads = long_notices (heads count slots wholes nodes) ∙ long_heads count slots wholes nodes few_places
 
-  -- the notice of a follower
-  follower_notice : (s k : ℕ) → Follows slots s k → get_or (notices_of (followers slots)) k (pos 0) ≡ (slot_at slots s).notice
-  follower_notice s k f = notice_of (followers slots) k no_entry f.listed ∙ ap (λ (e : Entry). e.notice) (f.is no_entry)
-
   module _ (n : ℤ) where
     -- no head has a notice that no slot in a place has, and back
     pub heads-free : ((s : ℕ) → s < length slots → (slot_at slots s).at < count → (slot_at slots s).notice ≢ n) → list_any (int_eq n) (notices_of (heads count slots wholes nodes)) ≡ false
@@ -102,29 +123,14 @@ module _ (count free : ℕ) (slots : List Slot) (wholes : List Entry) (nodes : L
         apart_of_test n (slot_at slots (node nodes k).slot).notice (ap (int_eq n) (sym (head_notice k placed)) ∙ fails)
         (sym is ∙ ap (λ t. (slot_at slots t).notice) (sym (nodes_there s within placed)))
 
-    -- no follower has a notice that no following slot has, and back
-    pub followers-free : ((s : ℕ) → s < length slots → following ≤ (slot_at slots s).at → (slot_at slots s).notice ≢ n) → list_any (int_eq n) (notices_of (followers slots)) ≡ false
-    followers-free none =
-        none_passes (int_eq n) (notices_of (followers slots)) (pos 0)
-        (λ k k_in.
-        let s = slot_of_follower slots k (omega (arith, k_in, long_notices (followers slots))) in
-        ap (int_eq n) (follower_notice s.0 k s.1)
-        ∙ apart_by_test n (slot_at slots s.0).notice (λ is. none s.0 s.1.within s.1.nodes (sym is)))
-
-    pub followers-without : list_any (int_eq n) (notices_of (followers slots)) ≡ false → (s : ℕ) → s < length slots → following ≤ (slot_at slots s).at → (slot_at slots s).notice ≢ n
-    followers-without none s within node_so is =
-        let k = follower_at slots s within node_so in
-        let fails = each_fails (int_eq n) (notices_of (followers slots)) (pos 0) none k.0 (omega (arith, k.1.listed, long_notices (followers slots))) in
-        apart_of_test n (slot_at slots s).notice (ap (int_eq n) (sym (follower_notice s k.0 k.1)) ∙ fails) (sym is)
-
     -- no entry has a notice that no slot has that is taken, and back
     pub notice-free : ((s : ℕ) → s < length slots → IsTaken count (slot_at slots s) → (slot_at slots s).notice ≢ n)
         → (list_any (int_eq n) (notices_of (heads count slots wholes nodes)) ≡ false) × (list_any (int_eq n) (notices_of (followers slots)) ≡ false)
-    notice-free none = (heads-free (λ s within placed. none s within (inl placed)), followers-free (λ s within placed. none s within (inr placed)))
+    notice-free none = (heads-free (λ s within placed. none s within (inl placed)), no_follower_has slots n (λ s within placed. none s within (inr placed)))
 
     pub notice-without : list_any (int_eq n) (notices_of (heads count slots wholes nodes)) ≡ false → list_any (int_eq n) (notices_of (followers slots)) ≡ false
         → (s : ℕ) → s < length slots → IsTaken count (slot_at slots s) → (slot_at slots s).notice ≢ n
-    notice-without apart fresh s within taken = ⊎_elim (λ placed. heads-without apart s within placed) (λ placed. followers-without fresh s within placed) taken
+    notice-without apart fresh s within taken = ⊎_elim (λ placed. heads-without apart s within placed) (λ placed. followers-without slots n fresh s within placed) taken
 
     -- a notice that no head has is in no place
     pub position_nowhere : list_any (int_eq n) (notices_of (heads count slots wholes nodes)) ≡ false → position (int_eq n) (notices_of (heads count slots wholes nodes)) ≡ None
@@ -149,10 +155,7 @@ module _ (count free : ℕ) (slots : List Slot) (wholes : List Entry) (nodes : L
       pub head_has : (slot_at slots s).at < count → list_any (int_eq n) (notices_of (heads count slots wholes nodes)) ≡ true
       head_has placed = ⊎_elim (λ it. it) (λ none. absurd (heads-without none s within placed is)) (cases_Bool (list_any (int_eq n) (notices_of (heads count slots wholes nodes))))
 
-      -- where a following slot has it, a follower has it, and no head
-      pub follower_has : following ≤ (slot_at slots s).at → list_any (int_eq n) (notices_of (followers slots)) ≡ true
-      follower_has placed = ⊎_elim (λ it. it) (λ none. absurd (followers-without none s within placed is)) (cases_Bool (list_any (int_eq n) (notices_of (followers slots))))
-
+      -- where a following slot has it, no head has it
       pub no_head_has : following ≤ (slot_at slots s).at → list_any (int_eq n) (notices_of (heads count slots wholes nodes)) ≡ false
       no_head_has placed =
           heads-free
@@ -168,7 +171,7 @@ module _ (count free : ℕ) (slots : List Slot) (wholes : List Entry) (nodes : L
     holds_read None none = let it = notice-free none in λ i. sym it.0 i || sym it.1 i
     holds_read (Some s) it = ⊎_elim
         (λ placed. ap (λ b. b || list_any (int_eq n) (notices_of (followers slots))) (sym (head_has s it.0 it.2 placed)))
-        (λ placed. λ i. sym (no_head_has s it.0 it.2 placed) i || sym (follower_has s it.0 it.2 placed) i)
+        (λ placed. λ i. sym (no_head_has s it.0 it.2 placed) i || sym (follower_has slots n s it.0 placed it.2) i)
         it.1
 
   -- ---- what is read of a place

@@ -1,10 +1,11 @@
 -- Entries whose order is decided before their ties are compared.
 use Rattle.std.proofs.Common.{◌≡◌, ℕ, ◌+◌, ◌*◌, ◌<◌, ℤ, Bool, true, false, cond, ltb, refl, sym, ap, ◌∙◌, List, [], ◌∷◌, ⊎_elim, arith}
 use Rattle.std.specs.Prelude.{int_lt, nat_lt, ◌==◌}
-use Rattle.ss_events_entries.proofs.Common.{cases_eq, cases_lt, Entry, Equal, Greater, ints, is_tied, IsBut, le-ltb, Less, lt-ltb, nat_tests, not_plain, order_of, Ordering, plain_numbers, plain_ranks, slice_cmp, Tie}
+use Rattle.ss_events_entries.proofs.Common.{cases_eq, cases_lt, Entry, Equal, Greater, ints, is_tied, IsBut, le-ltb, Less, lt-ltb, not_plain, order_of, Ordering, plain_numbers, plain_ranks, slice_cmp, Tie}
 use Rattle.std.specs.Ordering.{int_cmp, nat_cmp, is_lt, ordering_then}
 use Rattle.std.proofs.lemmas.Cmp.{tied_itself, nat_cmp_total, int_cmp_total}
 use Rattle.ss_world.specs.Order.{tie_order, key_order, comes_before}
+use Rattle.ss_events_entries.proofs.Lists.{other_test}
 
 by_tests : (b c : Bool) (r s : Ordering) → (b ≡ false → c ≡ false → ⊥) → b ≡ is_lt (ordering_then (ordering_then (cond b Less (cond c Greater Equal)) r) s)
 by_tests true c r s h = refl
@@ -29,9 +30,6 @@ by_ranks true q o r s e f = ap (λ p. is_lt (ordering_then (ordering_then p (ord
 by_ranks false true o r s e f = absurd cc
 by_ranks false false o r s e f = ap (λ p. is_lt (ordering_then (ordering_then p (ordering_then Greater r)) s)) (sym e)
 
-apart : (r s : ℕ) → (r ≡ s → ⊥) → (r == s) ≡ false
-apart r s h = grind (arith, nat_tests)
-
 same_time : (t u : ℤ) → t ≡ u → int_cmp t u ≡ Equal
 same_time t u e = ap (int_cmp t) (sym e) ∙ tied_itself int_cmp_total t
 
@@ -43,7 +41,7 @@ pub ranks_tell : (e f : Entry) → e.key.time ≡ f.key.time → (e.key.rank ≡
 unfolding comes_before
 ranks_tell e f same differ =
     by_ranks (nat_lt e.key.rank f.key.rank) (e.key.rank == f.key.rank) (int_cmp e.key.time f.key.time) (slice_cmp tie_order e.key.ties f.key.ties) (nat_cmp e.number f.number)
-    (same_time e.key.time f.key.time same) (apart e.key.rank f.key.rank differ)
+    (same_time e.key.time f.key.time same) (other_test e.key.rank f.key.rank differ)
 
 by_number : (b q : Bool) → b ≡ is_lt (cond b Less (cond q Equal Greater))
 by_number true q = refl
@@ -67,20 +65,21 @@ numbers_tell e f a b c d =
 
 -- ---- by the orders in the marks of plain entries
 
-pub by_three : (b c d : Bool) (u x : ℕ) → (cond b u (cond c (cond d x u) u) ≡ u → ⊥) → (b ≡ false) × (c ≡ true) × (d ≡ true)
+by_three : (b c d : Bool) (u x : ℕ) → (cond b u (cond c (cond d x u) u) ≡ u → ⊥) → (b ≡ false) × (c ≡ true) × (d ≡ true)
 by_three true c d u x h = absurd (h refl)
 by_three false false d u x h = absurd (h refl)
 by_three false true false u x h = absurd (h refl)
 by_three false true true u x h = (refl, refl, refl)
 
-pub below : (m n : ℕ) → ltb m n ≡ true → m < n
+below : (m n : ℕ) → ltb m n ≡ true → m < n
 below m n e = ⊎_elim (λ lt. lt) (λ past. absurd (let x : ltb m n ≡ false = le-ltb m n past in cc)) (cases_lt m n)
 
 -- what is known of a plain entry
-plain_parts : (e : Entry) → (order_of e ≡ not_plain → ⊥) → (is_tied e.key.ties ≡ false) × (e.number < plain_numbers) × (order_of e ≡ e.key.rank * plain_numbers + e.number)
+pub plain_parts : (e : Entry) → (order_of e ≡ not_plain → ⊥) → (is_tied e.key.ties ≡ false) × (e.key.rank < plain_ranks) × (e.number < plain_numbers) × (order_of e ≡ e.key.rank * plain_numbers + e.number)
 plain_parts e h =
     let it = by_three (is_tied e.key.ties) (ltb e.key.rank plain_ranks) (ltb e.number plain_numbers) not_plain (e.key.rank * plain_numbers + e.number) h in (
       it.0,
+      below e.key.rank plain_ranks it.1,
       below e.number plain_numbers it.2,
       (λ i. cond (it.0 i) not_plain (cond (it.1 i) (cond (it.2 i) (e.key.rank * plain_numbers + e.number) not_plain) not_plain)),
     )
@@ -102,9 +101,9 @@ pub orders_decide : (e f : Entry) → e.key.time ≡ f.key.time → (order_of e 
 orders_decide e f same first second =
     let a = plain_parts e first in
     let b = plain_parts f second in
-    (λ i. nat_lt (a.2 i) (b.2 i)) ∙ ⊎_elim
+    (λ i. nat_lt (a.3 i) (b.3 i)) ∙ ⊎_elim
     (λ is. of_one_rank e.key.rank f.key.rank e.number f.number is ∙ numbers_tell e f same is a.0 b.0)
-    (λ other. of_two_ranks e.key.rank f.key.rank e.number f.number other a.1 b.1 ∙ ranks_tell e f same other)
+    (λ other. of_two_ranks e.key.rank f.key.rank e.number f.number other a.2 b.2 ∙ ranks_tell e f same other)
     (cases_eq e.key.rank f.key.rank)
 
 -- ---- whatever the notices

@@ -45,7 +45,7 @@ pub use Rattle.ss_machine_instructions.specs.declared.state.State.{State}
 pub use Rattle.ss_machine_time.specs.Figures.{statistic_variable}
 pub use Rattle.ss_machine_world.proofs.Composing.{unwatched}
 pub use Rattle.ss_machine_world.proofs.Reading.{value_once}
-pub use Rattle.ss_machine_world.proofs.Said.{said_still}
+pub use Rattle.ss_machine_world.proofs.Said.{said_of_layout}
 pub use Rattle.ss_machine_world.proofs.Starting.{seen_of}
 pub use Rattle.ss_machine_world.specs.Numbers.{HasValidSubject, IsReferenceToSubject, attribute_noted, count_noted, created_all_known}
 pub use Rattle.ss_machine_world.specs.Seen.{HasAnswer, HasChanged, HasChangedWhere, HasChangedWithMemory, HasMade, HasRearranged, IsRight, Seen, as_value, number_if, with_seen, without_value}

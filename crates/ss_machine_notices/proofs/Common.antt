@@ -38,7 +38,7 @@ pub use Rattle.ss_machine_instructions.specs.declared.flow.Here.{Here}
 pub use Rattle.ss_machine_instructions.specs.declared.state.State.{State}
 pub use Rattle.ss_machine_notices.specs.Beginning.{AreRead, AreReceived, HasLetGo, HasLetGoThen, HasReceived, IsNextEvent, IsUnbegun}
 pub use Rattle.ss_machine_notices.specs.Giving.{HasGivenValues, HasSetField, IsNoticeMade, IsReadBack, IsSettledIn, IsSettledWithMemory, IsSuitable, number_or, refiled, unpended}
-pub use Rattle.ss_machine_world.proofs.Said.{said_still}
+pub use Rattle.ss_machine_world.proofs.Said.{said_of_layout}
 pub use Rattle.ss_machine_world.proofs.Starting.{seen_of}
 pub use Rattle.ss_machine_world.specs.Numbers.{attribute_noted}
 pub use Rattle.ss_machine_world.specs.Seen.{HasAnswer, HasChanged, HasChangedWithMemory, HasRearranged, IsRight, Seen, as_value, with_seen}

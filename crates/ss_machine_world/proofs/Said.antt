@@ -150,7 +150,11 @@ pub unranked : (k : ℕ) (l : PlainLayout) (ss : List Statistic) (entries : List
 unranked k l ss entries said =
     (said.0, λ class e found. record { watched = (said.1 class e found).watched; ranked = λ r h. absurd (let none : None ≡ Some r = h in cc) })
 
--- what is said stays so where the classes and sets and the statistics are the same
+-- what is said stays so where the classes and sets are the same
+pub said_of_layout : (l m : PlainLayout) (es : List Notices) (ss : List Statistic) (entries : List ClassEntry) → m ≡ l → AreSaid l es ss entries → AreSaid m es ss entries
+said_of_layout l m es ss entries layout said = subst (λ (m : PlainLayout). AreSaid m es ss entries) (sym layout) said
+
+-- and where the statistics are the same too
 pub said_still : (l m : PlainLayout) (es : List Notices) (ss ts : List Statistic) (entries : List ClassEntry) → m ≡ l → ts ≡ ss → AreSaid l es ss entries → AreSaid m es ts entries
 said_still l m es ss ts entries layout statistics said =
     subst (λ (m : PlainLayout). AreSaid m es ts entries) (sym layout) (subst (λ (ts : List Statistic). AreSaid l es ts entries) (sym statistics) said)

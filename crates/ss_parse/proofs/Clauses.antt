@@ -9,6 +9,7 @@ use Rattle.ss_parse_expressions.specs.declared.classes.WordClass.TheVariants as 
 use Rattle.ss_parse_expressions.specs.Shapes.{Shape, ◌▷◌, either_shape, separator, Word_is, separated_list}
 use Rattle.ss_parse_expressions.specs.Reading.{word, is, begins, expect, after_dropped, apply, comma, skip_separator, begins_more, list_of}
 use Rattle.ss_parse_expressions.specs.ReadWords.{among, begins_item, items}
+use Rattle.ss_parse_expressions.proofs.Marks.{starts_otherwise}
 use Rattle.ss_parse_expressions.proofs.Rows as rows_laws
 use Rattle.ss_parse.specs.SpelledPreambles.{Clause_is, Clauses_are}
 use Rattle.ss_parse.specs.ReadPreambles.{clause, clause_word, begins_clause, clauses}
@@ -69,12 +70,7 @@ module _ (k : ℕ) where
   clause_less ts (belongs_to ns) rest (a, w, (b, v, (c, u, s))) = omega (arith, token_less (kinds.Word words.May) ts a w, token_less (kinds.Word words.Belong) a b v, token_less (kinds.Word words.To) b c u, (items_reads k).shorter c ns rest s)
 
   clause_no_and : (ts : List Token) → begins_clause ts ≡ true → begins (word words.And) ts ≡ false
-  clause_no_and [] e = refl
-  clause_no_and (t ∷ ts) e = go t.kind e
-    where
-      go : (kind : TokenKind) → among clause_word kind ≡ true → is (word words.And) kind ≡ false
-      go (kinds.Word w) e = (clause_no_item w e).1
-      go _ e = absurd cc
+  clause_no_and = starts_otherwise (word words.And) begins_clause (λ span line ts. refl)
 
   -- a separator and a clause are not a separator and an item
   clause_stops : (ts : List Token) (x : ClauseTree) (rest : List Token) → (separator ▷ Clause_is x) ts rest → continues_items ts ≡ false

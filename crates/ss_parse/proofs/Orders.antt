@@ -1,6 +1,6 @@
 -- Keys, and the orders of sets: what is read is spelled, and what is spelled is read. Before them, what continues a statement of a preamble.
 use Rattle.std.proofs.Common.{◌≡◌, ℕ, ◌<◌, Bool, true, false, ◌||◌, List, length, drop, Ok, refl, sym, ap, subst, ◌∙◌, arith, inl, inr}
-use Rattle.ss_parse.proofs.Common.{apply_reads, begins, begins_among, begins_by, begins_class, begins_more, begins_noisy, comma, continues_never, expect_reads, fewer_reads, first_and_reads, following_reads, HasFailedReading, in_table, Item, item_of, Loop, loop_of, Made, marked_reads, name_in_token, NamedKey, noisy, or_false, ParseFailure, Reads, reshaped_reads, seq_reads, taken, Token, Word, word}
+use Rattle.ss_parse.proofs.Common.{apply_reads, begins, begins_among, begins_by, begins_class, begins_more, begins_noisy, comma, continues_never, done_reads, either_reads, expect_reads, fewer_reads, first_and_reads, following_reads, HasFailedReading, in_table, Item, item_of, Loop, loop_of, Made, marked_reads, name_in_token, NamedKey, noisy, or_false, ParseFailure, Reads, reshaped_reads, seq_reads, taken, Token, Word, word}
 use Rattle.ss_lex.specs.declared.word.Word.TheVariants as words
 use Rattle.ss_lex.specs.declared.token.TokenKind.TheVariants as kinds
 use Rattle.ss_tree.specs.Tree.{OrderTree, fifo, lifo, ranked}
@@ -8,7 +8,7 @@ use Rattle.ss_parse_expressions.specs.declared.failure.ParseFailure.TheVariants 
 use Rattle.ss_parse_expressions.specs.declared.classes.WordClass.TheVariants as alike
 use Rattle.ss_parse_expressions.specs.Shapes.{Shape, ◌▷◌, nothing, either_shape, provided, Word_is, Name_is, Word_for}
 use Rattle.ss_parse_expressions.proofs.Marks.{token_less, no_skip}
-use Rattle.ss_parse_expressions.proofs.WordLaws.{word_in_reads, done_reads, noisy_mark_reads, noisy_begins, noisy_less, name_reads, name_less, either_reads, item_made, no_word}
+use Rattle.ss_parse_expressions.proofs.WordLaws.{word_in_reads, noisy_mark_reads, noisy_begins, noisy_less, name_reads, name_less, item_made, no_word}
 use Rattle.ss_parse.specs.SpelledPreambles.{Key_is, Keys_are, Order_is}
 use Rattle.ss_parse_expressions.specs.WordTables.{mode_of_word, rank_of}
 use Rattle.ss_parse.specs.ReadPreambles.{key_tree, key, then_rank, then_key, keys, ranking, order}

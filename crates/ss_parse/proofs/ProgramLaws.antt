@@ -1,13 +1,13 @@
 -- Programs: what is read is spelled, and what is spelled is read.
-use Rattle.std.proofs.Common.{◌≡◌, ℕ, zero, suc, ◌≤◌, Bool, true, false, ◌||◌, List, [], ◌∷◌, Some, refl, sym, ap, subst, ◌∙◌, arith}
-use Rattle.ss_parse.proofs.Common.{by_word_reads, done_reads, fail_reads, first_less, Form, Line, mode_of_word, ModeWord, name_reads, names_reads, no_word, optional_class_reads, or_false, perhaps_listed_reads, plain_form, Span, Token, Word, word_in_reads}
+use Rattle.std.proofs.Common.{◌≡◌, ℕ, zero, suc, ◌≤◌, Bool, true, false, ◌||◌, List, [], ◌∷◌, refl, sym, ap, subst, ◌∙◌, arith}
+use Rattle.ss_parse.proofs.Common.{by_word_reads, done_reads, fail_reads, first_less, Form, Line, mode_of_word, name_reads, names_reads, no_word, optional_class_reads, or_false, perhaps_listed_reads, plain_form, Span, Token, Word, word_in_reads}
 use Rattle.ss_lex.specs.declared.word.Word.TheVariants as words
 use Rattle.ss_lex.specs.declared.token.Symbol.TheVariants.{Comma}
 use Rattle.ss_lex.specs.declared.token.TokenKind.TheVariants as kinds
 use Rattle.ss_tree.specs.Tree.{StatementTree, DefinitionTree, SectionKindTree, main, routine, event, SectionTree}
 use Rattle.ss_parse_expressions.specs.declared.classes.WordClass.TheVariants as classes
-use Rattle.ss_parse_expressions.specs.Shapes.{Shape, ◌▷◌, nothing, optional, provided, noise, Word_is, Name_is, at, first_token_line, each_in_turn, flagged}
-use Rattle.ss_parse_expressions.specs.Words.{has_word, One_of, perhaps_listed}
+use Rattle.ss_parse_expressions.specs.Shapes.{Shape, ◌▷◌, nothing, optional, provided, noise, Word_is, Name_is, at, each_in_turn, flagged}
+use Rattle.ss_parse_expressions.specs.Words.{One_of, perhaps_listed}
 use Rattle.ss_parse_expressions.specs.Reading.{word, is, begins, expect, after_dropped, maybe_list, rows, begins_more}
 use Rattle.ss_parse_expressions.specs.ReadWords.{fail, begins_class, begins_among, begins_name, names}
 use Rattle.ss_parse_expressions.proofs.Marks.{token, mark_begins, token_less}
@@ -16,6 +16,7 @@ use Rattle.ss_parse_expressions.proofs.Rows.{rows_reads, Loop, loop_of}
 use Rattle.ss_parse.specs.SpelledPreambles.{Variables_are}
 use Rattle.ss_parse.specs.SpelledPrograms.{section_word, Saving_words, Kind_rest, Definition_is, Section_is, Program_is}
 use Rattle.ss_parse_statements.specs.ReadStatements.{form_word}
+use Rattle.ss_parse.proofs.Forms.{mode_no_article}
 use Rattle.ss_parse.proofs.WholePreambles.{whole_preamble_reads}
 use Rattle.ss_parse.specs.ReadPrograms.{section_words, begins_section, saving, routine_kind, event_kind, kind_after, variables, definition_tree, definition_at, definition, definitions, body_in, section_tree, section_at, section_in, program_tree, program_in}
 use Rattle.ss_parse_statements.proofs.Beginnings.{false_past_comma}
@@ -50,12 +51,6 @@ kind_names w held ts stop =
     let a : begins (word w) ts ≡ false = kind_word w held ts stop in
     let b : begins_more begins_name ts ≡ false = (or_false (begins_among kind_more ts) (begins_more begins_name ts) stop).1 in
     rw (a, b) refl
-
-mode_no_article : (w : Word) (mode : ModeWord) → mode_of_word w ≡ Some mode → has_word classes.Article w ≡ false
-mode_no_article words.Integer mode e = refl
-mode_no_article words.Alpha mode e = refl
-mode_no_article words.Real mode e = refl
-mode_no_article _ mode e = absurd cc
 
 module _ (k : ℕ) where
   names_after : (w : Word) → Reads k (maybe_list (begins (word w)) (after_dropped (expect (word w)) names)) (maybe_list (begins (word w)) (after_dropped (expect (word w)) names)) (perhaps_listed (Word_is w) Name_is) (continues_listed w)
@@ -98,20 +93,17 @@ module _ (k : ℕ) where
     where
       from : (x : SectionKindTree) (ts rest : List Token) → Kind_is words.Main x ts rest → provided (main ≡ x) nothing ts rest
       from main ts rest (u, s) = (refl, s)
-      from (routine name given yielding) ts rest (u, s) = absurd cc
-      from (event name given saving) ts rest (u, s) = absurd cc
+      from _ ts rest (u, s) = absurd cc
   kind_reads words.Routine = reshaped_reads routine_reads (Kind_is words.Routine) (λ x ts rest s. subst (λ x. Kind_is words.Routine x ts rest) s.1 (refl, s.2)) from
     where
       from : (x : SectionKindTree) (ts rest : List Token) → Kind_is words.Routine x ts rest → Made (λ p. routine p.0 p.1.0 p.1.1) Routine_parts x ts rest
-      from main ts rest (u, s) = absurd cc
       from (routine name given yielding) ts rest (u, s) = ((name, (given, yielding)), refl, s)
-      from (event name given saving) ts rest (u, s) = absurd cc
+      from _ ts rest (u, s) = absurd cc
   kind_reads words.Event = reshaped_reads event_reads (Kind_is words.Event) (λ x ts rest s. subst (λ x. Kind_is words.Event x ts rest) s.1 (refl, s.2)) from
     where
       from : (x : SectionKindTree) (ts rest : List Token) → Kind_is words.Event x ts rest → Made (λ p. event p.0 p.1.0 p.1.1) Event_parts x ts rest
-      from main ts rest (u, s) = absurd cc
-      from (routine name given yielding) ts rest (u, s) = absurd cc
       from (event name given saving) ts rest (u, s) = ((name, (given, saving)), refl, s)
+      from _ ts rest (u, s) = absurd cc
   kind_reads _ = no_kind _ refl
 
   -- ---- definitions
@@ -185,8 +177,11 @@ module _ (n m : ℕ) (le : n ≤ m) where
   body_reads : Reads n (body_in n) (body_in m) (Body_is n) continues_never
   body_reads = seq_reads (definitions_reads n) (before_mark_reads (word words.End) (all_statements_reads n m le) (λ span line ts. refl)) (λ xs ts rest s stop. let none : begins (word words.Define) ts ≡ false = no_define n xs ts rest s in rw none refl)
 
+  abbrev Section_rest : SectionTree → Shape
+  Section_rest x = Kind_rest x.kind ▷ Body_is n (x.definitions, x.body)
+
   abbrev Sections_by : Line → Word → SectionTree → Shape
-  Sections_by line w x ts rest = (x.line ≡ line) × (section_word x.kind ≡ w) × (Kind_rest x.kind ▷ Body_is n (x.definitions, x.body)) ts rest
+  Sections_by line w x ts rest = (x.line ≡ line) × (section_word x.kind ≡ w) × Section_rest x ts rest
 
   section_law : (line : Line) (w : Word) → Form n w (section_at n line w) (section_at m line w) (Sections_by line w) continues_never
   unfolding section_at
@@ -196,19 +191,13 @@ module _ (n m : ℕ) (le : n ≤ m) where
       (λ x ts rest s. ((x.kind, (x.definitions, x.body)), (λ i. record { line = sym s.0 i; kind = x.kind; definitions = x.definitions; body = x.body }), (s.2.0, (s.1, s.2.1), s.2.2))))
 
   abbrev In_section : SectionTree → Shape
-  In_section x = at x.line (Word_is (section_word x.kind) ▷ Kind_rest x.kind ▷ Body_is n (x.definitions, x.body))
-
-  section_to : (x : SectionTree) (w : Word) (span : Span) (line : Line) (ts rest : List Token) → Sections_by line w x ts rest → In_section x (token (kinds.Word w) span line ∷ ts) rest
-  section_to x w span line ts rest (at, is, s) = (sym at, (ts, subst (λ (v : Word). Word_is v (token (kinds.Word w) span line ∷ ts) ts) (sym is) (span, line, refl), s))
-
-  section_from : (x : SectionTree) (ts rest : List Token) → In_section x ts rest → (w : Word) × (r : List Token) × (Word_is w ts r) × Sections_by (first_token_line ts) w x r rest
-  section_from x ts rest (at, (r, w, s)) = (section_word x.kind, r, w, (sym at, refl, s))
+  In_section x = at x.line (Word_is (section_word x.kind) ▷ Section_rest x)
 
   section_reads : Reads n (section_in n) (section_in m) In_section continues_never
-  section_reads = by_word_reads section_law In_section section_to section_from
+  section_reads = by_word_reads (λ (x : SectionTree). x.line) (λ (x : SectionTree). section_word x.kind) Section_rest section_law
 
   in_section_item : Item n begins_section (section_in n) (section_in m) In_section continues_never
-  in_section_item = item_of begins_section section_reads (λ ts x rest s. ap begins_section s.1.1.2 ∙ section_known x.kind) (λ ts x rest s. first_less section_law In_section section_to section_from ts x rest s)
+  in_section_item = item_of begins_section section_reads (λ ts x rest s. ap begins_section s.1.1.2 ∙ section_known x.kind) (λ ts x rest s. first_less (λ (x : SectionTree). x.line) (λ (x : SectionTree). section_word x.kind) Section_rest section_law ts x rest s)
 
 pub sections_loop : (room : ℕ) → Loop begins_section (section_in room)
 sections_loop room = loop_of (in_section_item room room (omega arith)) refl

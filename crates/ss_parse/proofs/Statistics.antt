@@ -1,6 +1,6 @@
 -- Statistics: what is read is spelled, and what is spelled is read.
-use Rattle.std.proofs.Common.{◌≡◌, ℕ, ◌<◌, Bool, true, false, ◌||◌, List, length, drop, Some, Ok, refl, sym, ap, ◌∙◌, arith}
-use Rattle.ss_parse.proofs.Common.{apply_reads, begins, begins_more, begins_name, continues_never, HasFailedReading, is, marked_reads, name_in_token, NamedStatistic, optional_reads, ParseFailure, preamble_first, PreambleTree, Reads, separated_list, seq_reads, skip_separator, Statistic_is, statistics, taken, Token, Weighting, weighting_word, Word, word}
+use Rattle.std.proofs.Common.{◌≡◌, ℕ, ◌<◌, true, false, ◌||◌, List, length, drop, Some, Ok, refl, sym, ap, ◌∙◌, arith}
+use Rattle.ss_parse.proofs.Common.{apply_reads, begins, begins_more, begins_name, continues_never, HasFailedReading, is, marked_reads, name_in_token, NamedStatistic, optional_reads, ParseFailure, Reads, separated_list, seq_reads, skip_separator, Statistic_is, taken, Token, Weighting, weighting_word, Word, word}
 use Rattle.ss_lex.specs.declared.word.Word.TheVariants as words
 use Rattle.ss_lex.specs.declared.token.TokenKind.TheVariants as kinds
 use Rattle.ss_base.specs.declared.words.Weighting.TheVariants as weightings
@@ -11,29 +11,9 @@ use Rattle.ss_parse_expressions.proofs.WordLaws.{word_in_reads, name_reads, name
 use Rattle.ss_parse_expressions.specs.WordTables.{statistic_of}
 use Rattle.ss_parse.specs.ReadPreambles.{statistic_tree, statistic_kind, statistic, found, preamble_word}
 
--- ---- which statements are statistics
-
-abbrev pub is_statistics : PreambleTree → Bool
-is_statistics (statistics line weighting fs subject) = true
-is_statistics _ = false
-
-abbrev pub statistics_word : Word → Bool
-statistics_word words.Tally = true
-statistics_word words.Accumulate = true
-statistics_word _ = false
-
-pub weighting_known : (weighting : Weighting) → (statistics_word (weighting_word weighting) ≡ true) × (preamble_word (weighting_word weighting) ≡ true)
-weighting_known weightings.Tally = (refl, refl)
-weighting_known weightings.Accumulate = (refl, refl)
-
-pub statistics_first : (x : PreambleTree) → statistics_word (preamble_first x) ≡ is_statistics x
-statistics_first (statistics line weighting fs subject) = (weighting_known weighting).0
-statistics_first _ = refl
-
-pub no_statistics : (v w : Word) → statistics_word v ≡ false → v ≡ w → statistics_word w ≡ true → ⊥
-no_statistics v w none e there = let same : statistics_word v ≡ statistics_word w = ap statistics_word e in absurd cc
-
--- ---- statistics
+pub weighting_known : (weighting : Weighting) → preamble_word (weighting_word weighting) ≡ true
+weighting_known weightings.Tally = refl
+weighting_known weightings.Accumulate = refl
 
 rank_reads_word : (w : Word) (mode : StatisticKind) → statistic_of w ≡ Some mode → is (word words.The) (kinds.Word w) ≡ false
 rank_reads_word words.Number mode e = refl

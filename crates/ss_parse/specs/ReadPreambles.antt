@@ -1,5 +1,5 @@
 -- Reading preambles from left to right.
-use Rattle.std.specs.Prelude.{ℕ, zero, suc, Bool, true, false, List, [], ◌∷◌, length, Option, Some, None, Ok, if◌then◌else◌}
+use Rattle.std.specs.Prelude.{ℕ, Bool, true, false, List, length, Option, Some, None}
 use Rattle.ss_base.specs.declared.line.Line.{Line}
 use Rattle.ss_lex.specs.declared.word.Word.{Word}
 use Rattle.ss_lex.specs.declared.word.Word.TheVariants as words
@@ -12,7 +12,7 @@ use Rattle.ss_tree.specs.declared.preamble.StatisticKind.{StatisticKind}
 use Rattle.ss_tree.specs.declared.preamble.NamedStatistic.{NamedStatistic}
 use Rattle.ss_tree.specs.Tree.{ClauseTree, has, owns, belongs_to, OrderTree, fifo, lifo, ranked, PreambleTree, permanent_entities, temporary_entities, event_notices, every, normally, system_owns, define_variables, define_sets, priority_order, break_ties, statistics}
 use Rattle.ss_parse_expressions.specs.declared.classes.WordClass.TheVariants as alike
-use Rattle.ss_parse_expressions.specs.Reading.{Reader, ◌>>=◌, word, begins, begins_by, expect, in_table, taken, name_in_token, seq, after_dropped, closed, apply, maybe_list, choose_reader, first_and, list_of}
+use Rattle.ss_parse_expressions.specs.Reading.{Reader, ◌>>=◌, word, begins, begins_by, expect, in_table, taken, name_in_token, seq, after_dropped, closed, apply, maybe_list, choose_reader, row, first_and, list_of}
 use Rattle.ss_parse_expressions.specs.ReadWords.{done, fail, skip_class, begins_noisy, expect_noisy, begins_among, begins_name, names, items}
 use Rattle.ss_parse.specs.SpelledPreambles.{group_after}
 use Rattle.ss_parse_expressions.specs.WordTables.{mode_of_word, rank_of, statistic_of}
@@ -155,15 +155,9 @@ begins_preamble = begins_among preamble_word
 abbrev pub preamble_in : Option ClassKind → Reader PreambleTree
 preamble_in group = by_word (preamble_at group)
 
--- statements as long as there is one more, at most as many as the number
-abbrev pub preamble_row : ℕ → Option ClassKind → Reader (List PreambleTree)
-preamble_row zero group ts = Ok ([], ts)
-preamble_row (suc n) group ts =
-    if begins_preamble ts then (preamble_in group ts >>= λ x. preamble_row n (group_after group x.0) x.1 >>= λ xs. Ok (x.0 ∷ xs.0, xs.1)) else Ok ([], ts)
-
--- statements as long as there is one more
+-- statements as long as there is one more, each in the group that the ones before it leave
 unfoldable pub preambles : Option ClassKind → Reader (List PreambleTree)
-preambles group ts = preamble_row (length ts) group ts
+preambles group ts = row begins_preamble preamble_in group_after (length ts) group ts
 
 -- a preamble, if there is one
 unfoldable pub whole_preamble : Reader (List PreambleTree)

@@ -1,11 +1,11 @@
 -- What expressions begin with, and what continues them.
-use Rattle.std.proofs.Common.{◌≡◌, ℕ, zero, suc, Bool, true, false, ◌||◌, List, [], ◌∷◌, refl, ap, ◌∙◌, inl, inr, ◌⊎◌}
-use Rattle.ss_parse_expressions.proofs.Common.{and_expression, and_term, begins, begins_sign, begins_sum, begins_value, call, Designated, Designator, designator_of_word, ExpressionRow, ExpressionTree, factor_place, first_place, Function, function_of, Further_factors, Further_terms, is, is_some, named, no_expression, no_term, number, opening, parenthesised, product, Sign, Sign_is, signed, Spelled, star, sum, sum_place, term_place, TermRow, text, Token, TokenKind, Word, word}
+use Rattle.std.proofs.Common.{◌≡◌, ℕ, zero, suc, Bool, true, false, ◌||◌, List, refl, ap, ◌∙◌, inl, inr, ◌⊎◌}
+use Rattle.ss_parse_expressions.proofs.Common.{and_expression, and_term, begins, begins_sign, begins_sum, call, Designated, Designator, designator_of_word, ExpressionRow, ExpressionTree, factor_place, first_place, Function, function_of, Further_factors, Further_terms, is_some, named, no_expression, no_term, number, opening, parenthesised, product, Sign, Sign_is, signed, Spelled, star, sum, sum_place, term_place, TermRow, text, Token, word}
 use Rattle.ss_lex.specs.declared.word.Word.TheVariants as words
-use Rattle.ss_lex.specs.declared.token.TokenKind.TheVariants as kinds
 use Rattle.ss_base.specs.declared.words.Sign.TheVariants as signs
 use Rattle.ss_tree.specs.declared.expression.Designator.TheVariants as designators
 use Rattle.ss_parse_expressions.specs.Shapes.{Shape, ◌▷◌, Word_for, nested_shape}
+use Rattle.ss_parse_expressions.proofs.Marks.{starts_otherwise}
 
 or_right : (a b : Bool) → b ≡ true → (a || b) ≡ true
 or_right true b e = refl
@@ -42,18 +42,12 @@ factor_begins (sum e (and_term sign f fs)) levels ts rest s = absurd s.0
 
 -- A term is a product or a factor.
 pub term_cases : (e : ExpressionTree) (levels : ℕ) (ts rest : List Token) → Spelled e term_place levels ts rest → ((f : ExpressionTree) × (fs : ExpressionRow) × (e ≡ product f fs) × ((fs ≡ no_expression → ⊥) × (Spelled f factor_place levels ▷ Further_factors fs levels) ts rest)) ⊎ Spelled e factor_place levels ts rest
-term_cases (number n) levels ts rest s = inr s
-term_cases (text t) levels ts rest s = inr s
 term_cases (named d no_expression) levels ts rest s = inr s
-term_cases (named d (and_expression e es)) levels ts rest s = inr s
 term_cases (call f no_expression) levels ts rest s = absurd s
-term_cases (call f (and_expression e es)) levels ts rest s = inr s
-term_cases (parenthesised e) levels ts rest s = inr s
-term_cases (product e no_expression) levels ts rest s = absurd s
 term_cases (product e (and_expression f fs)) levels ts rest (u, s) = inl (e, and_expression f fs, refl, (λ no. absurd cc, s))
 term_cases (signed sign e) levels ts rest s = absurd s.0
-term_cases (sum e no_term) levels ts rest s = absurd s
 term_cases (sum e (and_term sign f fs)) levels ts rest s = absurd s.0
+term_cases _ levels ts rest s = inr s
 
 pub term_begins : (e : ExpressionTree) (levels : ℕ) (ts rest : List Token) → Spelled e term_place levels ts rest → (begins_sum ts ≡ true) × (begins_sign ts ≡ false)
 term_begins e levels ts rest s =
@@ -64,18 +58,12 @@ term_begins e levels ts rest s =
 
 -- The first term of a sum has a sign, or it is a term.
 pub first_cases : (e : ExpressionTree) (levels : ℕ) (ts rest : List Token) → Spelled e first_place levels ts rest → ((sign : Sign) × (t : ExpressionTree) × (e ≡ signed sign t) × (Sign_is sign ▷ Spelled t term_place levels) ts rest) ⊎ Spelled e term_place levels ts rest
-first_cases (number n) levels ts rest s = inr s
-first_cases (text t) levels ts rest s = inr s
 first_cases (named d no_expression) levels ts rest s = inr s
-first_cases (named d (and_expression e es)) levels ts rest s = inr s
 first_cases (call f no_expression) levels ts rest s = absurd s
-first_cases (call f (and_expression e es)) levels ts rest s = inr s
-first_cases (parenthesised e) levels ts rest s = inr s
 first_cases (product e no_expression) levels ts rest s = absurd s
-first_cases (product e (and_expression f fs)) levels ts rest s = inr s
 first_cases (signed sign e) levels ts rest s = inl (sign, e, refl, s.1)
-first_cases (sum e no_term) levels ts rest s = absurd s
 first_cases (sum e (and_term sign f fs)) levels ts rest s = absurd s.0
+first_cases _ levels ts rest s = inr s
 
 first_begins : (e : ExpressionTree) (levels : ℕ) (ts rest : List Token) → Spelled e first_place levels ts rest → begins_sum ts ≡ true
 first_begins e levels ts rest s =
@@ -86,19 +74,12 @@ first_begins e levels ts rest s =
 
 -- An expression is a sum or the first term of one.
 pub sum_cases : (e : ExpressionTree) (levels : ℕ) (ts rest : List Token) → Spelled e sum_place levels ts rest → ((f : ExpressionTree) × (fs : TermRow) × (e ≡ sum f fs) × ((fs ≡ no_term → ⊥) × (Spelled f first_place levels ▷ Further_terms fs levels) ts rest)) ⊎ Spelled e first_place levels ts rest
-sum_cases (number n) levels ts rest s = inr s
-sum_cases (text t) levels ts rest s = inr s
 sum_cases (named d no_expression) levels ts rest s = inr s
-sum_cases (named d (and_expression e es)) levels ts rest s = inr s
 sum_cases (call f no_expression) levels ts rest s = absurd s
-sum_cases (call f (and_expression e es)) levels ts rest s = inr s
-sum_cases (parenthesised e) levels ts rest s = inr s
 sum_cases (product e no_expression) levels ts rest s = absurd s
-sum_cases (product e (and_expression f fs)) levels ts rest s = inr s
-sum_cases (signed sign e) levels ts rest s = inr s
-sum_cases (sum e no_term) levels ts rest s = absurd s
 sum_cases (sum e (and_term sign f fs)) levels ts rest (u, (m, first, (n, sign_is, (o, one, more)))) =
     inl (e, and_term sign f fs, refl, (λ no. absurd cc, (m, first, (n, sign_is, (o, one, more)))))
+sum_cases _ levels ts rest s = inr s
 
 pub sum_begins : (e : ExpressionTree) (levels : ℕ) (ts rest : List Token) → Spelled e sum_place levels ts rest → begins_sum ts ≡ true
 sum_begins e levels ts rest s =
@@ -116,17 +97,8 @@ in_begins zero ts e rest s = absurd s
 in_begins (suc levels) ts e rest s = sum_begins e levels ts rest s
 
 -- no expression begins with AND
-word_no_and : (w : Word) → (is_some (designator_of_word w) || is_some (function_of w)) ≡ true → is (word words.And) (kinds.Word w) ≡ false
-word_no_and words.And e = absurd cc
-word_no_and _ e = refl
-
-value_no_and : (k : TokenKind) → begins_value k ≡ true → is (word words.And) k ≡ false
-value_no_and (kinds.Word w) e = word_no_and w e
-value_no_and _ e = refl
-
 pub sum_no_and : (ts : List Token) → begins_sum ts ≡ true → begins (word words.And) ts ≡ false
-sum_no_and [] e = refl
-sum_no_and (t ∷ ts) e = value_no_and t.kind e
+sum_no_and = starts_otherwise (word words.And) begins_sum (λ span line ts. refl)
 
 -- ---- what continues an expression
 

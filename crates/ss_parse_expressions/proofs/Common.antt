@@ -9,7 +9,7 @@ pub use Rattle.ss_lex.specs.declared.word.Word.{Word}
 pub use Rattle.ss_parse_expressions.specs.Openers.{openers, opens}
 pub use Rattle.ss_parse_expressions.specs.ReadConditions.{condition_in, conjunction_in, reference_of}
 unfoldable pub use Rattle.ss_parse_expressions.specs.ReadConditions.{test_in}
-pub use Rattle.ss_parse_expressions.specs.ReadExpressions.{begins_sign, begins_sum, begins_value, designator_of_word, factor_with, opening, product_of, star, sum_of_terms}
+pub use Rattle.ss_parse_expressions.specs.ReadExpressions.{begins_sign, begins_sum, designator_of_word, factor_with, opening, product_of, star, sum_of_terms}
 unfoldable pub use Rattle.ss_parse_expressions.specs.ReadExpressions.{sum_in}
 pub use Rattle.ss_parse_expressions.specs.ReadHeads.{begins_phrase, phrases_in}
 unfoldable pub use Rattle.ss_parse_expressions.specs.ReadHeads.{guard_in, phrase_in}

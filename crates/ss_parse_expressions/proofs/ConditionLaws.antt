@@ -1,6 +1,6 @@
 -- Conditions: what is read is spelled, and what is spelled is read.
 use Rattle.std.proofs.Common.{◌≡◌, ℕ, zero, suc, ◌<◌, ◌≤◌, Bool, true, false, cond, ◌||◌, List, [], ◌∷◌, length, Option, Some, None, refl, sym, ap, subst, ◌∙◌, arith, inl, inr, ◌⊎◌}
-use Rattle.ss_parse_expressions.proofs.Common.{begins, begins_by, begins_sign, begins_sum, begins_value, choose_reader, closed, Designator, Equals, if_present, in_table, is, opening, Plain_name, reference_in, Reference_is, seq, skip, Spelled, star, Subscript, sum_in, Sum_is, sum_place, taken, the, Token, TokenKind, Word, word}
+use Rattle.ss_parse_expressions.proofs.Common.{begins, begins_by, begins_sign, begins_sum, choose_reader, closed, Designator, Equals, if_present, in_table, is, opening, Plain_name, reference_in, Reference_is, seq, skip, Spelled, star, Subscript, sum_in, Sum_is, sum_place, taken, the, Token, TokenKind, Word, word}
 use Rattle.ss_lex.specs.declared.word.Word.TheVariants as words
 use Rattle.ss_lex.specs.declared.token.TokenKind.TheVariants as kinds
 use Rattle.ss_base.specs.declared.words.Relation.{Relation}
@@ -16,10 +16,10 @@ use Rattle.ss_parse_expressions.specs.SpelledConditions.{In_words, Relation_is, 
 use Rattle.ss_parse_expressions.specs.WordTables.{relation_of}
 use Rattle.ss_parse_expressions.specs.ReadConditions.{relation_symbol, test_word_of, verb_end, worded_verb, verb, reference_of, empty_of, data_test, test_end, sum_test, test_in, conjunction_in, condition_in}
 use Rattle.ss_parse_expressions.proofs.Tools.{or_false}
-use Rattle.ss_parse_expressions.proofs.Marks.{token_less, In_table, begins_table}
-use Rattle.ss_parse_expressions.proofs.ReaderLaws.{Reads, Item, continues_never, Made, item_of, item_marked, item_skipped, expect_reads, taken_reads, seq_reads, bind_reads, made_reads, marked_reads, closed_reads, reshaped_reads, fewer_reads, optional_reads, choose_reads, too_deep_reads}
+use Rattle.ss_parse_expressions.proofs.Marks.{token_less, starts_otherwise, In_table, begins_table}
+use Rattle.ss_parse_expressions.proofs.ReaderLaws.{Reads, Item, continues_never, Made, item_of, item_marked, item_skipped, expect_reads, taken_reads, seq_reads, bind_reads, made_reads, marked_reads, closed_reads, reshaped_reads, fewer_reads, optional_reads, too_deep_reads, done_reads, either_reads}
 use Rattle.ss_parse_expressions.proofs.Rows.{first_and_reads, first_less, Loop, loop_of}
-use Rattle.ss_parse_expressions.proofs.WordLaws.{word_in_reads, present_reads, done_reads, fail_reads}
+use Rattle.ss_parse_expressions.proofs.WordLaws.{word_in_reads, present_reads, fail_reads}
 use Rattle.ss_parse_expressions.proofs.Beginnings.{in_begins, continues_sum}
 use Rattle.ss_parse_expressions.proofs.Sums.{in_less, sum_in_reads}
 use Rattle.ss_parse_expressions.proofs.PlaceLaws.{reference_in_reads, continues_place}
@@ -166,9 +166,9 @@ verb_from (verbs.IsIn negated) ts rest (a, s, (b, neg, at)) = inr ((true, (negat
 pub verb_reads : (k : ℕ) → Reads k verb verb Verb_is continues_never
 unfolding verb
 verb_reads k =
-    choose_reads (item_of (begins_by relation_symbol) (made_reads (taken_reads k relation_symbol) verbs.Compares) (λ ts v rest s. begins_table relation_symbol ts rest s.0 s.2) (λ ts v rest s. omega (arith, token_less s.2.0 ts rest s.2.2)))
-    (worded_reads k) symbol_to worded_to
-    (λ v ts rest s. elim (verb_from v ts rest s) [ inl p ↦ inl p | inr p ↦ inr ((worded_first v ts rest p).0, p) ])
+    reshaped_reads (either_reads (item_of (begins_by relation_symbol) (made_reads (taken_reads k relation_symbol) verbs.Compares) (λ ts v rest s. begins_table relation_symbol ts rest s.0 s.2) (λ ts v rest s. omega (arith, token_less s.2.0 ts rest s.2.2)))
+    (worded_reads k) continues_never (λ ts stop. (refl, refl)) (λ v ts rest s stop. (worded_first v ts rest s).0)) Verb_is
+    (λ v ts rest s. elim s [ inl p ↦ symbol_to v ts rest p | inr p ↦ worded_to v ts rest p ]) verb_from
 
 symbol_stops : (k : TokenKind) (r : Relation) (ts rest : List Token) → relation_symbol k ≡ Some r → Token_is k ts rest → continues_sum ts ≡ false
 symbol_stops (kinds.Symbol Equals) r ts rest e at = ap continues_sum at.2
@@ -226,17 +226,8 @@ stops_place ts stop =
     let none : begins opening ts ≡ false = b.1 in
     rw none refl
 
-word_no_data : (w : Word) → begins_value (kinds.Word w) ≡ true → is (word words.Data) (kinds.Word w) ≡ false
-word_no_data words.Data e = absurd cc
-word_no_data _ e = refl
-
-value_no_data : (k : TokenKind) → begins_value k ≡ true → is (word words.Data) k ≡ false
-value_no_data (kinds.Word w) e = word_no_data w e
-value_no_data _ e = refl
-
 sum_no_data : (ts : List Token) → begins_sum ts ≡ true → begins (word words.Data) ts ≡ false
-sum_no_data [] e = refl
-sum_no_data (t ∷ ts) e = value_no_data t.kind e
+sum_no_data = starts_otherwise (word words.Data) begins_sum (λ span line ts. refl)
 
 module _ (n m : ℕ) (le : n ≤ m) where
   sum_reads : Reads (suc n) (sum_in (suc n)) (sum_in (suc m)) (λ e. Sum_is n e) continues_sum
@@ -300,7 +291,10 @@ module _ (n m : ℕ) (le : n ≤ m) where
   test_from (data_ended negated) ts rest (a, d, (b, i, s)) = inl (a, d, (b, i, (negated, refl, s)))
 
   test_reads : Reads (suc n) (choose_reader (begins (word words.Data)) data_test (sum_test (suc n))) (choose_reader (begins (word words.Data)) data_test (sum_test (suc m))) (λ x. Test_is n x) continues_sum
-  test_reads = choose_reads data_item sum_test_reads data_to sum_test_to test_from
+  test_reads =
+      reshaped_reads (either_reads data_item sum_test_reads continues_sum (λ ts stop. (refl, stop)) (λ x ts rest s stop. sum_no_data ts (in_begins (suc n) ts s.0.0 s.1.1.0 s.1.1.1))) (λ x. Test_is n x)
+      (λ x ts rest s. elim s [ inl p ↦ data_to x ts rest p | inr p ↦ sum_test_to x ts rest p ])
+      (λ x ts rest s. elim (test_from x ts rest s) [ inl p ↦ inl p | inr p ↦ inr p.1 ])
 
   pub test_less : (ts : List Token) (x : TestTree) (rest : List Token) → Test_is n x ts rest → length rest < length ts
   test_less ts x rest s =

@@ -1,6 +1,6 @@
 -- The heads of loops: what is read is spelled, and what is spelled is read.
-use Rattle.std.proofs.Common.{◌≡◌, ℕ, suc, ◌≤◌, Bool, true, false, ◌||◌, List, [], ◌∷◌, Option, Some, None, refl, ap, subst, ◌∙◌, arith, inl, inr}
-use Rattle.ss_parse_expressions.proofs.Common.{after_dropped, apply, begins, begins_among, begins_class, choose_reader, comma, done, Equals, expect, in_table, is, is_some, One_of, Reference_is, skip_comma, sum_in, Sum_is, symbol, the, Token, TokenKind, Word, word}
+use Rattle.std.proofs.Common.{◌≡◌, ℕ, suc, ◌≤◌, Bool, true, false, ◌||◌, List, ◌∷◌, Option, Some, None, refl, ap, subst, ◌∙◌, arith, inl, inr}
+use Rattle.ss_parse_expressions.proofs.Common.{after_dropped, apply, begins, begins_among, begins_class, choose_reader, comma, done, Equals, expect, in_table, is, One_of, Reference_is, skip_comma, sum_in, Sum_is, symbol, the, Token, Word, word}
 use Rattle.ss_lex.specs.declared.word.Word.TheVariants as words
 use Rattle.ss_lex.specs.declared.token.TokenKind.TheVariants as kinds
 use Rattle.ss_base.specs.declared.words.PhraseKind.{PhraseKind}
@@ -12,10 +12,10 @@ use Rattle.ss_parse_expressions.specs.SpelledConditions.{Start_is, Head_rest}
 use Rattle.ss_parse_expressions.specs.WordTables.{phrase_of, guard_of}
 use Rattle.ss_parse_expressions.specs.ReadHeads.{phrase_tree, guard_tree, begins_phrase, begins_guard, phrase_in, guard_in, phrases_in, guards_in, step_in, range_tree, range_in, start_in, reverse, members_tree, members_in, class_tree, class_in, each_named, each_in, for_in, guarded_in}
 use Rattle.ss_parse_expressions.proofs.Tools.{or_false}
-use Rattle.ss_parse_expressions.proofs.Marks.{token_less}
-use Rattle.ss_parse_expressions.proofs.ReaderLaws.{Reads, Item, continues_never, Made, item_of, item_marked, noisy_item, expect_reads, seq_reads, following_reads, bind_reads, apply_reads, made_reads, marked_reads, reshaped_reads, fewer_reads, maybe_reads, flag_reads}
+use Rattle.ss_parse_expressions.proofs.Marks.{token_less, starts_otherwise, begins_table}
+use Rattle.ss_parse_expressions.proofs.ReaderLaws.{Reads, Item, continues_never, Made, item_of, item_marked, noisy_item, expect_reads, seq_reads, following_reads, bind_reads, apply_reads, made_reads, marked_reads, reshaped_reads, fewer_reads, maybe_reads, flag_reads, done_reads, either_reads}
 use Rattle.ss_parse_expressions.proofs.Rows.{rows_reads, each_first, Loop, loop_of}
-use Rattle.ss_parse_expressions.proofs.WordLaws.{word_in_reads, expect_class_reads, done_reads, name_reads, either_reads, item_made, one_begins, one_less, no_word}
+use Rattle.ss_parse_expressions.proofs.WordLaws.{word_in_reads, expect_class_reads, name_reads, item_made, one_begins, one_less, no_word}
 use Rattle.ss_parse_expressions.proofs.Beginnings.{continues_sum}
 use Rattle.ss_parse_expressions.proofs.Sums.{sum_in_reads}
 use Rattle.ss_parse_expressions.proofs.PlaceLaws.{continues_place}
@@ -50,6 +50,17 @@ condition_no_sum ts stop =
 no_sum : (ts : List Token) → continues_head ts ≡ false → continues_sum ts ≡ false
 no_sum ts stop = condition_no_sum ts (no_condition ts stop)
 
+-- ---- what begins with a word of a table, with a comma before it or not
+
+table_stops : {K : Type 0} (table : Word → Option K) → ((w : Word) (kind : K) → table w ≡ Some kind → (is (word words.Or) (kinds.Word w) ≡ false) × (is (word words.And) (kinds.Word w) ≡ false) × (head_more w ≡ false)) → (kind : K) (P : Shape) (ts rest : List Token) → (noise ▷ Word_for table kind ▷ P) ts rest → continues_head ts ≡ false
+table_stops table others kind P ts rest (a, inr (span, line, e), s) = ap continues_head e
+table_stops table others kind P ts rest (a, inl e, (b, (w, means, (span, line, f)), s)) =
+    let no = others w kind means in
+    let no_or : is (word words.Or) (kinds.Word w) ≡ false = no.0 in
+    let no_and : is (word words.And) (kinds.Word w) ≡ false = no.1 in
+    let no_more : head_more w ≡ false = no.2 in
+    rw (e, f, no_or, no_and, no_more) refl
+
 -- ---- phrases
 
 phrase_no_more : (w : Word) (kind : PhraseKind) → phrase_of w ≡ Some kind → (is (word words.Or) (kinds.Word w) ≡ false) × (is (word words.And) (kinds.Word w) ≡ false) × (head_more w ≡ false)
@@ -63,25 +74,8 @@ phrase_no_more _ kind e = absurd cc
 abbrev pub Bare_phrase : ℕ → PhraseTree → Shape
 Bare_phrase n x = Word_for phrase_of x.kind ▷ In_condition n x.condition
 
-phrase_starts : (n : ℕ) (ts : List Token) (x : PhraseTree) (rest : List Token) → Bare_phrase n x ts rest → begins_phrase ts ≡ true
-phrase_starts n ts x rest (a, (w, means, (span, line, e)), s) = let there : is_some (phrase_of w) ≡ true = rw means refl in ap begins_phrase e ∙ there
-
-phrase_no_comma : (ts : List Token) → begins_phrase ts ≡ true → begins comma ts ≡ false
-phrase_no_comma [] e = refl
-phrase_no_comma (t ∷ ts) e = go t.kind e
-  where
-    go : (k : TokenKind) → is_some (in_table phrase_of k) ≡ true → is comma k ≡ false
-    go (kinds.Word w) e = refl
-    go _ e = absurd cc
-
 phrase_stops : (n : ℕ) (ts : List Token) (x : PhraseTree) (rest : List Token) → (noise ▷ Bare_phrase n x) ts rest → continues_head ts ≡ false
-phrase_stops n ts x rest (a, inr (span, line, e), s) = ap continues_head e
-phrase_stops n ts x rest (a, inl e, (b, (w, means, (span, line, f)), s)) =
-    let no = phrase_no_more w x.kind means in
-    let no_or : is (word words.Or) (kinds.Word w) ≡ false = no.0 in
-    let no_and : is (word words.And) (kinds.Word w) ≡ false = no.1 in
-    let no_more : head_more w ≡ false = no.2 in
-    rw (e, f, no_or, no_and, no_more) refl
+phrase_stops n ts x rest s = table_stops phrase_of phrase_no_more x.kind (In_condition n x.condition) ts rest s
 
 module _ (n m : ℕ) (le : n ≤ m) where
   phrase_reads : Reads n (phrase_in n) (phrase_in m) (Bare_phrase n) continues_condition
@@ -89,7 +83,7 @@ module _ (n m : ℕ) (le : n ≤ m) where
   phrase_reads = apply_reads (seq_reads (word_in_reads n phrase_of) (condition_in_reads n m le) (λ c ts rest s stop. refl)) phrase_tree (Bare_phrase n) (λ p ts rest s. s) (λ x ts rest s. ((x.kind, x.condition), refl, s))
 
   phrase_item : Item n (λ ts. begins_phrase (skip_comma ts)) (λ r. phrase_in n (skip_comma r)) (λ r. phrase_in m (skip_comma r)) (λ x. noise ▷ Bare_phrase n x) continues_condition
-  phrase_item = noisy_item phrase_reads begins_phrase (phrase_starts n) phrase_no_comma (λ ts x rest s. omega (arith, token_less (kinds.Word s.1.0) ts s.0 s.1.2, condition_less n m le s.0 x.condition rest s.2))
+  phrase_item = noisy_item phrase_reads begins_phrase (λ ts x rest s. begins_table (in_table phrase_of) ts s.0 x.kind (kinds.Word s.1.0, s.1.1, s.1.2)) (starts_otherwise comma begins_phrase (λ span line ts. refl)) (λ ts x rest s. omega (arith, token_less (kinds.Word s.1.0) ts s.0 s.1.2, condition_less n m le s.0 x.condition rest s.2))
 
   pub phrases_reads : Reads n (phrases_in n) (phrases_in m) (each_in_turn (λ x. noise ▷ Bare_phrase n x)) (λ ts. begins_phrase (skip_comma ts) || continues_condition ts)
   phrases_reads = rows_reads phrase_item (λ ts x rest s. no_condition ts (phrase_stops n ts x rest s))
@@ -111,25 +105,8 @@ guard_no_more _ kind e = absurd cc
 abbrev pub Bare_guard : ℕ → GuardTree → Shape
 Bare_guard n x = Word_for guard_of x.kind ▷ In_condition n x.condition
 
-guard_starts : (n : ℕ) (ts : List Token) (x : GuardTree) (rest : List Token) → Bare_guard n x ts rest → begins_guard ts ≡ true
-guard_starts n ts x rest (a, (w, means, (span, line, e)), s) = let there : is_some (guard_of w) ≡ true = rw means refl in ap begins_guard e ∙ there
-
-guard_no_comma : (ts : List Token) → begins_guard ts ≡ true → begins comma ts ≡ false
-guard_no_comma [] e = refl
-guard_no_comma (t ∷ ts) e = go t.kind e
-  where
-    go : (k : TokenKind) → is_some (in_table guard_of k) ≡ true → is comma k ≡ false
-    go (kinds.Word w) e = refl
-    go _ e = absurd cc
-
 guard_stops : (n : ℕ) (ts : List Token) (x : GuardTree) (rest : List Token) → (noise ▷ Bare_guard n x) ts rest → continues_head ts ≡ false
-guard_stops n ts x rest (a, inr (span, line, e), s) = ap continues_head e
-guard_stops n ts x rest (a, inl e, (b, (w, means, (span, line, f)), s)) =
-    let no = guard_no_more w x.kind means in
-    let no_or : is (word words.Or) (kinds.Word w) ≡ false = no.0 in
-    let no_and : is (word words.And) (kinds.Word w) ≡ false = no.1 in
-    let no_more : head_more w ≡ false = no.2 in
-    rw (e, f, no_or, no_and, no_more) refl
+guard_stops n ts x rest s = table_stops guard_of guard_no_more x.kind (In_condition n x.condition) ts rest s
 
 module _ (n m : ℕ) (le : n ≤ m) where
   guard_reads : Reads n (guard_in n) (guard_in m) (Bare_guard n) continues_condition
@@ -137,7 +114,7 @@ module _ (n m : ℕ) (le : n ≤ m) where
   guard_reads = apply_reads (seq_reads (word_in_reads n guard_of) (condition_in_reads n m le) (λ c ts rest s stop. refl)) guard_tree (Bare_guard n) (λ p ts rest s. s) (λ x ts rest s. ((x.kind, x.condition), refl, s))
 
   guard_item : Item n (λ ts. begins_guard (skip_comma ts)) (λ r. guard_in n (skip_comma r)) (λ r. guard_in m (skip_comma r)) (λ x. noise ▷ Bare_guard n x) continues_condition
-  guard_item = noisy_item guard_reads begins_guard (guard_starts n) guard_no_comma (λ ts x rest s. omega (arith, token_less (kinds.Word s.1.0) ts s.0 s.1.2, condition_less n m le s.0 x.condition rest s.2))
+  guard_item = noisy_item guard_reads begins_guard (λ ts x rest s. begins_table (in_table guard_of) ts s.0 x.kind (kinds.Word s.1.0, s.1.1, s.1.2)) (starts_otherwise comma begins_guard (λ span line ts. refl)) (λ ts x rest s. omega (arith, token_less (kinds.Word s.1.0) ts s.0 s.1.2, condition_less n m le s.0 x.condition rest s.2))
 
   pub guards_reads : Reads n (guards_in n) (guards_in m) (each_in_turn (λ x. noise ▷ Bare_guard n x)) (λ ts. begins_guard (skip_comma ts) || continues_condition ts)
   guards_reads = rows_reads guard_item (λ ts x rest s. no_condition ts (guard_stops n ts x rest s))

@@ -1,5 +1,5 @@
 -- Single tokens.
-use Rattle.std.proofs.Common.{◌≡◌, suc, ◌≤◌, true, false, List, [], ◌∷◌, length, Option, Some, None, Ok, refl, ap, subst, arith, inl, inr}
+use Rattle.std.proofs.Common.{◌≡◌, suc, ◌≤◌, Bool, true, false, List, [], ◌∷◌, length, Option, Some, None, Ok, refl, ap, subst, ◌∙◌, arith, inl, inr}
 use Rattle.std.proofs.lemmas.Bool.Decides.{nat_tests}
 use denote.Enum.Bare.{same_true, true_same}
 use Rattle.ss_lex.specs.contracts.word.Word.{the_type}
@@ -65,6 +65,16 @@ mark_skips m ts rest (span, line, e) = rw (e, is_itself m) refl
 pub no_skip : (m : Mark) (ts : List Token) → begins m ts ≡ false → skip m ts ≡ ts
 no_skip m [] e = refl
 no_skip m (t ∷ ts) e = rw e refl
+
+-- what starts so doesn't begin with a mark that nothing that starts so begins with
+pub starts_otherwise : (m : Mark) (starts : List Token → Bool) → ((span : Span) (line : Line) (ts : List Token) → starts (token (kind_of_mark m) span line ∷ ts) ≡ false) → (ts : List Token) → starts ts ≡ true → begins m ts ≡ false
+starts_otherwise m starts none ts there =
+    elim (which (begins m ts)) [
+      | inl p ↦
+          let s = begins_mark m ts p in
+          absurd (let otherwise : starts ts ≡ false = ap starts s.2 ∙ none s.0 s.1 (skip m ts) in cc)
+      | inr p ↦ p
+    ]
 
 pub expect_sound : (m : Mark) (ts rest : List Token) (u : Unit {0}) → expect m ts ≡ Ok (u, rest) → Mark_is m ts rest
 expect_sound m [] rest u e = absurd cc

@@ -1,14 +1,14 @@
 -- Targets, references and lists of expressions: what is read is spelled, and what is spelled is read.
-use Rattle.std.proofs.Common.{◌≡◌, ℕ, zero, suc, ◌<◌, ◌≤◌, Bool, true, false, ◌||◌, List, [], ◌∷◌, length, Option, Some, None, refl, sym, subst, arith}
-use Rattle.ss_parse_expressions.proofs.Common.{and_expression, apply, begins, begins_more, CloseParenthesis, Designator, ExpressionRow, ExpressionTree, is, is_some, maybe, NamedTree, no_expression, OpenParenthesis, seq, skip_separator, taken, Token, TokenKind, Word, word}
+use Rattle.std.proofs.Common.{◌≡◌, ℕ, zero, suc, ◌<◌, ◌≤◌, Bool, true, false, ◌||◌, List, length, Option, Some, None, refl, sym, subst, arith}
+use Rattle.ss_parse_expressions.proofs.Common.{and_expression, apply, begins, begins_more, CloseParenthesis, Designator, ExpressionRow, ExpressionTree, maybe, NamedTree, no_expression, OpenParenthesis, seq, skip_separator, taken, Token, TokenKind, Word, word}
 use Rattle.ss_lex.specs.declared.word.Word.TheVariants as words
 use Rattle.ss_lex.specs.declared.token.TokenKind.TheVariants as kinds
 use Rattle.ss_tree.specs.declared.expression.Designator.TheVariants as designators
 use Rattle.ss_parse_expressions.specs.Shapes.{Shape, ◌▷◌, Token_is, Symbol_is, separated_list, perhaps, nested_shape}
 use Rattle.ss_parse_expressions.specs.SpelledExpressions.{Designated, Subscript, Target_is, Plain_name, Reference_is}
-use Rattle.ss_parse_expressions.specs.ReadExpressions.{opening, closing, designator_of_word, designator_of, begins_sum, sum_in}
+use Rattle.ss_parse_expressions.specs.ReadExpressions.{opening, closing, designator_of, begins_sum, sum_in}
 use Rattle.ss_parse_expressions.specs.ReadPlaces.{subscript_row, named_tree, subscript_with, plain_of, named_place_in, target_in, reference_in, begins_target, targets_in, sums_in}
-use Rattle.ss_parse_expressions.proofs.Marks.{mark_begins, token_less, In_table, begins_table}
+use Rattle.ss_parse_expressions.proofs.Marks.{mark_begins, token_less, starts_otherwise, In_table, begins_table}
 use Rattle.ss_parse_expressions.proofs.ReaderLaws.{Reads, Item, continues_never, item_of, taken_reads, seq_reads, before_mark_reads, opened_reads, apply_reads, reshaped_reads, maybe_reads, too_deep_reads}
 use Rattle.ss_parse_expressions.proofs.Rows.{list_reads, Loop, loop_of, separated_item}
 use Rattle.ss_parse_expressions.proofs.Beginnings.{In, in_begins, sum_no_and, continues_sum, designated_begins}
@@ -119,17 +119,8 @@ pub in_target_less : (n : ℕ) (ts : List Token) (t : NamedTree) (rest : List To
 in_target_less zero ts t rest s = absurd s
 in_target_less (suc n) ts t rest s = place_less designator_of Designated designated_to designated_from n ts t rest s
 
-word_no_and : (w : Word) → is_some (designator_of_word w) ≡ true → is (word words.And) (kinds.Word w) ≡ false
-word_no_and words.And e = absurd cc
-word_no_and _ e = refl
-
-kind_no_and : (k : TokenKind) → is_some (designator_of k) ≡ true → is (word words.And) k ≡ false
-kind_no_and (kinds.Word w) e = word_no_and w e
-kind_no_and _ e = refl
-
 target_no_and : (ts : List Token) → begins_target ts ≡ true → begins (word words.And) ts ≡ false
-target_no_and [] e = refl
-target_no_and (t ∷ ts) e = kind_no_and t.kind e
+target_no_and = starts_otherwise (word words.And) begins_target (λ span line ts. refl)
 
 abbrev pub continues_targets : List Token → Bool
 continues_targets ts = begins_more begins_target ts || (continues_place ts || continues_place ts)

@@ -1,8 +1,9 @@
 -- The laws of a reader: it reads what is spelled, and all of it where the next tokens can't continue it.
-use Rattle.std.proofs.Common.{◌≡◌, ℕ, suc, ◌+◌, ◌<◌, ◌≤◌, Bool, true, false, ◌||◌, List, [], ◌∷◌, length, Option, Some, None, Ok, refl, sym, ap, ◌∙◌, arith, inl, inr, ◌⊎◌}
+use Rattle.std.proofs.Common.{◌≡◌, ℕ, suc, ◌+◌, ◌<◌, ◌≤◌, Bool, true, false, ◌||◌, List, [], ◌∷◌, length, Option, Some, None, Ok, refl, sym, ap, subst, ◌∙◌, arith, inl, inr, ◌⊎◌}
 use Rattle.ss_parse_expressions.proofs.Common.{Line, openers, opens, Span, Token, TokenKind}
 use Rattle.ss_parse_expressions.specs.Reading.{Reader, ◌>>=◌, Mark, kind_of_mark, is, begins, skip, expect, taken, found_then, seq, after_dropped, closed, apply, lined, maybe, maybe_list, flag, choose_reader, too_deep, comma, skip_comma}
-use Rattle.ss_parse_expressions.specs.Shapes.{Shape, ◌▷◌, never, optional, noise, perhaps, flagged, first_token_line}
+use Rattle.ss_parse_expressions.specs.ReadWords.{done}
+use Rattle.ss_parse_expressions.specs.Shapes.{Shape, ◌▷◌, nothing, never, either_shape, optional, provided, noise, perhaps, flagged, first_token_line}
 use Rattle.ss_parse_expressions.proofs.Tools.{bind_ok, which, chosen, carry, or_false}
 use Rattle.ss_parse_expressions.proofs.Marks.{token, Mark_is, is_true, mark_begins, expect_sound, expect_complete, token_less, begins_mark, no_skip, mark_skips, skip_openers, In_table, taken_sound, taken_complete}
 use Rattle.ss_parse_expressions.proofs.Depth.{Upto, upto_same, upto_bind, upto_if, Bounded, bounded_more, bounded_bind, bounded_if, bounded_opened}
@@ -181,29 +182,33 @@ fewer_reads law d fewer = record { sound = law.sound; complete = λ ts x rest s 
 
 -- ---- words in front that may be left out
 
-module _ {A : Type 0} {k : ℕ} {q q' : Reader A} {S : A → Shape} {d : List Token → Bool} (law : Reads k q q' S d) (m : Mark) where
-  pub optional_reads : ((x : A) (ts rest : List Token) → S x ts rest → begins m ts ≡ false) → Reads k (λ ts. q (skip m ts)) (λ ts. q' (skip m ts)) (λ x. optional (Mark_is m) ▷ S x) d
-  optional_reads first = record {
-    sound = λ ts x rest e. (skip m ts, front ts, law.sound (skip m ts) x rest e);
-    complete = λ ts x rest s stop. ap q (skips x ts rest s) ∙ law.complete s.0 x rest s.2 stop;
+-- A word that may be left out, and that what follows doesn't begin with.
+module _ {A : Type 0} {k : ℕ} {q q' : Reader A} {S : A → Shape} {d : List Token → Bool} (law : Reads k q q' S d) (starts : List Token → Bool) (past : List Token → List Token) (P : Shape) (found : (ts : List Token) → starts ts ≡ true → P ts (past ts)) (kept : (ts : List Token) → starts ts ≡ false → past ts ≡ ts) (skips : (ts a : List Token) → P ts a → past ts ≡ a) (takes : (ts a : List Token) → P ts a → suc (length a) ≡ length ts) (opened : (ts : List Token) → openers (past ts) ≤ openers ts) where
+  pub skipped_reads : ((x : A) (ts rest : List Token) → S x ts rest → starts ts ≡ false) → Reads k (λ ts. q (past ts)) (λ ts. q' (past ts)) (λ x. optional P ▷ S x) d
+  skipped_reads first = record {
+    sound = λ ts x rest e. (past ts, front ts, law.sound (past ts) x rest e);
+    complete = λ ts x rest s stop. ap q (leads x ts rest s) ∙ law.complete s.0 x rest s.2 stop;
     shorter = λ ts x rest s. omega (arith, less ts s.0 s.1, law.shorter s.0 x rest s.2);
-    under = λ ts. law.under (skip m ts);
-    opening = λ ts. bounded_more k (openers (skip m ts)) (openers ts) (q (skip m ts)) (skip_openers m ts) (law.opening (skip m ts));
+    under = λ ts. law.under (past ts);
+    opening = λ ts. bounded_more k (openers (past ts)) (openers ts) (q (past ts)) (opened ts) (law.opening (past ts));
   }
     where
-      front : (ts : List Token) → optional (Mark_is m) ts (skip m ts)
-      front ts = elim (which (begins m ts)) [ inl p ↦ inr (begins_mark m ts p) | inr p ↦ inl (sym (no_skip m ts p)) ]
+      front : (ts : List Token) → optional P ts (past ts)
+      front ts = elim (which (starts ts)) [ inl p ↦ inr (found ts p) | inr p ↦ inl (sym (kept ts p)) ]
 
-      skips_to : (ts a : List Token) → optional (Mark_is m) ts a → begins m a ≡ false → skip m ts ≡ a
-      skips_to ts a (inl e) none_there = ap (skip m) e ∙ no_skip m a none_there
-      skips_to ts a (inr w) none_there = mark_skips m ts a w
+      leads_to : (ts a : List Token) → optional P ts a → starts a ≡ false → past ts ≡ a
+      leads_to ts a (inl e) none_there = ap past e ∙ kept a none_there
+      leads_to ts a (inr w) none_there = skips ts a w
 
-      skips : (x : A) (ts rest : List Token) (s : (optional (Mark_is m) ▷ S x) ts rest) → skip m ts ≡ s.0
-      skips x ts rest s = skips_to ts s.0 s.1 (first x s.0 rest s.2)
+      leads : (x : A) (ts rest : List Token) (s : (optional P ▷ S x) ts rest) → past ts ≡ s.0
+      leads x ts rest s = leads_to ts s.0 s.1 (first x s.0 rest s.2)
 
-      less : (ts a : List Token) → optional (Mark_is m) ts a → length a ≤ length ts
+      less : (ts a : List Token) → optional P ts a → length a ≤ length ts
       less ts a (inl e) = omega (arith, ap length e)
-      less ts a (inr w) = omega (arith, token_less (kind_of_mark m) ts a w)
+      less ts a (inr w) = omega (arith, takes ts a w)
+
+pub optional_reads : {A : Type 0} {k : ℕ} {q q' : Reader A} {S : A → Shape} {d : List Token → Bool} → Reads k q q' S d → (m : Mark) → ((x : A) (ts rest : List Token) → S x ts rest → begins m ts ≡ false) → Reads k (λ ts. q (skip m ts)) (λ ts. q' (skip m ts)) (λ x. optional (Mark_is m) ▷ S x) d
+optional_reads law m = skipped_reads law (begins m) (skip m) (Mark_is m) (begins_mark m) (no_skip m) (mark_skips m) (token_less (kind_of_mark m)) (skip_openers m)
 
 -- ---- optional parts
 
@@ -254,130 +259,97 @@ item_skipped {k = k} {q = q} m law = record {
   opening = λ ts. bounded_more k (openers (skip m ts)) (openers ts) (q (skip m ts)) (skip_openers m ts) (law.opening (skip m ts));
 }
 
-module _ {A : Type 0} {k : ℕ} {starts : List Token → Bool} {r r' : Reader A} {S : A → Shape} {c : List Token → Bool} (item : Item k starts r r' S c) where
-  pub maybe_reads : Reads k (maybe starts r) (maybe starts r') (perhaps S) (λ ts. starts ts || c ts)
-  maybe_reads = record { sound = sound; complete = complete; shorter = shorter; under = under; opening = opening }
-    where
-      sound : (ts : List Token) (x : Option A) (rest : List Token) → maybe starts r ts ≡ Ok (x, rest) → perhaps S x ts rest
-      sound ts x rest e =
-          elim (chosen (starts ts) _ _ _ e) [
-            | inl p ↦
-                let y = bind_ok (r ts) _ _ p.1 in
-                carry (λ (x : Option A) (z : List Token). perhaps S x ts z) (Some y.0.0) x y.0.1 rest y.2 (item.sound ts y.0.0 y.0.1 p.0 y.1)
-            | inr p ↦ carry (λ (x : Option A) (z : List Token). perhaps S x ts z) None x ts rest p.1 refl
-          ]
+-- an item of which f makes a value
+module _ {A B : Type 0} {k : ℕ} {starts : List Token → Bool} {r r' : Reader A} {S : A → Shape} {c : List Token → Bool} (law : Item k starts r r' S c) (f : A → B) where
+  pub item_apply : Item k starts (apply f r) (apply f r') (Made f S) c
+  item_apply = record {
+    sound = λ ts y rest started e.
+        let x = bind_ok (r ts) _ _ e in
+        carry (λ (y : B) (z : List Token). Made f S y ts z) (f x.0.0) y x.0.1 rest x.2 (x.0.0, refl, law.sound ts x.0.0 x.0.1 started x.1);
+    complete = λ ts y rest s stop.
+        let a : r ts ≡ Ok (s.0, rest) = law.complete ts s.0 rest s.2 stop in
+        rw a (ap (λ (z : B). Ok (z, rest)) s.1);
+    begins = λ ts y rest s. law.begins ts s.0 rest s.2;
+    less = λ ts y rest s. law.less ts s.0 rest s.2;
+    under = λ ts. upto_bind _ _ _ _ (law.under ts) (λ x. upto_same _);
+    opening = λ ts. bounded_bind k (openers ts) (r ts) _ (law.opening ts) (λ x. omega arith);
+  }
 
-      complete : (ts : List Token) (x : Option A) (rest : List Token) → perhaps S x ts rest → (starts rest || c rest) ≡ false → maybe starts r ts ≡ Ok (x, rest)
-      complete ts None rest s stop =
-          let none : starts ts ≡ false = ap starts s ∙ (or_false (starts rest) (c rest) stop).0 in
-          rw none (ap (λ (z : List Token). Ok (None, z)) s)
-      complete ts (Some y) rest s stop =
-          let there : starts ts ≡ true = item.begins ts y rest s in
-          let a : r ts ≡ Ok (y, rest) = item.complete ts y rest s (or_false (starts rest) (c rest) stop).1 in
-          rw (there, a) refl
+-- a reader that reads nothing
+pub done_reads : {A : Type 0} (k : ℕ) (x : A) → Reads k (done x) (done x) (λ y. provided (x ≡ y) nothing) continues_never
+done_reads {A = A} k x = record {
+  sound = λ ts y rest e. carry (λ (y : A) (r : List Token). (x ≡ y) × (ts ≡ r)) x y ts rest e (refl, refl);
+  complete = λ ts y rest s stop. λ i. Ok (s.0 i, s.1 i);
+  shorter = λ ts y rest s. omega (arith, ap length s.1);
+  under = λ ts. upto_same _;
+  opening = λ ts. omega arith;
+}
 
-      shorter : (ts : List Token) (x : Option A) (rest : List Token) → perhaps S x ts rest → length rest ≤ length ts
-      shorter ts None rest s = omega (arith, ap length s)
-      shorter ts (Some y) rest s = omega (arith, item.less ts y rest s)
+-- ---- one of two readers, the second of which may read nothing
 
-      under : (ts : List Token) → Upto (maybe starts r ts) (maybe starts r' ts)
-      under ts = upto_if (starts ts) _ _ _ _ (upto_bind _ _ _ _ (item.under ts) (λ x. upto_same _)) (upto_same _)
-
-      opening : (ts : List Token) → Bounded k (openers ts) (maybe starts r ts)
-      opening ts = bounded_if k (openers ts) (starts ts) _ _ (bounded_bind k (openers ts) (r ts) _ (item.opening ts) (λ x. omega arith)) (omega arith)
-
--- an optional list: where it is not there, it is empty and takes no token
-module _ {A : Type 0} {k : ℕ} {starts : List Token → Bool} {r r' : Reader (List A)} {S T : List A → Shape} {c : List Token → Bool} (item : Item k starts r r' S c) (to : (xs : List A) (ts rest : List Token) → S xs ts rest → T xs ts rest) (from : (xs : List A) (ts rest : List Token) → T xs ts rest → ((xs ≡ []) × (ts ≡ rest)) ⊎ S xs ts rest) (empty : (ts : List Token) → T [] ts ts) where
-  pub maybe_list_reads : Reads k (maybe_list starts r) (maybe_list starts r') T (λ ts. starts ts || c ts)
-  maybe_list_reads = record { sound = sound; complete = complete; shorter = shorter; under = under; opening = opening }
-    where
-      sound : (ts : List Token) (xs : List A) (rest : List Token) → maybe_list starts r ts ≡ Ok (xs, rest) → T xs ts rest
-      sound ts xs rest e =
-          elim (chosen (starts ts) _ _ _ e) [
-            | inl p ↦ to xs ts rest (item.sound ts xs rest p.0 p.1)
-            | inr p ↦ carry (λ (x : List A) (z : List Token). T x ts z) [] xs ts rest p.1 (empty ts)
-          ]
-
-      complete : (ts : List Token) (xs : List A) (rest : List Token) → T xs ts rest → (starts rest || c rest) ≡ false → maybe_list starts r ts ≡ Ok (xs, rest)
-      complete ts xs rest t stop =
-          let over = or_false (starts rest) (c rest) stop in
-          elim (from xs ts rest t) [
-            | inl p ↦
-                let none : starts ts ≡ false = ap starts p.1 ∙ over.0 in
-                rw none (λ i. Ok (sym p.0 i, p.1 i))
-            | inr s ↦
-                let there : starts ts ≡ true = item.begins ts xs rest s in
-                rw there (item.complete ts xs rest s over.1)
-          ]
-
-      shorter : (ts : List Token) (xs : List A) (rest : List Token) → T xs ts rest → length rest ≤ length ts
-      shorter ts xs rest t =
-          elim (from xs ts rest t) [ inl p ↦ omega (arith, ap length p.1) | inr s ↦ omega (arith, item.less ts xs rest s) ]
-
-      under : (ts : List Token) → Upto (maybe_list starts r ts) (maybe_list starts r' ts)
-      under ts = upto_if (starts ts) _ _ _ _ (item.under ts) (upto_same _)
-
-      opening : (ts : List Token) → Bounded k (openers ts) (maybe_list starts r ts)
-      opening ts = bounded_if k (openers ts) (starts ts) _ _ (item.opening ts) (omega arith)
-
--- optional words
-module _ {k : ℕ} {starts : List Token → Bool} {r r' : Reader (Unit {0})} {P : Shape} {c : List Token → Bool} (item : Item k starts r r' (λ u. P) c) where
-  pub flag_reads : Reads k (flag starts r) (flag starts r') (flagged P) (λ ts. starts ts || c ts)
-  flag_reads = record { sound = sound; complete = complete; shorter = shorter; under = under; opening = opening }
-    where
-      sound : (ts : List Token) (x : Bool) (rest : List Token) → flag starts r ts ≡ Ok (x, rest) → flagged P x ts rest
-      sound ts x rest e =
-          elim (chosen (starts ts) _ _ _ e) [
-            | inl p ↦
-                let y = bind_ok (r ts) _ _ p.1 in
-                carry (λ (x : Bool) (z : List Token). flagged P x ts z) true x y.0.1 rest y.2 (item.sound ts y.0.0 y.0.1 p.0 y.1)
-            | inr p ↦ carry (λ (x : Bool) (z : List Token). flagged P x ts z) false x ts rest p.1 refl
-          ]
-
-      complete : (ts : List Token) (x : Bool) (rest : List Token) → flagged P x ts rest → (starts rest || c rest) ≡ false → flag starts r ts ≡ Ok (x, rest)
-      complete ts false rest s stop =
-          let none : starts ts ≡ false = ap starts s ∙ (or_false (starts rest) (c rest) stop).0 in
-          rw none (ap (λ (z : List Token). Ok (false, z)) s)
-      complete ts true rest s stop =
-          let there : starts ts ≡ true = item.begins ts tt rest s in
-          let a : r ts ≡ Ok (tt, rest) = item.complete ts tt rest s (or_false (starts rest) (c rest) stop).1 in
-          rw (there, a) refl
-
-      shorter : (ts : List Token) (x : Bool) (rest : List Token) → flagged P x ts rest → length rest ≤ length ts
-      shorter ts false rest s = omega (arith, ap length s)
-      shorter ts true rest s = omega (arith, item.less ts tt rest s)
-
-      under : (ts : List Token) → Upto (flag starts r ts) (flag starts r' ts)
-      under ts = upto_if (starts ts) _ _ _ _ (upto_bind _ _ _ _ (item.under ts) (λ x. upto_same _)) (upto_same _)
-
-      opening : (ts : List Token) → Bounded k (openers ts) (flag starts r ts)
-      opening ts = bounded_if k (openers ts) (starts ts) _ _ (bounded_bind k (openers ts) (r ts) _ (item.opening ts) (λ x. omega arith)) (omega arith)
-
--- ---- one of two
-
--- one of two readers, where the shapes of both mean U
-module _ {A : Type 0} {k : ℕ} {starts : List Token → Bool} {r r' q q' : Reader A} {S T U : A → Shape} {c d : List Token → Bool} (first : Item k starts r r' S c) (second : Reads k q q' T d) (to : (x : A) (ts rest : List Token) → S x ts rest → U x ts rest) (to' : (x : A) (ts rest : List Token) → T x ts rest → U x ts rest) (from : (x : A) (ts rest : List Token) → U x ts rest → S x ts rest ⊎ ((starts ts ≡ false) × T x ts rest)) where
-  pub choose_reads : Reads k (choose_reader starts r q) (choose_reader starts r' q') U (λ ts. c ts || d ts)
-  choose_reads = record {
-    sound = λ ts x rest e.
-        elim (chosen (starts ts) _ _ _ e) [
-          | inl p ↦ to x ts rest (first.sound ts x rest p.0 p.1)
-          | inr p ↦ to' x ts rest (second.sound ts x rest p.1)
+-- The second doesn't start as the first does, where the tokens after it can't continue it.
+module _ {A : Type 0} {k : ℕ} {starts : List Token → Bool} {r r' q q' : Reader A} {S T : A → Shape} {c d : List Token → Bool} (first : Item k starts r r' S c) (second : Reads k q q' T d) (e : List Token → Bool) (fewer : (ts : List Token) → e ts ≡ false → (c ts ≡ false) × (d ts ≡ false)) (late : (x : A) (ts rest : List Token) → T x ts rest → e rest ≡ false → starts ts ≡ false) where
+  pub either_reads : Reads k (choose_reader starts r q) (choose_reader starts r' q') (λ x. either_shape (S x) (T x)) e
+  either_reads = record {
+    sound = λ ts x rest is.
+        elim (chosen (starts ts) _ _ _ is) [
+          | inl p ↦ inl (first.sound ts x rest p.0 p.1)
+          | inr p ↦ inr (second.sound ts x rest p.1)
         ];
     complete = λ ts x rest u stop.
-        let over = or_false (c rest) (d rest) stop in
-        elim (from x ts rest u) [
+        elim u [
           | inl s ↦
               let there : starts ts ≡ true = first.begins ts x rest s in
-              rw there (first.complete ts x rest s over.0)
+              rw there (first.complete ts x rest s (fewer rest stop).0)
           | inr t ↦
-              let none : starts ts ≡ false = t.0 in
-              rw none (second.complete ts x rest t.1 over.1)
+              let none : starts ts ≡ false = late x ts rest t stop in
+              rw none (second.complete ts x rest t (fewer rest stop).1)
         ];
-    shorter = λ ts x rest u. elim (from x ts rest u) [ inl s ↦ omega (arith, first.less ts x rest s) | inr t ↦ second.shorter ts x rest t.1 ];
+    shorter = λ ts x rest u. elim u [ inl s ↦ omega (arith, first.less ts x rest s) | inr t ↦ second.shorter ts x rest t ];
     under = λ ts. upto_if (starts ts) _ _ _ _ (first.under ts) (second.under ts);
     opening = λ ts. bounded_if k (openers ts) (starts ts) _ _ (first.opening ts) (second.opening ts);
   }
+
+-- an item, or nothing where it isn't there
+module _ {A : Type 0} {k : ℕ} {starts : List Token → Bool} {r r' : Reader A} {S : A → Shape} {c : List Token → Bool} (item : Item k starts r r' S c) (none : A) where
+  pub item_or_none : Reads k (choose_reader starts r (done none)) (choose_reader starts r' (done none)) (λ x. either_shape (S x) (provided (none ≡ x) nothing)) (λ ts. starts ts || c ts)
+  item_or_none =
+      either_reads item (done_reads k none) (λ ts. starts ts || c ts) (λ ts stop. ((or_false (starts ts) (c ts) stop).1, refl))
+      (λ x ts rest s stop. ap starts s.1 ∙ (or_false (starts rest) (c rest) stop).0)
+
+pub maybe_reads : {A : Type 0} {k : ℕ} {starts : List Token → Bool} {r r' : Reader A} {S : A → Shape} {c : List Token → Bool} → Item k starts r r' S c → Reads k (maybe starts r) (maybe starts r') (perhaps S) (λ ts. starts ts || c ts)
+maybe_reads {A = A} {S = S} item = reshaped_reads (item_or_none (item_apply item Some) None) (perhaps S) to from
+  where
+    to : (x : Option A) (ts rest : List Token) → either_shape (Made Some S x) (provided (None ≡ x) nothing) ts rest → perhaps S x ts rest
+    to x ts rest (inl (y, is, s)) = subst (λ x. perhaps S x ts rest) is s
+    to x ts rest (inr (is, s)) = subst (λ x. perhaps S x ts rest) is s
+
+    from : (x : Option A) (ts rest : List Token) → perhaps S x ts rest → either_shape (Made Some S x) (provided (None ≡ x) nothing) ts rest
+    from None ts rest s = inr (refl, s)
+    from (Some y) ts rest s = inl (y, refl, s)
+
+-- an optional list: where it is not there, it is empty and takes no token
+pub maybe_list_reads : {A : Type 0} {k : ℕ} {starts : List Token → Bool} {r r' : Reader (List A)} {S T : List A → Shape} {c : List Token → Bool} → Item k starts r r' S c → ((xs : List A) (ts rest : List Token) → S xs ts rest → T xs ts rest) → ((xs : List A) (ts rest : List Token) → T xs ts rest → ((xs ≡ []) × (ts ≡ rest)) ⊎ S xs ts rest) → ((ts : List Token) → T [] ts ts) → Reads k (maybe_list starts r) (maybe_list starts r') T (λ ts. starts ts || c ts)
+maybe_list_reads {A = A} {S = S} {T = T} item into from_some empty = reshaped_reads (item_or_none item []) T to from
+  where
+    to : (xs : List A) (ts rest : List Token) → either_shape (S xs) (provided ([] ≡ xs) nothing) ts rest → T xs ts rest
+    to xs ts rest (inl s) = into xs ts rest s
+    to xs ts rest (inr (is, e)) = subst (λ xs. T xs ts rest) is (subst (λ (r : List Token). T [] ts r) e (empty ts))
+
+    from : (xs : List A) (ts rest : List Token) → T xs ts rest → either_shape (S xs) (provided ([] ≡ xs) nothing) ts rest
+    from xs ts rest t = elim (from_some xs ts rest t) [ inl p ↦ inr (sym p.0, p.1) | inr s ↦ inl s ]
+
+-- optional words
+pub flag_reads : {k : ℕ} {starts : List Token → Bool} {r r' : Reader (Unit {0})} {P : Shape} {c : List Token → Bool} → Item k starts r r' (λ u. P) c → Reads k (flag starts r) (flag starts r') (flagged P) (λ ts. starts ts || c ts)
+flag_reads {P = P} item = reshaped_reads (item_or_none (item_apply item (λ u. true)) false) (flagged P) to from
+  where
+    to : (x : Bool) (ts rest : List Token) → either_shape (Made (λ (u : Unit {0}). true) (λ u. P) x) (provided (false ≡ x) nothing) ts rest → flagged P x ts rest
+    to x ts rest (inl (u, is, s)) = subst (λ x. flagged P x ts rest) is s
+    to x ts rest (inr (is, s)) = subst (λ x. flagged P x ts rest) is s
+
+    from : (x : Bool) (ts rest : List Token) → flagged P x ts rest → either_shape (Made (λ (u : Unit {0}). true) (λ u. P) x) (provided (false ≡ x) nothing) ts rest
+    from true ts rest s = inl (tt, refl, s)
+    from false ts rest s = inr (refl, s)
 
 -- ---- by the line of the first token
 

@@ -13,61 +13,81 @@ use Rattle.ss_parse_expressions.proofs.Marks.{token, Mark_is, begins_mark, no_sk
 use Rattle.ss_parse_expressions.proofs.Depth.{Upto, upto_same, upto_bind, upto_if, Bounded, bounded_more, bounded_bind, bounded_if}
 use Rattle.ss_parse_expressions.proofs.ReaderLaws.{Reads, Item}
 
-module _ {A : Type 0} {k : ℕ} {starts : List Token → Bool} {item item' : Reader A} {S : A → Shape} {continues : List Token → Bool} (law : Item k starts item item' S continues) (stops : (ts : List Token) (x : A) (rest : List Token) → S x ts rest → continues ts ≡ false) where
-  row_sound : (n : ℕ) (ts : List Token) (xs : List A) (rest : List Token) → row starts item n ts ≡ Ok (xs, rest) → each_in_turn S xs ts rest
-  row_sound zero ts xs rest e = carry (λ (y : List A) (z : List Token). each_in_turn S y ts z) [] xs ts rest e refl
-  row_sound (suc n) ts xs rest e =
+-- a shape of lists that is item after item, each in the state that the ones before it leave
+pub record Is_row {A G : Type 0} (S : G → A → Shape) (next : G → A → G) (T : G → List A → Shape) : Type 0 where
+  pub nil : (g : G) (ts : List Token) → T g [] ts ts
+  pub none : (g : G) (ts rest : List Token) → T g [] ts rest → ts ≡ rest
+  pub cons : (g : G) (x : A) (xs : List A) (ts rest : List Token) → (S g x ▷ T (next g x) xs) ts rest → T g (x ∷ xs) ts rest
+  pub parts : (g : G) (x : A) (xs : List A) (ts rest : List Token) → T g (x ∷ xs) ts rest → (S g x ▷ T (next g x) xs) ts rest
+
+module _ {A G : Type 0} {k : ℕ} {starts : List Token → Bool} {item item' : G → Reader A} {S : G → A → Shape} {next : G → A → G} {T : G → List A → Shape} {continues : List Token → Bool} (law : (g : G) → Item k starts (item g) (item' g) (S g) continues) (shape : Is_row S next T) (stops : (g : G) (ts : List Token) (x : A) (rest : List Token) → S g x ts rest → continues ts ≡ false) where
+  row_sound : (n : ℕ) (g : G) (ts : List Token) (xs : List A) (rest : List Token) → row starts item next n g ts ≡ Ok (xs, rest) → T g xs ts rest
+  row_sound zero g ts xs rest e = carry (λ (y : List A) (z : List Token). T g y ts z) [] xs ts rest e (shape.nil g ts)
+  row_sound (suc n) g ts xs rest e =
       elim (chosen (starts ts) _ _ _ e) [
         | inl p ↦
-            let x = bind_ok (item ts) _ _ p.1 in
-            let more = bind_ok (row starts item n x.0.1) _ _ x.2 in
-            carry (λ (y : List A) (z : List Token). each_in_turn S y ts z) (x.0.0 ∷ more.0.0) xs more.0.1 rest more.2
-            (x.0.1, law.sound ts x.0.0 x.0.1 p.0 x.1, row_sound n x.0.1 more.0.0 more.0.1 more.1)
-        | inr p ↦ carry (λ (y : List A) (z : List Token). each_in_turn S y ts z) [] xs ts rest p.1 refl
+            let x = bind_ok (item g ts) _ _ p.1 in
+            let more = bind_ok (row starts item next n (next g x.0.0) x.0.1) _ _ x.2 in
+            carry (λ (y : List A) (z : List Token). T g y ts z) (x.0.0 ∷ more.0.0) xs more.0.1 rest more.2
+            (shape.cons g x.0.0 more.0.0 ts more.0.1 (x.0.1, (law g).sound ts x.0.0 x.0.1 p.0 x.1, row_sound n (next g x.0.0) x.0.1 more.0.0 more.0.1 more.1))
+        | inr p ↦ carry (λ (y : List A) (z : List Token). T g y ts z) [] xs ts rest p.1 (shape.nil g ts)
       ]
 
-  each_shorter : (xs : List A) (ts rest : List Token) → each_in_turn S xs ts rest → length rest ≤ length ts
-  each_shorter [] ts rest e = omega (arith, ap length e)
-  each_shorter (x ∷ xs) ts rest (m, one, more) = omega (arith, law.less ts x m one, each_shorter xs m rest more)
+  each_shorter : (g : G) (xs : List A) (ts rest : List Token) → T g xs ts rest → length rest ≤ length ts
+  each_shorter g [] ts rest s = omega (arith, ap length (shape.none g ts rest s))
+  each_shorter g (x ∷ xs) ts rest s =
+      let p = shape.parts g x xs ts rest s in
+      omega (arith, (law g).less ts x p.0 p.1, each_shorter (next g x) xs p.0 rest p.2)
 
   -- no further item continues the item before it
-  each_stops : (xs : List A) (ts rest : List Token) → each_in_turn S xs ts rest → continues rest ≡ false → continues ts ≡ false
-  each_stops [] ts rest e stop = ap continues e ∙ stop
-  each_stops (x ∷ xs) ts rest (m, one, more) stop = stops ts x m one
+  each_stops : (g : G) (xs : List A) (ts rest : List Token) → T g xs ts rest → continues rest ≡ false → continues ts ≡ false
+  each_stops g [] ts rest s stop = ap continues (shape.none g ts rest s) ∙ stop
+  each_stops g (x ∷ xs) ts rest s stop = let p = shape.parts g x xs ts rest s in stops g ts x p.0 p.1
 
-  row_complete : (n : ℕ) (xs : List A) (ts rest : List Token) → each_in_turn S xs ts rest → length ts ≤ n → starts rest ≡ false → continues rest ≡ false → row starts item n ts ≡ Ok (xs, rest)
-  row_complete zero [] ts rest e long over stop = ap (λ (r : List Token). Ok ([], r)) e
-  row_complete zero (x ∷ xs) ts rest (m, one, more) long over stop = absurd (omega (arith, law.less ts x m one))
-  row_complete (suc n) [] ts rest e long over stop =
-      let none : starts ts ≡ false = ap starts e ∙ over in
-      rw none (ap (λ (r : List Token). Ok ([], r)) e)
-  row_complete (suc n) (x ∷ xs) ts rest (m, one, more) long over stop =
-      let started : starts ts ≡ true = law.begins ts x m one in
-      let read : item ts ≡ Ok (x, m) = law.complete ts x m one (each_stops xs m rest more stop) in
-      let others = row_complete n xs m rest more (omega (arith, law.less ts x m one)) over stop in
-      rw (started, read, others) refl
+  row_step : (n : ℕ) (g : G) (ts m rest : List Token) (x : A) (xs : List A) → starts ts ≡ true → item g ts ≡ Ok (x, m) → row starts item next n (next g x) m ≡ Ok (xs, rest) → row starts item next (suc n) g ts ≡ Ok (x ∷ xs, rest)
+  row_step n g ts m rest x xs started read others = rw (started, read, others) refl
 
-  row_under : (n : ℕ) (ts : List Token) → Upto (row starts item n ts) (row starts item' n ts)
-  row_under zero ts = upto_same _
-  row_under (suc n) ts =
-      upto_if (starts ts) _ _ _ _ (upto_bind _ _ _ _ (law.under ts) (λ x. upto_bind _ _ _ _ (row_under n x.1) (λ xs. upto_same _))) (upto_same _)
+  row_complete : (n : ℕ) (g : G) (xs : List A) (ts rest : List Token) → T g xs ts rest → length ts ≤ n → starts rest ≡ false → continues rest ≡ false → row starts item next n g ts ≡ Ok (xs, rest)
+  row_complete zero g [] ts rest s long over stop = ap (λ (r : List Token). Ok ([], r)) (shape.none g ts rest s)
+  row_complete zero g (x ∷ xs) ts rest s long over stop =
+      let p = shape.parts g x xs ts rest s in
+      absurd (omega (arith, (law g).less ts x p.0 p.1))
+  row_complete (suc n) g [] ts rest s long over stop =
+      let none : starts ts ≡ false = ap starts (shape.none g ts rest s) ∙ over in
+      rw none (ap (λ (r : List Token). Ok ([], r)) (shape.none g ts rest s))
+  row_complete (suc n) g (x ∷ xs) ts rest s long over stop =
+      let p = shape.parts g x xs ts rest s in
+      row_step n g ts p.0 rest x xs ((law g).begins ts x p.0 p.1) ((law g).complete ts x p.0 p.1 (each_stops (next g x) xs p.0 rest p.2 stop))
+      (row_complete n (next g x) xs p.0 rest p.2 (omega (arith, (law g).less ts x p.0 p.1)) over stop)
 
-  row_opening : (n : ℕ) (ts : List Token) → Bounded k (openers ts) (row starts item n ts)
-  row_opening zero ts = omega arith
-  row_opening (suc n) ts =
+  row_under : (n : ℕ) (g : G) (ts : List Token) → Upto (row starts item next n g ts) (row starts item' next n g ts)
+  row_under zero g ts = upto_same _
+  row_under (suc n) g ts =
+      upto_if (starts ts) _ _ _ _ (upto_bind _ _ _ _ ((law g).under ts) (λ x. upto_bind _ _ _ _ (row_under n (next g x.0) x.1) (λ xs. upto_same _))) (upto_same _)
+
+  row_opening : (n : ℕ) (g : G) (ts : List Token) → Bounded k (openers ts) (row starts item next n g ts)
+  row_opening zero g ts = omega arith
+  row_opening (suc n) g ts =
       bounded_if k (openers ts) (starts ts) _ _
-      (bounded_bind k (openers ts) (item ts) _ (law.opening ts) (λ x. bounded_bind k (openers x.1) (row starts item n x.1) _ (row_opening n x.1) (λ xs. omega arith)))
+      (bounded_bind k (openers ts) (item g ts) _ ((law g).opening ts) (λ x. bounded_bind k (openers x.1) (row starts item next n (next g x.0) x.1) _ (row_opening n (next g x.0) x.1) (λ xs. omega arith)))
       (omega arith)
 
-  pub rows_reads : Reads k (rows starts item) (rows starts item') (each_in_turn S) (λ ts. starts ts || continues ts)
-  unfolding rows
-  rows_reads = record {
-    sound = λ ts xs rest e. row_sound (length ts) ts xs rest e;
-    complete = λ ts xs rest s stop. let both = or_false (starts rest) (continues rest) stop in row_complete (length ts) xs ts rest s (omega arith) both.0 both.1;
-    shorter = λ ts xs rest s. each_shorter xs ts rest s;
-    under = λ ts. row_under (length ts) ts;
-    opening = λ ts. row_opening (length ts) ts;
+  pub row_reads : (g : G) → Reads k (λ ts. row starts item next (length ts) g ts) (λ ts. row starts item' next (length ts) g ts) (T g) (λ ts. starts ts || continues ts)
+  row_reads g = record {
+    sound = λ ts xs rest e. row_sound (length ts) g ts xs rest e;
+    complete = λ ts xs rest s stop. let both = or_false (starts rest) (continues rest) stop in row_complete (length ts) g xs ts rest s (omega arith) both.0 both.1;
+    shorter = λ ts xs rest s. each_shorter g xs ts rest s;
+    under = λ ts. row_under (length ts) g ts;
+    opening = λ ts. row_opening (length ts) g ts;
   }
+
+-- where no state is kept
+in_turn : {A : Type 0} (S : A → Shape) → Is_row (λ (u : Unit {0}). S) (λ u x. u) (λ u. each_in_turn S)
+in_turn S = record { nil = λ u ts. refl; none = λ u ts rest s. s; cons = λ u x xs ts rest s. s; parts = λ u x xs ts rest s. s }
+
+pub rows_reads : {A : Type 0} {k : ℕ} {starts : List Token → Bool} {item item' : Reader A} {S : A → Shape} {continues : List Token → Bool} → Item k starts item item' S continues → ((ts : List Token) (x : A) (rest : List Token) → S x ts rest → continues ts ≡ false) → Reads k (rows starts item) (rows starts item') (each_in_turn S) (λ ts. starts ts || continues ts)
+unfolding rows
+rows_reads {S = S} law stops = row_reads (λ (u : Unit {0}). law) (in_turn S) (λ u. stops) tt
 
 -- ---- an item and further ones
 
@@ -182,33 +202,34 @@ abbrev pub Shrinks : {A : Type 0} → (List Token → Bool) → Reader A → Typ
 Shrinks {A = A} starts read = (ts : List Token) (x : A) (rest : List Token) → starts ts ≡ true → read ts ≡ Ok (x, rest) → length rest < length ts
 
 -- A row whose items take a token each, and that ends where the tokens end.
-module _ {A : Type 0} (starts : List Token → Bool) (item : Reader A) (at_end : starts [] ≡ false) (shrinks : Shrinks starts item) where
-  row_enough : (n m : ℕ) (ts : List Token) → length ts ≤ n → length ts ≤ m → row starts item n ts ≡ row starts item m ts
-  row_enough zero zero ts le le' = refl
-  row_enough zero (suc m) [] le le' = rw at_end refl
-  row_enough zero (suc m) (t ∷ ts) le le' = absurd (omega arith)
-  row_enough (suc n) zero [] le le' = rw at_end refl
-  row_enough (suc n) zero (t ∷ ts) le le' = absurd (omega arith)
-  row_enough (suc n) (suc m) ts le le' =
+module _ {A G : Type 0} (starts : List Token → Bool) (item : G → Reader A) (next : G → A → G) (at_end : starts [] ≡ false) (shrinks : (g : G) → Shrinks starts (item g)) where
+  pub row_enough : (n m : ℕ) (g : G) (ts : List Token) → length ts ≤ n → length ts ≤ m → row starts item next n g ts ≡ row starts item next m g ts
+  row_enough zero zero g ts le le' = refl
+  row_enough zero (suc m) g [] le le' = rw at_end refl
+  row_enough zero (suc m) g (t ∷ ts) le le' = absurd (omega arith)
+  row_enough (suc n) zero g [] le le' = rw at_end refl
+  row_enough (suc n) zero g (t ∷ ts) le le' = absurd (omega arith)
+  row_enough (suc n) (suc m) g ts le le' =
       elim (which (starts ts)) [
         | inl p ↦
-            elim (ok_or_err (item ts)) [
+            elim (ok_or_err (item g ts)) [
               | inl x ↦
-                  let small : length x.0.1 < length ts = shrinks ts x.0.0 x.0.1 p x.1 in
-                  let e : item ts ≡ Ok x.0 = x.1 in
-                  let same = row_enough n m x.0.1 (omega arith) (omega arith) in
+                  let small : length x.0.1 < length ts = shrinks g ts x.0.0 x.0.1 p x.1 in
+                  let e : item g ts ≡ Ok x.0 = x.1 in
+                  let same = row_enough n m (next g x.0.0) x.0.1 (omega arith) (omega arith) in
                   rw (p, e, same) refl
-              | inr f ↦ let e : item ts ≡ Err f.0 = f.1 in rw (p, e) refl
+              | inr f ↦ let e : item g ts ≡ Err f.0 = f.1 in rw (p, e) refl
             ]
         | inr p ↦ rw p refl
       ]
 
+module _ {A : Type 0} (starts : List Token → Bool) (item : Reader A) (at_end : starts [] ≡ false) (shrinks : Shrinks starts item) where
   pub rows_more : (ts rest : List Token) (x : A) → starts ts ≡ true → item ts ≡ Ok (x, rest) → rows starts item ts ≡ (rows starts item rest >>= λ xs. Ok (x ∷ xs.0, xs.1))
   unfolding rows
   rows_more [] rest x started e = absurd (let no_more = at_end in cc)
   rows_more (t ∷ ts) rest x started e =
       let small : length rest < length (t ∷ ts) = shrinks (t ∷ ts) x rest started e in
-      let same = row_enough (length ts) (length rest) rest (omega arith) (omega arith) in
+      let same = row_enough starts (λ (u : Unit {0}). item) (λ u x. u) at_end (λ u. shrinks) (length ts) (length rest) tt rest (omega arith) (omega arith) in
       rw (started, e, same) refl
 
   pub rows_fail : (ts : List Token) (f : ParseFault) → starts ts ≡ true → item ts ≡ Err f → rows starts item ts ≡ Err f

@@ -1,13 +1,14 @@
 -- Terms and sums: what is read is spelled, and what is spelled is read.
 use Rattle.std.proofs.Common.{◌≡◌, ℕ, zero, suc, ◌<◌, ◌≤◌, false, ◌||◌, List, [], ◌∷◌, length, Some, refl, sym, ap, subst, ◌∙◌, arith, inl, inr}
-use Rattle.ss_parse_expressions.proofs.Common.{and_expression, and_term, apply, begins, begins_more, call, expression_row, ExpressionRow, ExpressionTree, factor_place, first_place, Further_factors, Further_terms, Minus, named, no_expression, no_term, number, parenthesised, Plus, product, seq, Sign, Sign_is, signed, skip, skip_separator, Spelled, Star, sum, sum_place, taken, term_place, term_row, TermRow, text, Token, TokenKind}
+use Rattle.ss_parse_expressions.proofs.Common.{and_expression, and_term, apply, begins, begins_more, call, expression_row, ExpressionRow, ExpressionTree, factor_place, first_place, Further_factors, Further_terms, Minus, named, no_expression, no_term, Plus, product, seq, Sign, Sign_is, signed, skip, skip_separator, Spelled, Star, sum, sum_place, term_place, term_row, TermRow, Token, TokenKind}
 use Rattle.ss_lex.specs.declared.token.TokenKind.TheVariants as kinds
 use Rattle.ss_base.specs.declared.words.Sign.TheVariants as signs
 use Rattle.ss_parse_expressions.specs.Shapes.{Shape, ◌▷◌, Token_is, Symbol_is, each_in_turn}
+use Rattle.ss_parse_expressions.specs.SpelledExpressions.{ExpressionPlace, Can_take_product, Can_take_sign, Can_take_sum}
 use Rattle.ss_parse_expressions.specs.ReadExpressions.{star, sign_of_token, begins_sign, begins_sum, sum_of_terms, product_of, factor_with, further_factors_with, term_with, signed_term_with, first_term_with, further_terms_with, sum_with, sum_in}
 use Rattle.ss_parse_expressions.proofs.Tools.{or_false}
 use Rattle.ss_parse_expressions.proofs.Marks.{token_less, In_table}
-use Rattle.ss_parse_expressions.proofs.ReaderLaws.{Reads, Item, continues_never, item_of, item_skipped, taken_reads, seq_reads, apply_reads, choose_reads, too_deep_reads}
+use Rattle.ss_parse_expressions.proofs.ReaderLaws.{Reads, Item, item_of, item_skipped, taken_reads, seq_reads, apply_reads, too_deep_reads, either_reads, reshaped_reads}
 use Rattle.ss_parse_expressions.proofs.Rows.{rows_reads, each_first, Loop, loop_of, separated_item}
 use Rattle.ss_parse_expressions.proofs.Beginnings.{In, in_begins, sum_no_and, term_cases, first_cases, sum_cases, sign_begins, term_begins, continues_factor, continues_term, continues_sum}
 use Rattle.ss_parse_expressions.proofs.Factors.{factor_reads, factor_less}
@@ -40,17 +41,25 @@ terms_listed levels (and_term sign x es) ts rest (n, signs_is, (m, one, more)) =
 
 -- ---- signs
 
-sign_to : (sign : Sign) (ts rest : List Token) → In_table sign_of_token sign ts rest → Sign_is sign ts rest
-sign_to sign ts rest (k, takes, at) = go k takes at
-  where
-    go : (k : TokenKind) → sign_of_token k ≡ Some sign → Token_is k ts rest → Sign_is sign ts rest
-    go (kinds.Symbol Plus) e at = let is_plus : signs.Plus ≡ sign = cc in subst (λ s. Sign_is s ts rest) is_plus at
-    go (kinds.Symbol Minus) e at = let is_minus : signs.Minus ≡ sign = cc in subst (λ s. Sign_is s ts rest) is_minus at
-    go _ e at = absurd cc
+sign_to : (k : TokenKind) (sign : Sign) (ts rest : List Token) → sign_of_token k ≡ Some sign → Token_is k ts rest → Sign_is sign ts rest
+sign_to (kinds.Symbol Plus) sign ts rest e at = let is_plus : signs.Plus ≡ sign = cc in subst (λ s. Sign_is s ts rest) is_plus at
+sign_to (kinds.Symbol Minus) sign ts rest e at = let is_minus : signs.Minus ≡ sign = cc in subst (λ s. Sign_is s ts rest) is_minus at
+sign_to _ sign ts rest e at = absurd cc
 
 sign_from : (sign : Sign) (ts rest : List Token) → Sign_is sign ts rest → In_table sign_of_token sign ts rest
 sign_from signs.Plus ts rest at = (kinds.Symbol Plus, refl, at)
 sign_from signs.Minus ts rest at = (kinds.Symbol Minus, refl, at)
+
+-- ---- places
+
+-- what is spelled in a place is spelled in another that takes as much
+as_spelled : (p q : ExpressionPlace) → (Can_take_product p → Can_take_product q) → (Can_take_sign p → Can_take_sign q) → (Can_take_sum p → Can_take_sum q) → (levels : ℕ) (e : ExpressionTree) (ts rest : List Token) → Spelled e p levels ts rest → Spelled e q levels ts rest
+as_spelled p q takes_product takes_sign takes_sum levels (named d no_expression) ts rest s = s
+as_spelled p q takes_product takes_sign takes_sum levels (call f no_expression) ts rest s = s
+as_spelled p q takes_product takes_sign takes_sum levels (product e (and_expression f fs)) ts rest (can, s) = (takes_product can, s)
+as_spelled p q takes_product takes_sign takes_sum levels (signed sign e) ts rest (can, s) = (takes_sign can, s)
+as_spelled p q takes_product takes_sign takes_sum levels (sum e (and_term sign f fs)) ts rest (can, s) = (takes_sum can, s)
+as_spelled p q takes_product takes_sign takes_sum levels _ ts rest s = s
 
 -- ---- the laws of terms and sums, given those of what is in parentheses
 
@@ -68,23 +77,8 @@ module _ (n m : ℕ) (inner : Reads n (sum_in n) (sum_in m) (In n) continues_sum
       seq_reads (factor_reads n m inner inner_less) further_factors_reads
       (λ xs ts rest s stop. each_first continues_factor (λ ts e rest s. ap continues_factor s.1.2) xs ts rest s (or_false (begins star rest) (continues_factor rest) stop).1)
 
-  -- a factor is a term
-  as_term : (e : ExpressionTree) (ts rest : List Token) → Spelled e factor_place n ts rest → Spelled e term_place n ts rest
-  as_term (number v) ts rest s = s
-  as_term (text t) ts rest s = s
-  as_term (named d no_expression) ts rest s = s
-  as_term (named d (and_expression e es)) ts rest s = s
-  as_term (call f no_expression) ts rest s = s
-  as_term (call f (and_expression e es)) ts rest s = s
-  as_term (parenthesised e) ts rest s = s
-  as_term (product e no_expression) ts rest s = s
-  as_term (product e (and_expression f fs)) ts rest s = absurd s.0
-  as_term (signed sign e) ts rest s = absurd s.0
-  as_term (sum e no_term) ts rest s = s
-  as_term (sum e (and_term sign f fs)) ts rest s = absurd s.0
-
   term_to : (p : ExpressionTree × List ExpressionTree) (ts rest : List Token) → (Spelled p.0 factor_place n ▷ each_in_turn (λ e. Symbol_is Star ▷ Spelled e factor_place n) p.1) ts rest → Spelled (product_of p.0 p.1) term_place n ts rest
-  term_to (e, []) ts rest (m, one, is) = as_term e ts rest (subst (λ r. Spelled e factor_place n ts r) is one)
+  term_to (e, []) ts rest (m, one, is) = as_spelled factor_place term_place (λ can. absurd can) (λ can. can) (λ can. can) n e ts rest (subst (λ r. Spelled e factor_place n ts r) is one)
   term_to (e, f ∷ fs) ts rest (m, one, more) = (tt, (m, one, further_factors n (f ∷ fs) m rest more))
 
   term_from : (x : ExpressionTree) (ts rest : List Token) → Spelled x term_place n ts rest → (p : ExpressionTree × List ExpressionTree) × (product_of p.0 p.1 ≡ x) × (Spelled p.0 factor_place n ▷ each_in_turn (λ e. Symbol_is Star ▷ Spelled e factor_place n) p.1) ts rest
@@ -113,12 +107,7 @@ module _ (n m : ℕ) (inner : Reads n (sum_in n) (sum_in m) (In n) continues_sum
 
   signed_term_reads : Reads (suc n) (signed_term_with (sum_in n)) (signed_term_with (sum_in m)) (Term_is n) continues_term
   unfolding signed_term_with
-  signed_term_reads = seq_reads sign_reads term_reads (λ x ts rest s stop. refl)
-    where
-      sign_reads : Reads (suc n) (taken sign_of_token) (taken sign_of_token) Sign_is continues_never
-      sign_reads =
-          let law = taken_reads (suc n) sign_of_token in
-          record { sound = λ ts x rest e. sign_to x ts rest (law.sound ts x rest e); complete = λ ts x rest s stop. law.complete ts x rest (sign_from x ts rest s) stop; shorter = λ ts x rest s. law.shorter ts x rest (sign_from x ts rest s); under = law.under; opening = law.opening }
+  signed_term_reads = seq_reads (reshaped_reads (taken_reads (suc n) sign_of_token) Sign_is (λ sign ts rest s. sign_to s.0 sign ts rest s.1 s.2) sign_from) term_reads (λ x ts rest s stop. refl)
 
   signed_term_less : (ts : List Token) (x : Sign × ExpressionTree) (rest : List Token) → Term_is n x ts rest → length rest < length ts
   signed_term_less ts (signs.Plus, e) rest (m, sign_is, one) = omega (arith, token_less (kinds.Symbol Plus) ts m sign_is, term_less m e rest one)
@@ -134,21 +123,6 @@ module _ (n m : ℕ) (inner : Reads n (sum_in n) (sum_in m) (In n) continues_sum
   further_terms_reads : Reads (suc n) (further_terms_with (sum_in n)) (further_terms_with (sum_in m)) (each_in_turn (Term_is n)) continues_sum
   further_terms_reads = rows_reads signed_term_item (λ ts x rest s. sign_stops x.0 ts s.0 s.1)
 
-  -- a term is the first term of a sum
-  as_first : (e : ExpressionTree) (ts rest : List Token) → Spelled e term_place n ts rest → Spelled e first_place n ts rest
-  as_first (number v) ts rest s = s
-  as_first (text t) ts rest s = s
-  as_first (named d no_expression) ts rest s = s
-  as_first (named d (and_expression e es)) ts rest s = s
-  as_first (call f no_expression) ts rest s = s
-  as_first (call f (and_expression e es)) ts rest s = s
-  as_first (parenthesised e) ts rest s = s
-  as_first (product e no_expression) ts rest s = s
-  as_first (product e (and_expression f fs)) ts rest s = s
-  as_first (signed sign e) ts rest s = absurd s.0
-  as_first (sum e no_term) ts rest s = s
-  as_first (sum e (and_term sign f fs)) ts rest s = absurd s.0
-
   -- a sign and a term
   abbrev Signed_is : ExpressionTree → Shape
   Signed_is x ts rest = (p : Sign × ExpressionTree) × (signed p.0 p.1 ≡ x) × Term_is n p ts rest
@@ -162,13 +136,9 @@ module _ (n m : ℕ) (inner : Reads n (sum_in n) (sum_in m) (In n) continues_sum
   pub first_term_reads : Reads (suc n) (first_term_with (sum_in n)) (first_term_with (sum_in m)) (λ e. Spelled e first_place n) (λ ts. continues_term ts || continues_term ts)
   unfolding first_term_with
   first_term_reads =
-      choose_reads signed_item term_reads
-      (λ x ts rest s. subst (λ (e : ExpressionTree). Spelled e first_place n ts rest) s.1 (tt, s.2))
-      as_first
-      (λ x ts rest s. elim (first_cases x n ts rest s) [
-        | inl p ↦ inl ((p.0, p.1), sym p.2, p.3)
-        | inr t ↦ inr ((term_begins x n ts rest t).1, t)
-      ])
+      reshaped_reads (either_reads signed_item term_reads (λ ts. continues_term ts || continues_term ts) (λ ts stop. or_false (continues_term ts) (continues_term ts) stop) (λ x ts rest t stop. (term_begins x n ts rest t).1)) (λ e. Spelled e first_place n)
+      (λ x ts rest s. elim s [ inl p ↦ subst (λ (e : ExpressionTree). Spelled e first_place n ts rest) p.1 (tt, p.2) | inr t ↦ as_spelled term_place first_place (λ can. can) (λ can. absurd can) (λ can. can) n x ts rest t ])
+      (λ x ts rest s. elim (first_cases x n ts rest s) [ inl p ↦ inl ((p.0, p.1), sym p.2, p.3) | inr t ↦ inr t ])
 
   terms_reads : Reads (suc n) (seq (first_term_with (sum_in n)) (further_terms_with (sum_in n))) (seq (first_term_with (sum_in m)) (further_terms_with (sum_in m))) (λ p. Spelled p.0 first_place n ▷ each_in_turn (Term_is n) p.1) continues_sum
   terms_reads =
@@ -177,23 +147,8 @@ module _ (n m : ℕ) (inner : Reads n (sum_in n) (sum_in m) (In n) continues_sum
       let none = each_first continues_term (λ ts x rest s. sign_stops x.0 ts s.0 s.1) xs ts rest s (or_false (begins_sign rest) (continues_term rest) stop).1 in
       rw none refl)
 
-  -- the first term of a sum is a sum
-  as_sum : (e : ExpressionTree) (ts rest : List Token) → Spelled e first_place n ts rest → Spelled e sum_place n ts rest
-  as_sum (number v) ts rest s = s
-  as_sum (text t) ts rest s = s
-  as_sum (named d no_expression) ts rest s = s
-  as_sum (named d (and_expression e es)) ts rest s = s
-  as_sum (call f no_expression) ts rest s = s
-  as_sum (call f (and_expression e es)) ts rest s = s
-  as_sum (parenthesised e) ts rest s = s
-  as_sum (product e no_expression) ts rest s = s
-  as_sum (product e (and_expression f fs)) ts rest s = s
-  as_sum (signed sign e) ts rest s = s
-  as_sum (sum e no_term) ts rest s = s
-  as_sum (sum e (and_term sign f fs)) ts rest s = absurd s.0
-
   sum_to : (p : ExpressionTree × List (Sign × ExpressionTree)) (ts rest : List Token) → (Spelled p.0 first_place n ▷ each_in_turn (Term_is n) p.1) ts rest → Spelled (sum_of_terms p.0 p.1) sum_place n ts rest
-  sum_to (e, []) ts rest (m, one, is) = as_sum e ts rest (subst (λ r. Spelled e first_place n ts r) is one)
+  sum_to (e, []) ts rest (m, one, is) = as_spelled first_place sum_place (λ can. can) (λ can. can) (λ can. absurd can) n e ts rest (subst (λ r. Spelled e first_place n ts r) is one)
   sum_to (e, f ∷ fs) ts rest (m, one, more) = (tt, (m, one, further_terms n (f ∷ fs) m rest more))
 
   sum_from : (x : ExpressionTree) (ts rest : List Token) → Spelled x sum_place n ts rest → (p : ExpressionTree × List (Sign × ExpressionTree)) × (sum_of_terms p.0 p.1 ≡ x) × (Spelled p.0 first_place n ▷ each_in_turn (Term_is n) p.1) ts rest

@@ -1,30 +1,27 @@
 -- Words of a class, names and lists of names: what is read is spelled, and what is spelled is read.
 use Rattle.std.proofs.Common.{◌≡◌, ℕ, suc, ◌<◌, ◌≤◌, Bool, true, false, ◌||◌, List, [], ◌∷◌, length, Option, Some, Ok, refl, sym, ap, subst, ◌∙◌, arith, inl, inr, ◌⊎◌}
-use Rattle.ss_parse_expressions.proofs.Common.{after_dropped, apply, begins, begins_more, choose_reader, comma, expect, in_table, is, kind_of_mark, Line, Mark, maybe_list, name_in_token, openers, Reader, skip, skip_separator, Span, taken, Token, TokenKind, Word, word}
+use Rattle.ss_parse_expressions.proofs.Common.{after_dropped, apply, begins, begins_more, comma, expect, in_table, is, kind_of_mark, Line, Mark, maybe_list, name_in_token, openers, Reader, skip, skip_separator, Span, taken, Token, TokenKind, Word, word}
 use Rattle.ss_lex.specs.declared.word.Word.TheVariants as words
 use Rattle.ss_lex.specs.declared.token.TokenKind.TheVariants as kinds
 use Rattle.ss_parse_expressions.specs.declared.classes.WordClass.{WordClass}
 use Rattle.ss_parse_expressions.specs.declared.classes.WordClass.TheVariants as classes
-use Rattle.ss_parse_expressions.specs.Shapes.{Shape, ◌▷◌, nothing, never, either_shape, optional, provided, noise, Token_is, Name_is, Word_for, separated_list, flagged}
+use Rattle.ss_parse_expressions.specs.Shapes.{Shape, ◌▷◌, never, optional, noise, Token_is, Name_is, Word_for, separated_list, flagged}
 use Rattle.ss_parse_expressions.specs.Words.{has_word, One_of, Item_is, perhaps_listed}
-use Rattle.ss_parse_expressions.specs.ReadWords.{in_class, begins_class, skip_class, expect_class, if_present, done, fail, begins_noisy, expect_noisy, begins_name, names, begins_item, articled_name, items, among, begins_among}
+use Rattle.ss_parse_expressions.specs.ReadWords.{in_class, begins_class, skip_class, expect_class, if_present, fail, begins_noisy, expect_noisy, begins_name, names, begins_item, articled_name, items, among, begins_among}
 use Rattle.ss_parse_expressions.proofs.Tools.{which, chosen, carry}
-use Rattle.ss_parse_expressions.proofs.Marks.{token, Mark_is, is_true, token_of, mark_begins, mark_skips, begins_mark, no_skip, token_less, skip_openers, In_table, begins_table}
-use Rattle.ss_parse_expressions.proofs.Depth.{upto_same, upto_if, Bounded, bounded_more, bounded_if}
-use Rattle.ss_parse_expressions.proofs.ReaderLaws.{Reads, Item, continues_never, Made, item_of, made_reads, marked_reads, expect_reads, taken_reads, reshaped_reads, optional_reads, maybe_list_reads}
+use Rattle.ss_parse_expressions.proofs.Marks.{token, Mark_is, is_true, token_of, mark_begins, mark_skips, begins_mark, no_skip, token_less, skip_openers, starts_otherwise, begins_table}
+use Rattle.ss_parse_expressions.proofs.Depth.{upto_same, Bounded}
+use Rattle.ss_parse_expressions.proofs.ReaderLaws.{Reads, Item, continues_never, Made, item_of, made_reads, marked_reads, expect_reads, taken_reads, reshaped_reads, skipped_reads, optional_reads, maybe_list_reads}
 use Rattle.ss_parse_expressions.proofs.Rows.{list_reads, Loop, loop_of, separated_item}
 
 -- ---- words of a table
 
-word_for_to : {A : Type 0} (table : Word → Option A) (x : A) (ts rest : List Token) → In_table (in_table table) x ts rest → Word_for table x ts rest
-word_for_to table x ts rest (k, takes, at) = go k takes at
-  where
-    go : (k : TokenKind) → in_table table k ≡ Some x → Token_is k ts rest → Word_for table x ts rest
-    go (kinds.Word w) e at = (w, e, at)
-    go _ e at = absurd cc
+word_for_to : {A : Type 0} (table : Word → Option A) (k : TokenKind) (x : A) (ts rest : List Token) → in_table table k ≡ Some x → Token_is k ts rest → Word_for table x ts rest
+word_for_to table (kinds.Word w) x ts rest e at = (w, e, at)
+word_for_to table _ x ts rest e at = absurd cc
 
 pub word_in_reads : {A : Type 0} (k : ℕ) (table : Word → Option A) → Reads k (taken (in_table table)) (taken (in_table table)) (Word_for table) continues_never
-word_in_reads k table = reshaped_reads (taken_reads k (in_table table)) (Word_for table) (word_for_to table) (λ x ts rest s. (kinds.Word s.0, s.1, s.2))
+word_in_reads k table = reshaped_reads (taken_reads k (in_table table)) (Word_for table) (λ x ts rest s. word_for_to table s.0 x ts rest s.1 s.2) (λ x ts rest s. (kinds.Word s.0, s.1, s.2))
 
 -- ---- words of a class
 
@@ -81,40 +78,10 @@ expect_class_reads k c = record {
     opening (t ∷ ts) = elim (which (in_class c t.kind)) [ inl p ↦ rw p (omega arith) | inr p ↦ rw p tt ]
 
 -- a word of the class that may be left out
-module _ {A : Type 0} {k : ℕ} {q q' : Reader A} {S : A → Shape} {d : List Token → Bool} (law : Reads k q q' S d) (c : WordClass) where
-  pub optional_class_reads : ((x : A) (ts rest : List Token) → S x ts rest → begins_class c ts ≡ false) → Reads k (λ ts. q (skip_class c ts)) (λ ts. q' (skip_class c ts)) (λ x. optional (One_of c) ▷ S x) d
-  optional_class_reads first = record {
-    sound = λ ts x rest e. (skip_class c ts, front ts, law.sound (skip_class c ts) x rest e);
-    complete = λ ts x rest s stop. ap q (skips x ts rest s) ∙ law.complete s.0 x rest s.2 stop;
-    shorter = λ ts x rest s. omega (arith, less ts s.0 s.1, law.shorter s.0 x rest s.2);
-    under = λ ts. law.under (skip_class c ts);
-    opening = λ ts. bounded_more k (openers (skip_class c ts)) (openers ts) (q (skip_class c ts)) (skip_class_openers c ts) (law.opening (skip_class c ts));
-  }
-    where
-      front : (ts : List Token) → optional (One_of c) ts (skip_class c ts)
-      front ts = elim (which (begins_class c ts)) [ inl p ↦ inr (begins_one c ts p) | inr p ↦ inl (sym (no_skip_class c ts p)) ]
+pub optional_class_reads : {A : Type 0} {k : ℕ} {q q' : Reader A} {S : A → Shape} {d : List Token → Bool} → Reads k q q' S d → (c : WordClass) → ((x : A) (ts rest : List Token) → S x ts rest → begins_class c ts ≡ false) → Reads k (λ ts. q (skip_class c ts)) (λ ts. q' (skip_class c ts)) (λ x. optional (One_of c) ▷ S x) d
+optional_class_reads law c = skipped_reads law (begins_class c) (skip_class c) (One_of c) (begins_one c) (no_skip_class c) (one_skips c) (one_less c) (skip_class_openers c)
 
-      skips_to : (ts a : List Token) → optional (One_of c) ts a → begins_class c a ≡ false → skip_class c ts ≡ a
-      skips_to ts a (inl e) none_there = ap (skip_class c) e ∙ no_skip_class c a none_there
-      skips_to ts a (inr w) none_there = one_skips c ts a w
-
-      skips : (x : A) (ts rest : List Token) (s : (optional (One_of c) ▷ S x) ts rest) → skip_class c ts ≡ s.0
-      skips x ts rest s = skips_to ts s.0 s.1 (first x s.0 rest s.2)
-
-      less : (ts a : List Token) → optional (One_of c) ts a → length a ≤ length ts
-      less ts a (inl e) = omega (arith, ap length e)
-      less ts a (inr w) = omega (arith, one_less c ts a w)
-
--- ---- readers that read nothing, that always fail, and that look for a mark
-
-pub done_reads : {A : Type 0} (k : ℕ) (x : A) → Reads k (done x) (done x) (λ y. provided (x ≡ y) nothing) continues_never
-done_reads {A = A} k x = record {
-  sound = λ ts y rest e. carry (λ (y : A) (r : List Token). (x ≡ y) × (ts ≡ r)) x y ts rest e (refl, refl);
-  complete = λ ts y rest s stop. λ i. Ok (s.0 i, s.1 i);
-  shorter = λ ts y rest s. omega (arith, ap length s.1);
-  under = λ ts. upto_same _;
-  opening = λ ts. omega arith;
-}
+-- ---- readers that always fail, and that look for a mark
 
 pub fail_reads : {A : Type 0} (k : ℕ) → Reads k (fail {A = A}) (fail {A = A}) (λ x. never) continues_never
 fail_reads k = record {
@@ -173,15 +140,12 @@ noisy_stops c m alone noisy ts rest (a, inr (span, line, e), (span', line', f)) 
 
 -- ---- names
 
-name_to : (n : List ℕ) (ts rest : List Token) → In_table name_in_token n ts rest → Name_is n ts rest
-name_to n ts rest (k, takes, at) = go k takes at
-  where
-    go : (k : TokenKind) → name_in_token k ≡ Some n → Token_is k ts rest → Name_is n ts rest
-    go (kinds.Name v) e at = let same : v ≡ n = cc in subst (λ n. Name_is n ts rest) same at
-    go _ e at = absurd cc
+name_to : (k : TokenKind) (n : List ℕ) (ts rest : List Token) → name_in_token k ≡ Some n → Token_is k ts rest → Name_is n ts rest
+name_to (kinds.Name v) n ts rest e at = let same : v ≡ n = cc in subst (λ n. Name_is n ts rest) same at
+name_to _ n ts rest e at = absurd cc
 
 pub name_reads : (k : ℕ) → Reads k (taken name_in_token) (taken name_in_token) Name_is continues_never
-name_reads k = reshaped_reads (taken_reads k name_in_token) Name_is name_to (λ n ts rest s. (kinds.Name n, refl, s))
+name_reads k = reshaped_reads (taken_reads k name_in_token) Name_is (λ n ts rest s. name_to s.0 n ts rest s.1 s.2) (λ n ts rest s. (kinds.Name n, refl, s))
 
 pub name_begins : (ts : List Token) (n : List ℕ) (rest : List Token) → Name_is n ts rest → begins_name ts ≡ true
 name_begins ts n rest s = begins_table name_in_token ts rest n (kinds.Name n, refl, s)
@@ -189,13 +153,8 @@ name_begins ts n rest s = begins_table name_in_token ts rest n (kinds.Name n, re
 pub name_less : (ts : List Token) (n : List ℕ) (rest : List Token) → Name_is n ts rest → length rest < length ts
 name_less ts n rest s = omega (arith, token_less (kinds.Name n) ts rest s)
 
-kind_no_and : (k : TokenKind) → begins_name (token k (record { start = 0; length = 0 }) (record { 0 = 0 }) ∷ []) ≡ true → is (word words.And) k ≡ false
-kind_no_and (kinds.Name n) e = refl
-kind_no_and _ e = absurd cc
-
 pub name_no_and : (ts : List Token) → begins_name ts ≡ true → begins (word words.And) ts ≡ false
-name_no_and [] e = absurd cc
-name_no_and (t ∷ ts) e = kind_no_and t.kind e
+name_no_and = starts_otherwise (word words.And) begins_name (λ span line ts. refl)
 
 abbrev pub continues_names : List Token → Bool
 continues_names ts = begins_more begins_name ts
@@ -222,12 +181,8 @@ pub item_less : (ts : List Token) (n : List ℕ) (rest : List Token) → Item_is
 item_less ts n rest (a, inl e, s) = omega (arith, ap length e, name_less a n rest s)
 item_less ts n rest (a, inr w, s) = omega (arith, one_less classes.Article ts a w, name_less a n rest s)
 
-and_no_item : (ts : List Token) → begins (word words.And) ts ≡ true → begins_item ts ≡ false
-and_no_item [] e = refl
-and_no_item (t ∷ ts) e = let kind : t.kind ≡ kinds.Word words.And = is_true (word words.And) t.kind e in rw kind refl
-
 pub item_no_and : (ts : List Token) → begins_item ts ≡ true → begins (word words.And) ts ≡ false
-item_no_and ts e = elim (which (begins (word words.And) ts)) [ inl p ↦ absurd (let no = and_no_item ts p in cc) | inr p ↦ p ]
+item_no_and = starts_otherwise (word words.And) begins_item (λ span line ts. refl)
 
 pub items_reads : (k : ℕ) → Reads k items items (separated_list Item_is) (λ ts. begins_more begins_item ts || (continues_never ts || continues_never ts))
 items_reads k = list_reads (item_reads k) begins_item item_begins item_no_and item_less (λ span line ts. refl) (λ span line ts. refl)
@@ -269,31 +224,6 @@ no_class p c held (t ∷ ts) e =
           absurd (let holds : among p t.kind ≡ true = ap (among p) w.2 ∙ held w.0 w.1 in cc)
       | inr none ↦ none
     ]
-
--- ---- one of two readers, the second of which may read nothing
-
--- The second doesn't start as the first does, where the tokens after it can't continue it.
-module _ {A : Type 0} {k : ℕ} {starts : List Token → Bool} {r r' q q' : Reader A} {S T : A → Shape} {c d : List Token → Bool} (first : Item k starts r r' S c) (second : Reads k q q' T d) (e : List Token → Bool) (fewer : (ts : List Token) → e ts ≡ false → (c ts ≡ false) × (d ts ≡ false)) (late : (x : A) (ts rest : List Token) → T x ts rest → e rest ≡ false → starts ts ≡ false) where
-  pub either_reads : Reads k (choose_reader starts r q) (choose_reader starts r' q') (λ x. either_shape (S x) (T x)) e
-  either_reads = record {
-    sound = λ ts x rest is.
-        elim (chosen (starts ts) _ _ _ is) [
-          | inl p ↦ inl (first.sound ts x rest p.0 p.1)
-          | inr p ↦ inr (second.sound ts x rest p.1)
-        ];
-    complete = λ ts x rest u stop.
-        elim u [
-          | inl s ↦
-              let there : starts ts ≡ true = first.begins ts x rest s in
-              rw there (first.complete ts x rest s (fewer rest stop).0)
-          | inr t ↦
-              let none : starts ts ≡ false = late x ts rest t stop in
-              rw none (second.complete ts x rest t (fewer rest stop).1)
-        ];
-    shorter = λ ts x rest u. elim u [ inl s ↦ omega (arith, first.less ts x rest s) | inr t ↦ second.shorter ts x rest t ];
-    under = λ ts. upto_if (starts ts) _ _ _ _ (first.under ts) (second.under ts);
-    opening = λ ts. bounded_if k (openers ts) (starts ts) _ _ (first.opening ts) (second.opening ts);
-  }
 
 -- an item that is made of what begins with a mark
 pub item_made : {A B : Type 0} {k : ℕ} {q q' : Reader A} {S : A → Shape} {d : List Token → Bool} (m : Mark) (law : Reads k q q' S d) (f : A → B) → Item k (begins m) (apply f (after_dropped (expect m) q)) (apply f (after_dropped (expect m) q')) (Made f (λ x. Mark_is m ▷ S x)) d

@@ -149,15 +149,15 @@ too_deep ts = Err TooDeep
 
 -- ---- rows
 
--- items as long as there is one more, at most as many as the number
-abbrev pub row : {A : Type 0} → (List Token → Bool) → Reader A → ℕ → Reader (List A)
-row starts item zero ts = Ok ([], ts)
-row starts item (suc n) ts =
-    if starts ts then (item ts >>= λ x. row starts item n x.1 >>= λ xs. Ok (x.0 ∷ xs.0, xs.1)) else Ok ([], ts)
+-- Items as long as there is one more, at most as many as the number. Each is read in the state that the ones before it leave.
+abbrev pub row : {A G : Type 0} → (List Token → Bool) → (G → Reader A) → (G → A → G) → ℕ → G → Reader (List A)
+row starts item next zero g ts = Ok ([], ts)
+row starts item next (suc n) g ts =
+    if starts ts then (item g ts >>= λ x. row starts item next n (next g x.0) x.1 >>= λ xs. Ok (x.0 ∷ xs.0, xs.1)) else Ok ([], ts)
 
--- items as long as there is one more
+-- items as long as there is one more, where no state is kept
 unfoldable pub rows : {A : Type 0} → (List Token → Bool) → Reader A → Reader (List A)
-rows starts item ts = row starts item (length ts) ts
+rows starts item ts = row starts (λ (u : Unit {0}). item) (λ u x. u) (length ts) tt ts
 
 -- an item, and further ones as long as there is one more
 abbrev pub first_and : {A : Type 0} → Reader A → (List Token → Bool) → Reader A → Reader (List A)

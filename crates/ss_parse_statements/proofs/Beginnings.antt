@@ -16,11 +16,11 @@ use Rattle.ss_parse_expressions.specs.WordTables.{phrase_of, guard_of, function_
 use Rattle.ss_parse_expressions.specs.Reading.{word, kind_of_mark, is, is_some, begins, in_table, comma, skip_comma}
 use Rattle.ss_parse_expressions.specs.ReadExpressions.{designator_of_word, begins_value, begins_sum}
 use Rattle.ss_parse_expressions.proofs.Tools.{which, or_false}
-use Rattle.ss_parse_expressions.proofs.Marks.{token, is_true, mark_skips, no_skip}
+use Rattle.ss_parse_expressions.proofs.Marks.{token, is_true, mark_skips, no_skip, starts_otherwise}
 use Rattle.ss_parse_expressions.proofs.ConditionLaws.{continues_condition, condition_begins}
 use Rattle.ss_parse_expressions.proofs.HeadLaws.{head_more}
 use Rattle.ss_parse_statements.specs.SpelledStatements.{opening_word, May_be_governed, Statement_rest, Statement_from}
-use Rattle.ss_parse_statements.specs.ReadStatements.{form_word, begins_form_kind, begins_form, begins_outcome, begins_find_if_form, begins_find_if}
+use Rattle.ss_parse_statements.specs.ReadStatements.{form_word, begins_form, begins_outcome, begins_find_if_form, begins_find_if}
 use Rattle.ss_parse_statements.proofs.StatementParts.{statement_more, continues_simple}
 use Rattle.ss_parse_statements.proofs.SimpleLaws.{form_first}
 
@@ -64,13 +64,8 @@ word_no_other _ e = absurd cc
 pub form_begins : (n : ℕ) (x : StatementTree) (ts rest : List Token) → Statement_from x n ts rest → begins_form ts ≡ true
 form_begins n x ts rest (begins_at, (m, (span, line, e), s)) = ap begins_form e ∙ form_first x
 
-kind_no_comma : (k : TokenKind) → begins_form_kind k ≡ true → is comma k ≡ false
-kind_no_comma (kinds.Word w) e = refl
-kind_no_comma _ e = absurd cc
-
 pub form_no_comma : (ts : List Token) → begins_form ts ≡ true → begins comma ts ≡ false
-form_no_comma [] e = absurd cc
-form_no_comma (t ∷ ts) e = kind_no_comma t.kind e
+form_no_comma = starts_otherwise comma begins_form (λ span line ts. refl)
 
 -- what is false of a comma and of a word that begins a statement is false of a statement
 pub false_at_statement : (c : List Token → Bool) → ((span : Span) (line : Line) (ts : List Token) → c (token (kind_of_mark comma) span line ∷ ts) ≡ false) → ((w : Word) (span : Span) (line : Line) (ts : List Token) → form_word w ≡ true → c (token (kinds.Word w) span line ∷ ts) ≡ false) → (n : ℕ) (x : StatementTree) (ts rest : List Token) → (noise ▷ Statement_from x n) ts rest → c ts ≡ false
@@ -188,9 +183,6 @@ guard_same guards.While guards.While e = refl
 guard_same guards.Until guards.Until e = refl
 guard_same guards.While guards.Until e = absurd cc
 guard_same guards.Until guards.While e = absurd cc
-
-pub no_guard_word : (v w : Word) → is_some (guard_of v) ≡ false → v ≡ w → is_some (guard_of w) ≡ true → ⊥
-no_guard_word v w none e there = let same : is_some (guard_of v) ≡ is_some (guard_of w) = ap (λ w. is_some (guard_of w)) e in absurd cc
 
 -- a statement that a loop governs begins no phrase
 pub no_phrase : (w : Word) → form_word w ≡ true → is_some (guard_of w) ≡ false → is_some (phrase_of w) ≡ false

@@ -1,5 +1,5 @@
 -- What is read by its first word.
-use Rattle.std.proofs.Common.{◌≡◌, ℕ, suc, ◌+◌, ◌<◌, ◌≤◌, Bool, false, List, [], ◌∷◌, length, Ok, ap, subst, ◌∙◌, arith}
+use Rattle.std.proofs.Common.{◌≡◌, ℕ, suc, ◌+◌, ◌<◌, ◌≤◌, Bool, false, List, [], ◌∷◌, length, Ok, refl, sym, ap, subst, ◌∙◌, arith}
 use Rattle.ss_base.specs.declared.line.Line.{Line}
 use Rattle.ss_lex.specs.declared.word.Word.{Word}
 use Rattle.ss_lex.specs.declared.token.Span.{Span}
@@ -7,7 +7,7 @@ use Rattle.ss_lex.specs.declared.token.TokenKind.{TokenKind}
 use Rattle.ss_lex.specs.declared.token.TokenKind.TheVariants as kinds
 use Rattle.ss_lex.specs.declared.token.Token.{Token}
 use Rattle.ss_parse_expressions.specs.Openers.{opens, openers}
-use Rattle.ss_parse_expressions.specs.Shapes.{Shape, Word_is, first_token_line}
+use Rattle.ss_parse_expressions.specs.Shapes.{Shape, ◌▷◌, Word_is, first_token_line, at}
 use Rattle.ss_parse_expressions.specs.Reading.{Reader}
 use Rattle.ss_parse_expressions.proofs.Marks.{token, token_less}
 use Rattle.ss_parse_expressions.proofs.Depth.{Upto, upto_same, Bounded, bounded_more, bounded_opened}
@@ -40,28 +40,36 @@ opening_form {k = k} {r = r} w opener law = record {
   opening = λ ts. bounded_opened k (openers ts) (opens (kinds.Word w) + openers ts) (r ts) (omega (arith, opener)) (law.opening ts);
 }
 
-module _ {A : Type 0} {k : ℕ} {form form' : Line → Word → Reader A} {S : Line → Word → A → Shape} {c : List Token → Bool} (law : (line : Line) (w : Word) → Form k w (form line w) (form' line w) (S line w) c) (T : A → Shape) (to : (x : A) (w : Word) (span : Span) (line : Line) (ts rest : List Token) → S line w x ts rest → T x (token (kinds.Word w) span line ∷ ts) rest) (from : (x : A) (ts rest : List Token) → T x ts rest → (w : Word) × (m : List Token) × (Word_is w ts m) × S (first_token_line ts) w x m rest) where
-  kind_sound : (kind : TokenKind) (span : Span) (line : Line) (ts : List Token) (x : A) (rest : List Token) → at_word form line kind ts ≡ Ok (x, rest) → T x (token kind span line ∷ ts) rest
-  kind_sound (kinds.Word w) span line ts x rest e = to x w span line ts rest ((law line w).sound ts x rest e)
+-- After its first word: what has this line and this first word, and this shape after that word.
+abbrev pub After_word : {A : Type 0} → (A → Line) → (A → Word) → (A → Shape) → Line → Word → A → Shape
+After_word line_of word_of Rest line w x ts rest = (line_of x ≡ line) × (word_of x ≡ w) × Rest x ts rest
+
+-- from its first word on
+abbrev pub From_word : {A : Type 0} → (A → Line) → (A → Word) → (A → Shape) → A → Shape
+From_word line_of word_of Rest x = at (line_of x) (Word_is (word_of x) ▷ Rest x)
+
+module _ {A : Type 0} {k : ℕ} {form form' : Line → Word → Reader A} {c : List Token → Bool} (line_of : A → Line) (word_of : A → Word) (Rest : A → Shape) (law : (line : Line) (w : Word) → Form k w (form line w) (form' line w) (After_word line_of word_of Rest line w) c) where
+  word_to : (x : A) (w : Word) (span : Span) (line : Line) (ts rest : List Token) → After_word line_of word_of Rest line w x ts rest → From_word line_of word_of Rest x (token (kinds.Word w) span line ∷ ts) rest
+  word_to x w span line ts rest (begins_at, is, s) = (sym begins_at, (ts, subst (λ (v : Word). Word_is v (token (kinds.Word w) span line ∷ ts) ts) (sym is) (span, line, refl), s))
+
+  kind_sound : (kind : TokenKind) (span : Span) (line : Line) (ts : List Token) (x : A) (rest : List Token) → at_word form line kind ts ≡ Ok (x, rest) → From_word line_of word_of Rest x (token kind span line ∷ ts) rest
+  kind_sound (kinds.Word w) span line ts x rest e = word_to x w span line ts rest ((law line w).sound ts x rest e)
   kind_sound _ span line ts x rest e = absurd cc
 
-  first_sound : (ts : List Token) (x : A) (rest : List Token) → by_word form ts ≡ Ok (x, rest) → T x ts rest
+  first_sound : (ts : List Token) (x : A) (rest : List Token) → by_word form ts ≡ Ok (x, rest) → From_word line_of word_of Rest x ts rest
   first_sound [] x rest e = absurd cc
   first_sound (t ∷ ts) x rest e = kind_sound t.kind t.span t.line ts x rest e
 
-  first_complete : (ts : List Token) (x : A) (rest : List Token) → T x ts rest → c rest ≡ false → by_word form ts ≡ Ok (x, rest)
-  first_complete ts x rest s stop = go (from x ts rest s)
-    where
-      go : ((w : Word) × (m : List Token) × (Word_is w ts m) × S (first_token_line ts) w x m rest) → by_word form ts ≡ Ok (x, rest)
-      go (w, m, (span, line, e), s) =
-          let same : first_token_line ts ≡ line = ap first_token_line e in
-          let following : S line w x m rest = subst (λ (l : Line). S l w x m rest) same s in
-          ap (by_word form) e ∙ (law line w).complete m x rest following stop
+  first_complete : (ts : List Token) (x : A) (rest : List Token) → From_word line_of word_of Rest x ts rest → c rest ≡ false → by_word form ts ≡ Ok (x, rest)
+  first_complete ts x rest (begins_at, (m, (span, line, e), s)) stop =
+      let same : first_token_line ts ≡ line = ap first_token_line e in
+      let after : After_word line_of word_of Rest line (word_of x) x m rest = (sym begins_at ∙ same, refl, s) in
+      ap (by_word form) e ∙ (law line (word_of x)).complete m x rest after stop
 
-  pub first_less : (ts : List Token) (x : A) (rest : List Token) → T x ts rest → length rest < length ts
+  pub first_less : (ts : List Token) (x : A) (rest : List Token) → From_word line_of word_of Rest x ts rest → length rest < length ts
   first_less ts x rest s =
-      let f = from x ts rest s in
-      omega (arith, token_less (kinds.Word f.0) ts f.1 f.2, (law (first_token_line ts) f.0).shorter f.1 x rest f.3)
+      let after : After_word line_of word_of Rest (first_token_line ts) (word_of x) x s.1.0 rest = (sym s.0, refl, s.1.2) in
+      omega (arith, token_less (kinds.Word (word_of x)) ts s.1.0 s.1.1, (law (first_token_line ts) (word_of x)).shorter s.1.0 x rest after)
 
   kind_under : (line : Line) (kind : TokenKind) (ts : List Token) → Upto (at_word form line kind ts) (at_word form' line kind ts)
   kind_under line (kinds.Word w) ts = (law line w).under ts
@@ -79,7 +87,7 @@ module _ {A : Type 0} {k : ℕ} {form form' : Line → Word → Reader A} {S : L
   first_opening [] = tt
   first_opening (t ∷ ts) = kind_opening t.line t.kind ts
 
-  pub by_word_reads : Reads k (by_word form) (by_word form') T c
+  pub by_word_reads : Reads k (by_word form) (by_word form') (From_word line_of word_of Rest) c
   by_word_reads = record {
     sound = first_sound;
     complete = first_complete;

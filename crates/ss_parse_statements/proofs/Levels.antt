@@ -1,24 +1,21 @@
 -- Statements at each level of nesting: what is read is spelled, and what is spelled is read.
-use Rattle.std.proofs.Common.{◌≡◌, ℕ, zero, suc, ◌<◌, ◌≤◌, Bool, true, false, ◌||◌, List, ◌∷◌, length, refl, sym, ap, subst, ◌∙◌, arith}
+use Rattle.std.proofs.Common.{◌≡◌, ℕ, zero, suc, ◌<◌, ◌≤◌, Bool, true, false, ◌||◌, List, length, refl, sym, ap, ◌∙◌, arith}
 use Rattle.ss_base.specs.declared.line.Line.{Line}
 use Rattle.ss_lex.specs.declared.word.Word.{Word}
 use Rattle.ss_lex.specs.declared.word.Word.TheVariants as words
-use Rattle.ss_lex.specs.declared.token.Span.{Span}
 use Rattle.ss_lex.specs.declared.token.TokenKind.TheVariants as kinds
 use Rattle.ss_lex.specs.declared.token.Token.{Token}
 use Rattle.ss_tree.specs.Tree.{StatementTree, if_statement, loop_statement, find_statement, find_if_statement}
 use Rattle.ss_parse_expressions.specs.Openers.{opens}
-use Rattle.ss_parse_expressions.specs.Shapes.{Shape, ◌▷◌, noise, Word_is, first_token_line, each_in_turn, nested_shape}
+use Rattle.ss_parse_expressions.specs.Shapes.{Shape, ◌▷◌, noise, each_in_turn, nested_shape}
 use Rattle.ss_parse_expressions.specs.Reading.{choose_reader, skip_comma}
-use Rattle.ss_parse_expressions.proofs.Marks.{token}
 use Rattle.ss_parse_expressions.proofs.ReaderLaws.{Reads, Item, reshaped_reads, fewer_reads, noisy_item, too_deep_reads}
 use Rattle.ss_parse_expressions.proofs.Rows.{rows_reads, Loop, loop_of}
-use Rattle.ss_parse_statements.specs.SpelledStatements.{opening_word, Statement_rest, Statement_from}
+use Rattle.ss_parse_statements.specs.SpelledStatements.{line_of_first_word, opening_word, Statement_rest, Statement_from}
 use Rattle.ss_parse_statements.specs.ReadSimple.{simple_at}
 use Rattle.ss_parse_statements.specs.ReadStatements.{by_word, begins_form, begins_statement, nested_word, nested_in, form_in, statement_in, statements_in}
 use Rattle.ss_parse_statements.proofs.FirstWords.{Form, plain_form, opening_form, by_word_reads, first_less}
-use Rattle.ss_parse_statements.proofs.StatementParts.{continues_simple}
-use Rattle.ss_parse_statements.proofs.SimpleLaws.{is_nested, nested_first, Form_is, no_form, let_reads, add_reads, subtract_reads, call_reads, return_reads, stop_reads, read_reads, start_reads, create_reads, destroy_reads, cancel_reads, file_reads, remove_reads, schedule_reads, reset_reads, print_reads, skip_reads}
+use Rattle.ss_parse_statements.proofs.SimpleLaws.{is_nested, nested_first, Form_is, simple_law}
 use Rattle.ss_parse_statements.proofs.Beginnings.{form_begins, form_no_comma, no_simple, continues_statement, statement_stops}
 use Rattle.ss_parse_statements.proofs.NestedStatements.{nested_law}
 
@@ -42,31 +39,6 @@ nested_opens _ e = absurd cc
 abbrev pub In_statement : ℕ → StatementTree → Shape
 In_statement room x = nested_shape (λ l. Statement_from x l) room
 
-simple_law : (n m : ℕ) → n ≤ m → (line : Line) (w : Word) → nested_word w ≡ false → Reads (suc n) (simple_at line (suc n) w) (simple_at line (suc m) w) (Form_is n line w) continues_simple
-unfolding simple_at
-simple_law n m le line words.Let e = let_reads n m le line
-simple_law n m le line words.Add e = add_reads n m le line
-simple_law n m le line words.Subtract e = subtract_reads n m le line
-simple_law n m le line words.Call e = call_reads n m le line
-simple_law n m le line words.Return e = return_reads n m le line
-simple_law n m le line words.Stop e = stop_reads n m le line
-simple_law n m le line words.Read e = read_reads n m le line
-simple_law n m le line words.Start e = start_reads n m le line
-simple_law n m le line words.Create e = create_reads n m le line
-simple_law n m le line words.Destroy e = destroy_reads n m le line
-simple_law n m le line words.File e = file_reads n m le line
-simple_law n m le line words.Remove e = remove_reads n m le line
-simple_law n m le line words.Schedule e = schedule_reads n m le line
-simple_law n m le line words.Cancel e = cancel_reads n m le line
-simple_law n m le line words.Reset e = reset_reads n m le line
-simple_law n m le line words.Print e = print_reads n m le line
-simple_law n m le line words.Skip e = skip_reads n m le line
-simple_law n m le line words.If e = absurd cc
-simple_law n m le line words.For e = absurd cc
-simple_law n m le line words.While e = absurd cc
-simple_law n m le line words.Until e = absurd cc
-simple_law n m le line _ e = no_form (suc n) n line _ refl
-
 module _ (n m : ℕ) (le : n ≤ m) (nested : (line : Line) (w : Word) → nested_word w ≡ true → Reads n (nested_in n (statement_in n) line w) (nested_in m (statement_in m) line w) (Form_is n line w) continues_statement) where
   form_by : (b : Bool) (line : Line) (w : Word) → nested_word w ≡ b → Form (suc n) w (choose_reader (λ ts. b) (nested_in n (statement_in n) line w) (simple_at line (suc n) w)) (choose_reader (λ ts. b) (nested_in m (statement_in m) line w) (simple_at line (suc m) w)) (Form_is n line w) continues_statement
   form_by true line w there = opening_form w (nested_opens w there) (nested line w there)
@@ -75,17 +47,11 @@ module _ (n m : ℕ) (le : n ≤ m) (nested : (line : Line) (w : Word) → neste
   form_law : (line : Line) (w : Word) → Form (suc n) w (form_in n (statement_in n) line w) (form_in m (statement_in m) line w) (Form_is n line w) continues_statement
   form_law line w = form_by (nested_word w) line w refl
 
-  form_to : (x : StatementTree) (w : Word) (span : Span) (line : Line) (ts rest : List Token) → Form_is n line w x ts rest → Statement_from x n (token (kinds.Word w) span line ∷ ts) rest
-  form_to x w span line ts rest (at, is, s) = (sym at, (ts, subst (λ (v : Word). Word_is v (token (kinds.Word w) span line ∷ ts) ts) (sym is) (span, line, refl), s))
-
-  form_from : (x : StatementTree) (ts rest : List Token) → Statement_from x n ts rest → (w : Word) × (r : List Token) × (Word_is w ts r) × Form_is n (first_token_line ts) w x r rest
-  form_from x ts rest (at, (r, w, s)) = (opening_word x, r, w, (sym at, refl, s))
-
   from_reads : Reads (suc n) (by_word (form_in n (statement_in n))) (by_word (form_in m (statement_in m))) (λ x. Statement_from x n) continues_statement
-  from_reads = by_word_reads form_law (λ x. Statement_from x n) form_to form_from
+  from_reads = by_word_reads line_of_first_word opening_word (λ x. Statement_rest x n) form_law
 
   from_less : (ts : List Token) (x : StatementTree) (rest : List Token) → Statement_from x n ts rest → length rest < length ts
-  from_less ts x rest s = first_less form_law (λ x. Statement_from x n) form_to form_from ts x rest s
+  from_less ts x rest s = first_less line_of_first_word opening_word (λ x. Statement_rest x n) form_law ts x rest s
 
 -- the law of a statement after its first word, given the law of the statements in it
 nested_from : (n m : ℕ) → n ≤ m → Reads n (statement_in n) (statement_in m) (In_statement n) continues_statement → ((ts : List Token) (x : StatementTree) (rest : List Token) → In_statement n x ts rest → length rest < length ts) → (line : Line) (w : Word) → nested_word w ≡ true → Reads n (nested_in n (statement_in n) line w) (nested_in m (statement_in m) line w) (Form_is n line w) continues_statement

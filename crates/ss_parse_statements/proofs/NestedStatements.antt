@@ -9,7 +9,7 @@ use Rattle.ss_lex.specs.declared.token.Token.{Token}
 use Rattle.ss_base.specs.declared.words.GuardKind.{GuardKind}
 use Rattle.ss_base.specs.declared.words.GuardKind.TheVariants as guards
 use Rattle.ss_tree.specs.declared.statement.FindOutcome.{FindOutcome}
-use Rattle.ss_tree.specs.Tree.{ConditionTree, HeadTree, LoopHeadTree, for_head, guarded, StatementTree, let_statement, add_statement, subtract_statement, call_statement, return_statement, stop_statement, read_statement, start_simulation, if_statement, loop_statement, find_statement, find_if_statement, create_statement, create_every, destroy_statement, file_statement, remove_end, remove_statement, schedule_new, schedule_statement, cancel_statement, reset_statement, print_statement, skip_statement, StatementRow, no_statement, and_statement, statement_row}
+use Rattle.ss_tree.specs.Tree.{ConditionTree, HeadTree, LoopHeadTree, for_head, guarded, StatementTree, if_statement, loop_statement, find_statement, find_if_statement, StatementRow, no_statement, and_statement, statement_row}
 use Rattle.ss_parse_expressions.specs.Openers.{openers}
 use Rattle.ss_parse_expressions.specs.Shapes.{Shape, ◌▷◌, nothing, either_shape, optional, provided, noise, Word_for, each_in_turn}
 use Rattle.ss_parse_expressions.specs.SpelledConditions.{guard_word, Head_rest}
@@ -20,16 +20,16 @@ use Rattle.ss_parse_expressions.specs.ReadHeads.{begins_guard, guard_tree}
 use Rattle.ss_parse_expressions.proofs.Tools.{chosen, or_false}
 use Rattle.ss_parse_expressions.proofs.Marks.{token, mark_skips}
 use Rattle.ss_parse_expressions.proofs.Depth.{upto_if, upto_same, bounded_if}
-use Rattle.ss_parse_expressions.proofs.ReaderLaws.{Reads, Item, continues_never, Made, item_of, seq_reads, following_reads, marked_reads, closed_reads, expect_reads, bind_reads, apply_reads, made_reads, reshaped_reads, fewer_reads, optional_reads, maybe_list_reads, noisy_item}
+use Rattle.ss_parse_expressions.proofs.ReaderLaws.{Reads, Item, continues_never, Made, item_of, seq_reads, following_reads, marked_reads, closed_reads, expect_reads, bind_reads, apply_reads, made_reads, reshaped_reads, fewer_reads, optional_reads, maybe_list_reads, noisy_item, done_reads, either_reads}
 use Rattle.ss_parse_expressions.proofs.Rows.{rows_reads}
-use Rattle.ss_parse_expressions.proofs.WordLaws.{word_in_reads, done_reads, noisy_mark_reads, noisy_begins, noisy_less, noisy_stops, either_reads}
+use Rattle.ss_parse_expressions.proofs.WordLaws.{word_in_reads, noisy_mark_reads, noisy_begins, noisy_less, noisy_stops}
 use Rattle.ss_parse_expressions.proofs.ConditionLaws.{In_condition, continues_condition, condition_in_reads}
 use Rattle.ss_parse_expressions.proofs.HeadLaws.{head_more, continues_head, continues_for, continues_guarded, for_reads, Guarded_parts, guarded_reads}
 use Rattle.ss_parse_statements.specs.SpelledStatements.{noisy, Find_words, opening_word, May_be_governed, Statement_from, Statements_are, Else_part, Branches, Governed}
 use Rattle.ss_parse_statements.specs.ReadStatements.{form_word, begins_form, begins_statement, begins_find_if, statements_with, else_with, branches_with, do_with, governed_with, body_with, find_words, if_with, loop_with, find_if_with, found_with, find_with, for_with, guarded_with, nested_word, nested_at, statement_in}
 use Rattle.ss_parse_statements.proofs.StatementParts.{continues_simple}
 use Rattle.ss_parse_statements.proofs.SimpleLaws.{form_first, Form_is}
-use Rattle.ss_parse_statements.proofs.Beginnings.{both_false, word_no_other, form_begins, form_no_comma, false_at_statement, word_no_condition, continues_statement, head_no_if, statement_stops, head_guards, may_govern, governed_first, guard_same, no_guard_word, no_phrase}
+use Rattle.ss_parse_statements.proofs.Beginnings.{both_false, word_no_other, form_begins, form_no_comma, false_at_statement, word_no_condition, continues_statement, head_no_if, statement_stops, head_guards, may_govern, governed_first, guard_same, no_phrase}
 
 -- ---- rows as lists
 
@@ -325,50 +325,28 @@ module _ (k j : ℕ) (le : k ≤ j) (inner : Reads (suc k) (statement_in (suc k)
       (λ w span line' r e u. both_false _ _ u (word_no_head w span line' r e))
       row ts rest s
 
-  guarded_to : (kind : GuardKind) (w : Word) → guard_word kind ≡ w → (line : Line) (x : StatementTree) (ts rest : List Token) → Guarded_loop kind line x ts rest → Form_is (suc k) line w x ts rest
-  guarded_to kind w is line x ts rest (h, (a, (c, (b, s, (all, made, (gs, makes, t)))), (row, made', body))) =
+  guarded_to : (kind : GuardKind) (line : Line) (x : StatementTree) (ts rest : List Token) → Guarded_loop kind line x ts rest → Form_is (suc k) line (guard_word kind) x ts rest
+  guarded_to kind line x ts rest (h, (a, (c, (b, s, (all, made, (gs, makes, t)))), (row, made', body))) =
       let head : guarded (guard_tree (kind, c) ∷ gs) ≡ h = ap guarded makes ∙ made in
-      subst (λ x. Form_is (suc k) line w x ts rest) made' (subst (λ (h : LoopHeadTree). Form_is (suc k) line w (loop_statement line h row) ts rest) head (refl, is, (a, (b, s, t), body)))
+      subst (λ x. Form_is (suc k) line (guard_word kind) x ts rest) made' (subst (λ (h : LoopHeadTree). Form_is (suc k) line (guard_word kind) (loop_statement line h row) ts rest) head (refl, refl, (a, (b, s, t), body)))
 
-  guarded_from : (kind : GuardKind) (w : Word) → guard_word kind ≡ w → is_some (guard_of w) ≡ true → (line : Line) (x : StatementTree) (ts rest : List Token) → Form_is (suc k) line w x ts rest → Guarded_loop kind line x ts rest
-  guarded_from kind w is guards_it line (loop_statement l (guarded (g ∷ gs)) body) ts rest (at, u, (a, (b, s, t), q)) =
-      let same : kind ≡ g.kind = guard_same kind g.kind (is ∙ sym u) in
+  guarded_from : (kind : GuardKind) (line : Line) (x : StatementTree) (ts rest : List Token) → Form_is (suc k) line (guard_word kind) x ts rest → Guarded_loop kind line x ts rest
+  guarded_from kind line (loop_statement l (guarded (g ∷ gs)) body) ts rest (at, u, (a, (b, s, t), q)) =
+      let same : kind ≡ g.kind = guard_same kind g.kind (sym u) in
       (guarded (g ∷ gs), (a, (g.condition, (b, s, (g ∷ gs, refl, (gs, (λ i. record { kind = same i; condition = g.condition } ∷ gs), t)))), (body, ap (λ (l : Line). loop_statement l (guarded (g ∷ gs)) body) (sym at), q)))
-  guarded_from kind w is guards_it line (loop_statement l (guarded []) body) ts rest (at, u, (a, s, q)) = absurd s
-  guarded_from kind w is guards_it line (loop_statement l (for_head head) body) ts rest (at, u, s) = absurd (no_guard_word words.For w refl u guards_it)
-  guarded_from kind w is guards_it line (find_statement l head) ts rest (at, u, s) = absurd (no_guard_word words.For w refl u guards_it)
-  guarded_from kind w is guards_it line (find_if_statement l head o t e) ts rest (at, u, s) = absurd (no_guard_word words.For w refl u guards_it)
-  guarded_from kind w is guards_it line (let_statement a b c) ts rest (at, u, s) = absurd (no_guard_word words.Let w refl u guards_it)
-  guarded_from kind w is guards_it line (add_statement a b c) ts rest (at, u, s) = absurd (no_guard_word words.Add w refl u guards_it)
-  guarded_from kind w is guards_it line (subtract_statement a b c) ts rest (at, u, s) = absurd (no_guard_word words.Subtract w refl u guards_it)
-  guarded_from kind w is guards_it line (call_statement a b c d) ts rest (at, u, s) = absurd (no_guard_word words.Call w refl u guards_it)
-  guarded_from kind w is guards_it line (return_statement a) ts rest (at, u, s) = absurd (no_guard_word words.Return w refl u guards_it)
-  guarded_from kind w is guards_it line (stop_statement a) ts rest (at, u, s) = absurd (no_guard_word words.Stop w refl u guards_it)
-  guarded_from kind w is guards_it line (read_statement a b) ts rest (at, u, s) = absurd (no_guard_word words.Read w refl u guards_it)
-  guarded_from kind w is guards_it line (start_simulation a) ts rest (at, u, s) = absurd (no_guard_word words.Start w refl u guards_it)
-  guarded_from kind w is guards_it line (if_statement a b c d) ts rest (at, u, s) = absurd (no_guard_word words.If w refl u guards_it)
-  guarded_from kind w is guards_it line (create_statement a b c) ts rest (at, u, s) = absurd (no_guard_word words.Create w refl u guards_it)
-  guarded_from kind w is guards_it line (create_every a b) ts rest (at, u, s) = absurd (no_guard_word words.Create w refl u guards_it)
-  guarded_from kind w is guards_it line (destroy_statement a b c) ts rest (at, u, s) = absurd (no_guard_word words.Destroy w refl u guards_it)
-  guarded_from kind w is guards_it line (file_statement a b c d) ts rest (at, u, s) = absurd (no_guard_word words.File w refl u guards_it)
-  guarded_from kind w is guards_it line (remove_end a b c d) ts rest (at, u, s) = absurd (no_guard_word words.Remove w refl u guards_it)
-  guarded_from kind w is guards_it line (remove_statement a b c) ts rest (at, u, s) = absurd (no_guard_word words.Remove w refl u guards_it)
-  guarded_from kind w is guards_it line (schedule_new a b c d e) ts rest (at, u, s) = absurd (no_guard_word words.Schedule w refl u guards_it)
-  guarded_from kind w is guards_it line (schedule_statement a b c d e) ts rest (at, u, s) = absurd (no_guard_word words.Schedule w refl u guards_it)
-  guarded_from kind w is guards_it line (cancel_statement a b c) ts rest (at, u, s) = absurd (no_guard_word words.Cancel w refl u guards_it)
-  guarded_from kind w is guards_it line (reset_statement a b) ts rest (at, u, s) = absurd (no_guard_word words.Reset w refl u guards_it)
-  guarded_from kind w is guards_it line (print_statement a b c) ts rest (at, u, s) = absurd (no_guard_word words.Print w refl u guards_it)
-  guarded_from kind w is guards_it line (skip_statement a b) ts rest (at, u, s) = absurd (no_guard_word words.Skip w refl u guards_it)
+  guarded_from kind line (loop_statement l (guarded []) body) ts rest (at, u, (a, s, q)) = absurd s
+  guarded_from guards.While line _ ts rest (at, u, s) = absurd cc
+  guarded_from guards.Until line _ ts rest (at, u, s) = absurd cc
 
-  guarded_law : (kind : GuardKind) (w : Word) → guard_word kind ≡ w → is_some (guard_of w) ≡ true → (line : Line) → Reads (suc k) (guarded_with line (suc k) (statement_in (suc k)) kind) (guarded_with line (suc j) (statement_in (suc j)) kind) (Form_is (suc k) line w) continues_statement
+  guarded_law : (kind : GuardKind) (line : Line) → Reads (suc k) (guarded_with line (suc k) (statement_in (suc k)) kind) (guarded_with line (suc j) (statement_in (suc j)) kind) (Form_is (suc k) line (guard_word kind)) continues_statement
   unfolding guarded_with
-  guarded_law kind w is guards_it line = reshaped_reads (bind_reads (guarded_reads k j le kind) (loop_reads line) (body_no_guarded line)) (Form_is (suc k) line w) (guarded_to kind w is line) (guarded_from kind w is guards_it line)
+  guarded_law kind line = reshaped_reads (bind_reads (guarded_reads k j le kind) (loop_reads line) (body_no_guarded line)) (Form_is (suc k) line (guard_word kind)) (guarded_to kind line) (guarded_from kind line)
 
   -- ---- by the first word
 
   pub nested_law : (line : Line) (w : Word) → nested_word w ≡ true → Reads (suc k) (nested_at line (suc k) (statement_in (suc k)) w) (nested_at line (suc j) (statement_in (suc j)) w) (Form_is (suc k) line w) continues_statement
   nested_law line words.If e = fewer_reads (reshaped_reads (if_reads line) (Form_is (suc k) line words.If) (if_to line) (if_from line)) continues_statement (λ ts stop. refl)
   nested_law line words.For e = reshaped_reads (for_law line) (Form_is (suc k) line words.For) (for_to line) (for_from line)
-  nested_law line words.While e = guarded_law guards.While words.While refl refl line
-  nested_law line words.Until e = guarded_law guards.Until words.Until refl refl line
+  nested_law line words.While e = guarded_law guards.While line
+  nested_law line words.Until e = guarded_law guards.Until line
   nested_law line _ e = absurd cc

@@ -1,5 +1,5 @@
 -- Parts of statements: what is read is spelled, and what is spelled is read.
-use Rattle.std.proofs.Common.{◌≡◌, ℕ, zero, suc, ◌<◌, ◌≤◌, ℤ, pos, negsuc, Bool, true, false, ◌||◌, List, [], ◌∷◌, length, Some, Ok, refl, ap, subst, ◌∙◌, arith, inl, inr, ◌⊎◌}
+use Rattle.std.proofs.Common.{◌≡◌, ℕ, zero, suc, ◌<◌, ◌≤◌, ℤ, pos, negsuc, Bool, true, false, ◌||◌, List, [], ◌∷◌, length, Some, Ok, refl, ap, subst, ◌∙◌, arith, inl, inr}
 use Rattle.ss_base.specs.declared.line.Line.{Line}
 use Rattle.ss_lex.specs.declared.word.Word.{Word}
 use Rattle.ss_lex.specs.declared.word.Word.TheVariants as words
@@ -20,8 +20,8 @@ use Rattle.ss_parse_expressions.specs.ReadPlaces.{target_in, begins_target}
 use Rattle.ss_parse_expressions.proofs.Tools.{bind_ok, carry, or_false}
 use Rattle.ss_parse_expressions.proofs.Marks.{token, mark_begins, token_less, In_table}
 use Rattle.ss_parse_expressions.proofs.Depth.{upto_same, Bounded, bounded_bind}
-use Rattle.ss_parse_expressions.proofs.ReaderLaws.{Reads, Item, continues_never, Made, item_of, item_marked, expect_reads, taken_reads, seq_reads, marked_reads, closed_reads, made_reads, following_reads, reshaped_reads, before_mark_reads, maybe_reads, choose_reads}
-use Rattle.ss_parse_expressions.proofs.WordLaws.{expect_class_reads, one_begins, one_less, done_reads, perhaps_listed_reads, either_reads, item_made, no_word, no_class}
+use Rattle.ss_parse_expressions.proofs.ReaderLaws.{Reads, Item, continues_never, Made, item_of, item_marked, expect_reads, taken_reads, seq_reads, marked_reads, closed_reads, made_reads, following_reads, reshaped_reads, before_mark_reads, maybe_reads, done_reads, either_reads}
+use Rattle.ss_parse_expressions.proofs.WordLaws.{expect_class_reads, one_begins, one_less, perhaps_listed_reads, item_made, no_word, no_class}
 use Rattle.ss_parse_expressions.proofs.Beginnings.{In, continues_sum}
 use Rattle.ss_parse_expressions.proofs.Sums.{sum_in_reads}
 use Rattle.ss_parse_expressions.proofs.PlaceLaws.{target_in_reads, targets_in_reads, sums_in_reads, continues_place, continues_targets, continues_sums}
@@ -37,19 +37,13 @@ items_in_reads n m le = perhaps_listed_reads (item_marked (word words.With) (sum
 pub trigger_reads : (k : ℕ) → Reads k trigger trigger (λ u. Trigger) continues_never
 unfolding trigger
 trigger_reads k =
-    choose_reads (item_of (begins (word words.Thus)) (expect_reads k (word words.Thus)) (λ ts u rest s. mark_begins (word words.Thus) ts rest s) (λ ts u rest s. omega (arith, token_less (kinds.Word words.Thus) ts rest s)))
-    (choose_reads (item_marked (word words.As) (expect_reads k (word words.Follows))) (marked_reads (word words.Like) (expect_reads k (word words.This)))
-    (λ u ts rest s. inl s) (λ u ts rest s. inr s) from')
-    (λ u ts rest s. inl s) (λ u ts rest s. inr s) from
+    either_reads (item_of (begins (word words.Thus)) (expect_reads k (word words.Thus)) (λ ts u rest s. mark_begins (word words.Thus) ts rest s) (λ ts u rest s. omega (arith, token_less (kinds.Word words.Thus) ts rest s)))
+    (either_reads (item_marked (word words.As) (expect_reads k (word words.Follows))) (marked_reads (word words.Like) (expect_reads k (word words.This))) continues_never (λ ts stop. (refl, refl)) (λ u ts rest s stop. ap (begins (word words.As)) s.1.2))
+    continues_never (λ ts stop. (refl, refl)) late
   where
-    from' : (u : Unit {0}) (ts rest : List Token) → either_shape (Word_is words.As ▷ Word_is words.Follows) (Word_is words.Like ▷ Word_is words.This) ts rest → (Word_is words.As ▷ Word_is words.Follows) ts rest ⊎ ((begins (word words.As) ts ≡ false) × (Word_is words.Like ▷ Word_is words.This) ts rest)
-    from' u ts rest (inl s) = inl s
-    from' u ts rest (inr (m, (span, line, e), s)) = inr (rw e refl, (m, (span, line, e), s))
-
-    from : (u : Unit {0}) (ts rest : List Token) → Trigger ts rest → Word_is words.Thus ts rest ⊎ ((begins (word words.Thus) ts ≡ false) × either_shape (Word_is words.As ▷ Word_is words.Follows) (Word_is words.Like ▷ Word_is words.This) ts rest)
-    from u ts rest (inl s) = inl s
-    from u ts rest (inr (inl (m, (span, line, e), s))) = inr (rw e refl, inl (m, (span, line, e), s))
-    from u ts rest (inr (inr (m, (span, line, e), s))) = inr (rw e refl, inr (m, (span, line, e), s))
+    late : (u : Unit {0}) (ts rest : List Token) → either_shape (Word_is words.As ▷ Word_is words.Follows) (Word_is words.Like ▷ Word_is words.This) ts rest → continues_never rest ≡ false → begins (word words.Thus) ts ≡ false
+    late u ts rest (inl (m, (span, line, e), s)) stop = ap (begins (word words.Thus)) e
+    late u ts rest (inr (m, (span, line, e), s)) stop = ap (begins (word words.Thus)) e
 
 -- a number of pictures
 abbrev pub Positive_is : ℕ → Shape
@@ -90,15 +84,12 @@ print_head_reads n m le =
     stops ts rest (inr (inl (m, (span, line, e), s))) stop = rw e refl
     stops ts rest (inr (inr (m, (span, line, e), s))) stop = rw e refl
 
-pictures_to : (bytes : List ℕ) (ts rest : List Token) → In_table picture_token bytes ts rest → Picture_is bytes ts rest
-pictures_to bytes ts rest (k, takes, at) = go k takes at
-  where
-    go : (k : TokenKind) → picture_token k ≡ Some bytes → Token_is k ts rest → Picture_is bytes ts rest
-    go (kinds.Picture b) e at = let same : b ≡ bytes = cc in subst (λ b. Picture_is b ts rest) same at
-    go _ e at = absurd cc
+picture_to : (k : TokenKind) (bytes : List ℕ) (ts rest : List Token) → picture_token k ≡ Some bytes → Token_is k ts rest → Picture_is bytes ts rest
+picture_to (kinds.Picture b) bytes ts rest e at = let same : b ≡ bytes = cc in subst (λ b. Picture_is b ts rest) same at
+picture_to _ bytes ts rest e at = absurd cc
 
 picture_reads : (k : ℕ) → Reads k (taken picture_token) (taken picture_token) Picture_is continues_never
-picture_reads k = reshaped_reads (taken_reads k picture_token) Picture_is pictures_to (λ bytes ts rest s. (kinds.Picture bytes, refl, s))
+picture_reads k = reshaped_reads (taken_reads k picture_token) Picture_is (λ bytes ts rest s. picture_to s.0 bytes ts rest s.1 s.2) (λ bytes ts rest s. (kinds.Picture bytes, refl, s))
 
 -- so many pictures
 abbrev pub Pictures_are : ℕ → List (List ℕ) → Shape

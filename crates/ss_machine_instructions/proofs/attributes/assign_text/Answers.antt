@@ -1,12 +1,9 @@
-use Rattle.std.proofs.Common.{rules, ◌≡◌, Ok, Err, refl, ap, subst, to_z, of_z, w64}
-use Rattle.ss_machine_instructions.proofs.Common.{assigned, MatchResult, said_still, Seen, Text}
+use Rattle.std.proofs.Common.{rules, ◌≡◌, Ok, Err, ap, subst, to_z, of_z, w64}
+use Rattle.ss_machine_instructions.proofs.Common.{assigned, MatchResult, said_of_layout, Seen, Text}
 use Rattle.ss_machine_instructions.proofs.attributes.assign_text.Goals as goal
 
 pub invariant_of-world : goal.invariant_of-world
-invariant_of-world c =
-    let i = c.world.inside in
-    let ss = i.timeline.histories.statistics in
-    said_still i.population.layout c.set_text.new.self.layout i.notices.items ss ss i.classes.items c.set_text.ensures.layout refl c.world.invariant
+invariant_of-world c = let i = c.world.inside in said_of_layout i.population.layout c.set_text.new.self.layout i.notices.items i.timeline.histories.statistics i.classes.items c.set_text.ensures.layout c.world.invariant
 
 pub returns-clause-done : goal.returns-clause-done
 returns-clause-done c =

@@ -1,12 +1,9 @@
-use Rattle.std.proofs.Common.{rules, ◌≡◌, Err, refl, ap, subst, to_z, of_z, w64}
-use Rattle.ss_machine_instructions.proofs.Common.{changed_number, computed, IsChanged, MatchResult, operator_of, said_still, Seen, value_in}
+use Rattle.std.proofs.Common.{rules, ◌≡◌, Err, ap, subst, to_z, of_z, w64}
+use Rattle.ss_machine_instructions.proofs.Common.{changed_number, computed, IsChanged, MatchResult, operator_of, said_of_layout, Seen, value_in}
 use Rattle.ss_machine_instructions.proofs.attributes.change.Goals as goal
 
 pub invariant_of-world : goal.invariant_of-world
-invariant_of-world c =
-    let i = c.world.inside in
-    let ss = i.timeline.histories.statistics in
-    said_still i.population.layout c.change_whole.new.population.layout i.notices.items ss ss i.classes.items c.change_whole.ensures.layout refl c.world.invariant
+invariant_of-world c = let i = c.world.inside in said_of_layout i.population.layout c.change_whole.new.population.layout i.notices.items i.timeline.histories.statistics i.classes.items c.change_whole.ensures.layout c.world.invariant
 
 pub returns-clause-done : goal.returns-clause-done
 returns-clause-done c =

@@ -1,14 +1,11 @@
-use Rattle.std.proofs.Common.{rules, ◌≡◌, ◌<◌, ℤ, length, refl, ap, sym, ◌∙◌, subst, to_z, of_z, w64}
-use Rattle.ss_machine_instructions.proofs.Common.{filed_first, Foremost, HasFiled, IsCounted, Layout, said_still, Seen, seen_of}
+use Rattle.std.proofs.Common.{rules, ◌≡◌, ◌<◌, ℤ, length, ap, sym, ◌∙◌, subst, to_z, of_z, w64}
+use Rattle.ss_machine_instructions.proofs.Common.{filed_first, Foremost, HasFiled, IsCounted, Layout, said_of_layout, Seen, seen_of}
 use Rattle.ss_world.specs.State.{State}
 use Rattle.ss_machine_instructions.proofs.Filing.{rearranged, within_there, first_filed}
 use Rattle.ss_machine_instructions.proofs.sets.put_first.Goals as goal
 
 pub invariant_of-world : goal.invariant_of-world
-invariant_of-world c =
-    let i = c.world.inside in
-    let ss = i.timeline.histories.statistics in
-    said_still i.population.layout c.file_first-changed.new.self.layout i.notices.items ss ss i.classes.items c.file_first-changed.ensures.layout refl c.world.invariant
+invariant_of-world c = let i = c.world.inside in said_of_layout i.population.layout c.file_first-changed.new.self.layout i.notices.items i.timeline.histories.statistics i.classes.items c.file_first-changed.ensures.layout c.world.invariant
 
 pub counted-requires : goal.counted-requires
 counted-requires c =

@@ -1,14 +1,11 @@
 use Rattle.std.proofs.Common.{rules, ◌≡◌, ◌<◌, ℤ, length, refl, ap, sym, ◌∙◌, subst, to_z, of_z, w64}
-use Rattle.ss_machine_instructions.proofs.Common.{HasTaken, IsCountedOut, Layout, said_still, Seen, seen_of}
+use Rattle.ss_machine_instructions.proofs.Common.{HasTaken, IsCountedOut, Layout, said_of_layout, Seen, seen_of}
 use Rattle.ss_base.specs.declared.words.End.TheVariants as ends
 use Rattle.ss_machine_instructions.proofs.Filing.{within_there, end_taken}
 use Rattle.ss_machine_instructions.proofs.sets.take_last.Goals as goal
 
 pub invariant_of-world : goal.invariant_of-world
-invariant_of-world c =
-    let i = c.world.inside in
-    let ss = i.timeline.histories.statistics in
-    said_still i.population.layout c.remove_last-taken.new.self.layout i.notices.items ss ss i.classes.items c.remove_last-taken.ensures.layout refl c.world.invariant
+invariant_of-world c = let i = c.world.inside in said_of_layout i.population.layout c.remove_last-taken.new.self.layout i.notices.items i.timeline.histories.statistics i.classes.items c.remove_last-taken.ensures.layout c.world.invariant
 
 pub counted_out-requires : goal.counted_out-requires
 counted_out-requires c =

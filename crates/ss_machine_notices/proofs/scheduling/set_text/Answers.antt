@@ -1,13 +1,10 @@
-use Rattle.std.proofs.Common.{rules, ◌≡◌, refl, subst, to_z, of_z, w64}
-use Rattle.ss_machine_notices.proofs.Common.{HasSetField, said_still, Seen, seen_of, Text}
+use Rattle.std.proofs.Common.{rules, ◌≡◌, subst, to_z, of_z, w64}
+use Rattle.ss_machine_notices.proofs.Common.{HasSetField, said_of_layout, Seen, seen_of, Text}
 use Rattle.ss_machine_notices.proofs.Giving.{value_set}
 use Rattle.ss_machine_notices.proofs.scheduling.set_text.Goals as goal
 
 pub invariant_of-world : goal.invariant_of-world
-invariant_of-world c =
-    let i = c.world.inside in
-    let ss = i.timeline.histories.statistics in
-    said_still i.population.layout c.set_text.new.self.layout i.notices.items ss ss i.classes.items c.set_text.ensures.layout refl c.world.invariant
+invariant_of-world c = let i = c.world.inside in said_of_layout i.population.layout c.set_text.new.self.layout i.notices.items i.timeline.histories.statistics i.classes.items c.set_text.ensures.layout c.world.invariant
 
 pub returns : goal.returns
 returns c =

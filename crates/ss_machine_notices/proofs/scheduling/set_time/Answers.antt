@@ -1,14 +1,11 @@
-use Rattle.std.proofs.Common.{rules, ◌≡◌, refl, subst, to_z, of_z, w64}
-use Rattle.ss_machine_notices.proofs.Common.{HasRearranged, said_still, Seen, seen_of}
+use Rattle.std.proofs.Common.{rules, ◌≡◌, subst, to_z, of_z, w64}
+use Rattle.ss_machine_notices.proofs.Common.{HasRearranged, said_of_layout, Seen, seen_of}
 use Rattle.ss_world.specs.State.{timed, State}
 use Rattle.ss_machine_instructions.proofs.Filing.{rearranged}
 use Rattle.ss_machine_notices.proofs.scheduling.set_time.Goals as goal
 
 pub invariant_of-world : goal.invariant_of-world
-invariant_of-world c =
-    let i = c.world.inside in
-    let ss = i.timeline.histories.statistics in
-    said_still i.population.layout c.set_time_a.new.self.layout i.notices.items ss ss i.classes.items c.set_time_a.ensures.layout refl c.world.invariant
+invariant_of-world c = let i = c.world.inside in said_of_layout i.population.layout c.set_time_a.new.self.layout i.notices.items i.timeline.histories.statistics i.classes.items c.set_time_a.ensures.layout c.world.invariant
 
 pub returns : goal.returns
 returns c =

@@ -1,6 +1,6 @@
 use Rattle.std.proofs.Common.{arith, ◌≡◌, List, length, true, false, Err, refl, ap, sym, ◌∙◌, subst}
 use Rattle.ss_machine_world.proofs.Common.{AreSaid, Class, ClassEntry, columns_of, HasMade, is_home, is_single, list_any, made_one, Seen, slice_get}
-use Rattle.ss_machine_world.proofs.Said.{none_start, said_still}
+use Rattle.ss_machine_world.proofs.Said.{none_start, said_of_layout}
 use Rattle.ss_machine_world.proofs.Starting.{one_alone, seen_of}
 use Rattle.ss_machine_world.proofs.world.World.create.Goals as goal
 
@@ -31,7 +31,4 @@ returns-in-None c =
     (c.uncreated.ensures class (subst (λ (e : Seen). is_single (slice_get e.heap.layout.classes class) ≡ true) (sym same) c.requires.single))
 
 pub invariant_of-self : goal.invariant_of-self
-invariant_of-self c =
-    let i = c.self.inside in let ss = i.timeline.histories.statistics in
-    said_still i.population.layout c.create.new.self.layout i.notices.items ss ss i.classes.items
-    c.create.ensures.layout refl c.self.invariant
+invariant_of-self c = let i = c.self.inside in said_of_layout i.population.layout c.create.new.self.layout i.notices.items i.timeline.histories.statistics i.classes.items c.create.ensures.layout c.self.invariant

@@ -4,7 +4,7 @@ use Rattle.std.proofs.lemmas.Option.{slice_get_read, slice_get_past}
 use Rattle.ss_world.specs.Disciplines.{filed, HasMemberKeys}
 use Rattle.ss_machine_world.proofs.Ruling.{ruled_by}
 use Rattle.ss_machine_world.proofs.Starting.{seen_of}
-use Rattle.ss_machine_world.proofs.Said.{said_still}
+use Rattle.ss_machine_world.proofs.Said.{said_of_layout}
 use Rattle.ss_machine_world.proofs.world.World.file_ranked.Goals as goal
 
 pub file-requires-clause-keys : goal.file-requires-clause-keys
@@ -36,7 +36,4 @@ returns-in-None c = λ d has.
     absurd (let never : None ≡ Some d = sym none ∙ ap (λ (v : Seen). slice_get v.disciplines c.args.set) c.self.view_is ∙ has in cc)
 
 pub invariant_of-self : goal.invariant_of-self
-invariant_of-self c =
-    let i = c.self.inside in let ss = i.timeline.histories.statistics in
-    said_still i.population.layout c.file.new.self.layout i.notices.items ss ss i.classes.items
-    c.file.ensures.layout refl c.self.invariant
+invariant_of-self c = let i = c.self.inside in said_of_layout i.population.layout c.file.new.self.layout i.notices.items i.timeline.histories.statistics i.classes.items c.file.ensures.layout c.self.invariant

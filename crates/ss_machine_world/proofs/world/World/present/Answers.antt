@@ -1,8 +1,8 @@
-use Rattle.std.proofs.Common.{rules, ◌≡◌, ◌<◌, ℤ, length, Some, Ok, Err, ap, sym, ◌∙◌, subst, to_z, of_z, w64, refl}
+use Rattle.std.proofs.Common.{rules, ◌≡◌, ◌<◌, ℤ, length, Some, Ok, Err, ap, sym, ◌∙◌, subst, to_z, of_z, w64}
 use Rattle.std.specs.Prelude.{slice_get, MatchResult, Result as OkOr}
 use Rattle.ss_machine_world.proofs.Common.{count_in, FaultKind, Integer, IsSubject, modes_of, present_in, Seen, State, Subject, Value, value_in, Whole}
 use Rattle.ss_machine_world.proofs.Figured.{whole_value, number_value}
-use Rattle.ss_machine_world.proofs.Said.{said_still}
+use Rattle.ss_machine_world.proofs.Said.{said_of_layout}
 use Rattle.ss_machine_world.proofs.world.World.present.Goals as goal
 
 pub whole-requires : goal.whole-requires
@@ -40,7 +40,4 @@ returns-in-OfCount-clause-value c =
     ∙ sym (ap (λ (t : Subject). present_in c.args.self.now.heap t x c.args.held) c.in-OfCount.is)
 
 pub invariant_of-self : goal.invariant_of-self
-invariant_of-self c =
-    let i = c.self.inside in let ss = i.timeline.histories.statistics in
-    said_still i.population.layout c.member_count.new.self.layout i.notices.items ss ss i.classes.items
-    (ap (λ (h : State). h.layout) c.member_count.ensures.same) refl c.self.invariant
+invariant_of-self c = let i = c.self.inside in said_of_layout i.population.layout c.member_count.new.self.layout i.notices.items i.timeline.histories.statistics i.classes.items (ap (λ (h : State). h.layout) c.member_count.ensures.same) c.self.invariant

@@ -1,8 +1,8 @@
-use Rattle.std.proofs.Common.{arith, rules, ◌≡◌, ℤ, List, length, true, Ok, Err, ap, sym, ◌∙◌, subst, to_z, of_z, w64, refl}
+use Rattle.std.proofs.Common.{arith, rules, ◌≡◌, ℤ, List, length, true, Ok, Err, ap, sym, ◌∙◌, subst, to_z, of_z, w64}
 use Rattle.ss_machine_world.proofs.Common.{AreSaid, ClassEntry, columns, destroyed, ending, gone, HasChanged, is_single, Layout, Seen, slice_get, Times, Whole}
 use Rattle.ss_machine_world.proofs.Leaving.{gone_ended, gone_not}
 use Rattle.ss_machine_world.proofs.Starting.{seen_of, seen_moved}
-use Rattle.ss_machine_world.proofs.Said.{said_still}
+use Rattle.ss_machine_world.proofs.Said.{said_of_layout, said_still}
 use Rattle.ss_machine_world.proofs.world.World.remove_entity.Goals as goal
 
 pub end_histories-requires : goal.end_histories-requires
@@ -53,7 +53,4 @@ invariant_of-self c =
     c.destroy.ensures.layout c.end_histories.ensures.same.2 c.self.invariant
 
 pub invariant_of-self-in-Err : goal.invariant_of-self-in-Err
-invariant_of-self-in-Err c =
-    let i = c.self.inside in let ss = i.timeline.histories.statistics in
-    said_still i.population.layout c.destroy.new.self.layout i.notices.items ss ss i.classes.items
-    c.destroy.ensures.layout refl c.self.invariant
+invariant_of-self-in-Err c = let i = c.self.inside in said_of_layout i.population.layout c.destroy.new.self.layout i.notices.items i.timeline.histories.statistics i.classes.items c.destroy.ensures.layout c.self.invariant

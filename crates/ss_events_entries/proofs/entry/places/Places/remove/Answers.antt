@@ -14,14 +14,8 @@ use Rattle.ss_events_entries.proofs.entry.places.Places.remove.Goals.{After-forg
 
 pub release-requires-clause-place : goal.release-requires-clause-place
 release-requires-clause-place c =
-    let n = c.self.inside.count in
-    let f = c.self.inside.free in
-    let xs = c.self.inside.slots.items in
-    let ws = c.self.inside.entries.items in
-    let ss = c.self.inside.nodes.items in
-    let d = c.self.inside.directory in
-    let k = c.args.at in
-    let h = c.self.invariant in
+    let n = c.self.inside.count in let f = c.self.inside.free in let xs = c.self.inside.slots.items in let ws = c.self.inside.entries.items in let ss = c.self.inside.nodes.items in
+    let d = c.self.inside.directory in let k = c.args.at in let h = c.self.invariant in
     let k_in : k < n = omega (arith, c.requires.within, ap (λ (l : HeadsAndFollowers). length l.heads) c.self.view_is, long_heads n xs ws ss (omega (arith, h.few))) in
     let x_is = read_head n f xs ws ss d h k k_in c.index-node.result.now c.index.result.now c.index-node.ensures c.index.ensures in
     let room = room_spare n f xs ws ss d h k k_in (λ none. c.if-next.true (ap (λ (x : Slot). x.next) x_is ∙ none)) in
@@ -29,28 +23,16 @@ release-requires-clause-place c =
 
 pub release-requires-clause-slot : goal.release-requires-clause-slot
 release-requires-clause-slot c =
-    let n = c.self.inside.count in
-    let f = c.self.inside.free in
-    let xs = c.self.inside.slots.items in
-    let ws = c.self.inside.entries.items in
-    let ss = c.self.inside.nodes.items in
-    let d = c.self.inside.directory in
-    let k = c.args.at in
-    let h = c.self.invariant in
+    let n = c.self.inside.count in let f = c.self.inside.free in let xs = c.self.inside.slots.items in let ws = c.self.inside.entries.items in let ss = c.self.inside.nodes.items in
+    let d = c.self.inside.directory in let k = c.args.at in let h = c.self.invariant in
     let k_in : k < n = omega (arith, c.requires.within, ap (λ (l : HeadsAndFollowers). length l.heads) c.self.view_is, long_heads n xs ws ss (omega (arith, h.few))) in
     let y_is = ap (λ (y : HeapNode). y.slot) (read_node n f xs ws ss d h k k_in c.index-node.result.now c.index-node.ensures) in
     omega (arith, y_is, out_slot n f xs ws ss d h k k_in, c.deref_mut-then-next-3.ensures.len, c.self.inside.slots.ok.0)
 
 pub clear-requires : goal.clear-requires
 clear-requires c = λ not_plain_there.
-    let n = c.self.inside.count in
-    let f = c.self.inside.free in
-    let xs = c.self.inside.slots.items in
-    let ws = c.self.inside.entries.items in
-    let ss = c.self.inside.nodes.items in
-    let d = c.self.inside.directory in
-    let k = c.args.at in
-    let h = c.self.invariant in
+    let n = c.self.inside.count in let f = c.self.inside.free in let xs = c.self.inside.slots.items in let ws = c.self.inside.entries.items in let ss = c.self.inside.nodes.items in
+    let d = c.self.inside.directory in let k = c.args.at in let h = c.self.invariant in
     let k_in : k < n = omega (arith, c.requires.within, ap (λ (l : HeadsAndFollowers). length l.heads) c.self.view_is, long_heads n xs ws ss (omega (arith, h.few))) in
     let y = c.index-node.result.now in
     omega (arith, node_whole n f xs ws ss d h k k_in y (read_node n f xs ws ss d h k k_in y c.index-node.ensures) not_plain_there, c.self.inside.entries.ok.0)
@@ -85,14 +67,8 @@ gone : (c : After-forget)
     (out c.self.inside.count c.self.inside.free c.self.inside.slots.items c.self.inside.entries.items c.self.inside.nodes.items c.self.inside.directory c.self.invariant c.args.at (k_in c))
     c.if-next.self-inside.count c.if-next.self-inside.free c.if-next.self-inside.slots.items c.if-next.self-inside.entries.items c.if-next.self-inside.nodes.items c.forget.new.self
 gone c =
-    let n = c.self.inside.count in
-    let f = c.self.inside.free in
-    let xs = c.self.inside.slots.items in
-    let ws = c.self.inside.entries.items in
-    let ss = c.self.inside.nodes.items in
-    let d = c.self.inside.directory in
-    let k = c.args.at in
-    let h = c.self.invariant in
+    let n = c.self.inside.count in let f = c.self.inside.free in let xs = c.self.inside.slots.items in let ws = c.self.inside.entries.items in let ss = c.self.inside.nodes.items in
+    let d = c.self.inside.directory in let k = c.args.at in let h = c.self.invariant in
     let old = seen n f xs ws ss d h k (k_in c) in
     let e = out n f xs ws ss d h k (k_in c) in
     let s_is = its_node c in
@@ -156,14 +132,8 @@ invariant_of-self c = (gone (goal.at.invariant_of-self c).After-forget).held
 pub returns-clause-removed : goal.returns-clause-removed
 returns-clause-removed c =
     let e = (goal.at.returns-clause-removed c).After-forget in
-    let n = c.self.inside.count in
-    let f = c.self.inside.free in
-    let xs = c.self.inside.slots.items in
-    let ws = c.self.inside.entries.items in
-    let ss = c.self.inside.nodes.items in
-    let d = c.self.inside.directory in
-    let k = c.args.at in
-    let h = c.self.invariant in
+    let n = c.self.inside.count in let f = c.self.inside.free in let xs = c.self.inside.slots.items in let ws = c.self.inside.entries.items in let ss = c.self.inside.nodes.items in
+    let d = c.self.inside.directory in let k = c.args.at in let h = c.self.invariant in
     let it = out n f xs ws ss d h k (k_in e) in
     let fits : to_z w64 (of_z w64 c.index-node.result.now.mark.time) ≡ c.index-node.result.now.mark.time = search rules in
     let time = fits ∙ ap (λ (y : HeapNode). y.mark.time) (its_node e) ∙ out_time n f xs ws ss d h k (k_in e) in

@@ -4,7 +4,8 @@ use Rattle.ss_events_entries.proofs.Lists.{written}
 use Rattle.ss_events_entries.proofs.HeadsAndFollowers.{follower}
 use Rattle.ss_events_entries.proofs.Released.{room_of_follower, freed, freed-long}
 use Rattle.ss_events_entries.proofs.Removed.{before_in, close, closed_long, left, left_long, held-left, heads-left, followers_left}
-use Rattle.ss_events_entries.proofs.Gone.{read_slot, no_follower_has, follower_has}
+use Rattle.ss_events_entries.proofs.Gone.{read_slot}
+use Rattle.ss_events_entries.proofs.Seen.{no_follower_has, follower_has}
 use Rattle.ss_events_entries.proofs.entry.places.Places.remove_follower.Goals as goal
 use Rattle.ss_events_entries.proofs.entry.places.Places.remove_follower.Goals.{After-forget}
 
