@@ -1,9 +1,11 @@
 //! The machine that runs.
 
-ghost use Rattle.std.specs.Prelude.{◌≡◌, ◌+◌, ◌-◌, ◌*◌, ◌^◌, ◌≤◌, min, length, IfOk, Ok, Some, None};
+ghost use Rattle.std.specs.Prelude.{◌≡◌, ◌+◌, ◌-◌, ◌*◌, ◌^◌, ◌≤◌, min, length, IfOk, IfSome, Ok, Some, None};
 ghost use Rattle.ss_base.specs.Failures.{HasRisen, HasRisenBy};
 ghost use Rattle.ss_input.specs.Blocks.{IsEndKnown};
 ghost use Rattle.ss_input.specs.Inputs.{source_block, source_missed, source_reader};
+ghost use Rattle.ss_world.specs.PendingList.{next};
+ghost use Rattle.ss_world.specs.Sets.{count_in};
 ghost use Rattle.ss_machine.specs.Situations.{IsSituated};
 ghost use Rattle.ss_machine.specs.Runs.{IsRunResult};
 ghost use Rattle.ss_machine.specs.Held.{IsFirst, answer_again, kept_after};
@@ -177,6 +179,51 @@ impl Machine {
         let Machine { code, state, .. } = self;
         code.release();
         release_state(state);
+    }
+
+    /// The code that it runs.
+    pub fn code(&self) -> &Code
+        ensures { result.now ≡ self.now.code }
+    {
+        &self.code
+    }
+
+    /// Where it is: before its first instruction, or at the one at which the last run rested.
+    pub fn here(&self) -> Here
+        ensures { result ≡ self.now.at.here }
+    {
+        Here {
+            place: self.place,
+            frame: self.frame,
+        }
+    }
+
+    /// What it works on, as the last run left it.
+    pub fn state(&self) -> &State
+        ensures { result.now ≡ self.now.at.state }
+    {
+        &self.state
+    }
+
+    /// N. of the set of an owner, 0 for THE SYSTEM. None where there is no such set or owner. Nothing changes.
+    pub fn member_count(&mut self, set: usize, owner: i64) -> Option<i64>
+        ensures value { IfSome result (λ count. count_in self.old.at.state.world.heap set owner ≡ Ok count) }
+        ensures same { self.new ≡ self.old }
+    {
+        let population = &mut self.state.world.population;
+        if set < population.layout().sets.len() {
+            population.member_count(set, owner).ok()
+        } else {
+            None
+        }
+    }
+
+    /// The time and the number of the notice that comes next, if one is pending. Nothing changes.
+    pub fn upcoming(&mut self) -> Option<(i64, i64)>
+        ensures next { result ≡ next self.old.at.state.world.pending }
+        ensures same { self.new ≡ self.old }
+    {
+        self.state.world.timeline.upcoming()
     }
 
     /// Why the last run stopped; None where a further run goes on.

@@ -4,7 +4,7 @@ ghost use Rattle.std.specs.Prelude.{◌≡◌, ℕ, ◌<◌, length, pos, IfOk, 
 ghost use Rattle.ss_base.specs.Arithmetic.{plus_of, minus_of};
 ghost use Rattle.ss_meaning.specs.Fitting.{living};
 ghost use Rattle.ss_records.specs.Kept.{IsPermanent};
-ghost use Rattle.ss_records.specs.State.{first_state, is_made, records_in, known_in, value_in, time_in, assigned, timed, created, created_all, destroyed, kind_of, modes_of, no_value, IsRefusalOf};
+ghost use Rattle.ss_records.specs.State.{first_state, is_made, living_records, records_in, known_in, value_in, time_in, assigned, timed, created, created_all, destroyed, kind_of, modes_of, no_value, IsRefusalOf};
 ghost use Rattle.ss_records.specs.Sets.{joiner, owner, first_in, last_in, count_in, next_in, previous_in, owner_of_member, AreMembersApart};
 ghost use Rattle.ss_records.specs.Attributes.{changed_number, IsAssigned, IsChanged};
 
@@ -49,6 +49,13 @@ impl Population {
         ensures { result.now ≡ self.now.layout }
     {
         self.heap.layout()
+    }
+
+    /// How many entities are living, permanent ones among them.
+    pub fn living_count(&self) -> u64
+        ensures { result ≡ living_records self.now }
+    {
+        self.heap.blocks() - 1
     }
 
     /// Remembers an entity by its creation number, so that it is found sooner. Nothing else changes.
