@@ -5,7 +5,7 @@ ghost use Rattle.ss_base.specs.Failures.{HasRisen, HasRisenBy};
 ghost use Rattle.ss_input.specs.Blocks.{IsEndKnown};
 ghost use Rattle.ss_input.specs.Inputs.{source_block};
 ghost use Rattle.ss_code.specs.Running.{Generated};
-ghost use Rattle.ss_machine.specs.Held.{answer_again, kept_after};
+ghost use Rattle.ss_machine.specs.Held.{HasMemberCount, answer_again, kept_after, upcoming_event};
 ghost use Rattle.ss_machine.specs.Runs.{IsRunResult};
 ghost use Rattle.ss_engine.specs.Accepting.{IsCompiledTo};
 ghost use Rattle.ss_engine.specs.Headline.{IsSimulated};
@@ -97,16 +97,18 @@ impl<R: FaultyRead, W: FaultyWrite> Session<R, W> {
         &self.machine
     }
 
-    /// N. of the set of an owner, 0 for THE SYSTEM. None where there is no such set or owner. Nothing changes.
+    /// How many members the set of an owner has, 0 for THE SYSTEM. None where there is no such set or owner. Nothing changes.
     pub fn member_count(&mut self, set: usize, owner: i64) -> Option<i64>
-        ensures { self.new ≡ self.old }
+        ensures count { HasMemberCount (session_machine self.old) set owner result }
+        ensures same { self.new ≡ self.old }
     {
         self.machine.member_count(set, owner)
     }
 
     /// The time and the number of the notice that comes next, if one is pending. Nothing changes.
     pub fn upcoming(&mut self) -> Option<(i64, i64)>
-        ensures { self.new ≡ self.old }
+        ensures next { result ≡ upcoming_event (session_machine self.old) }
+        ensures same { self.new ≡ self.old }
     {
         self.machine.upcoming()
     }

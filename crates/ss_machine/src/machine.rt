@@ -1,16 +1,15 @@
 //! The machine that runs.
 
-ghost use Rattle.std.specs.Prelude.{◌≡◌, ◌+◌, ◌-◌, ◌*◌, ◌^◌, ◌≤◌, min, length, IfOk, IfSome, Ok, Some, None};
+ghost use Rattle.std.specs.Prelude.{◌≡◌, ◌+◌, ◌-◌, ◌*◌, ◌^◌, ◌≤◌, min, length, IfOk, Ok, Some, None};
 ghost use Rattle.ss_base.specs.Failures.{HasRisen, HasRisenBy};
 ghost use Rattle.ss_input.specs.Blocks.{IsEndKnown};
 ghost use Rattle.ss_input.specs.Inputs.{source_block, source_missed, source_reader};
-ghost use Rattle.ss_world.specs.PendingList.{next};
-ghost use Rattle.ss_world.specs.Sets.{count_in};
 ghost use Rattle.ss_machine.specs.Situations.{IsSituated};
 ghost use Rattle.ss_machine.specs.Runs.{IsRunResult};
-ghost use Rattle.ss_machine.specs.Held.{IsFirst, answer_again, kept_after};
+ghost use Rattle.ss_machine.specs.Held.{HasMemberCount, IsFirst, answer_again, kept_after, upcoming_event};
 
 use crate::first::{first_place, first_state, release_state, stands_first};
+use crate::looking::{count_in_state, upcoming_in_state};
 use crate::running::run;
 use crate::showing::Buffers;
 use crate::stop::Stop;
@@ -205,25 +204,20 @@ impl Machine {
         &self.state
     }
 
-    /// N. of the set of an owner, 0 for THE SYSTEM. None where there is no such set or owner. Nothing changes.
+    /// How many members the set of an owner has, 0 for THE SYSTEM. None where there is no such set or owner. Nothing changes.
     pub fn member_count(&mut self, set: usize, owner: i64) -> Option<i64>
-        ensures value { IfSome result (λ count. count_in self.old.at.state.world.heap set owner ≡ Ok count) }
+        ensures count { HasMemberCount self.old set owner result }
         ensures same { self.new ≡ self.old }
     {
-        let population = &mut self.state.world.population;
-        if set < population.layout().sets.len() {
-            population.member_count(set, owner).ok()
-        } else {
-            None
-        }
+        count_in_state(&mut self.state, set, owner)
     }
 
     /// The time and the number of the notice that comes next, if one is pending. Nothing changes.
     pub fn upcoming(&mut self) -> Option<(i64, i64)>
-        ensures next { result ≡ next self.old.at.state.world.pending }
+        ensures next { result ≡ upcoming_event self.old }
         ensures same { self.new ≡ self.old }
     {
-        self.state.world.timeline.upcoming()
+        upcoming_in_state(&mut self.state)
     }
 
     /// Why the last run stopped; None where a further run goes on.

@@ -80,9 +80,9 @@ impl Timeline {
         self.pending.least().is_some()
     }
 
-    /// The time and the number of the notice that comes next, if one is pending. Nothing changes but the counts of work.
+    /// The time and the number of the notice that comes next, if one is pending. Nothing changes.
     pub fn upcoming(&mut self) -> Option<(i64, i64)>
-        ensures next { result ≡ next self.old.pending }
+        ensures next { result ≡ least_event self.old.pending }
         ensures same { self.new ≡ self.old }
     {
         self.pending.least()
