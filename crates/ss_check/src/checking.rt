@@ -9,7 +9,7 @@ ghost use Rattle.ss_names_scopes.specs.Locals.{locals_of};
 ghost use Rattle.ss_program.specs.Checking.{checked_program};
 ghost use Rattle.ss_program.specs.Nodes.{nodes};
 ghost use Rattle.ss_program.specs.View.{view_program as program_seen};
-ghost use Rattle.ss_tables.specs.Tables.{AreTablesOf};
+ghost use Rattle.ss_tables.specs.Tables.{AreTablesOf, IsReportedError};
 ghost use Rattle.ss_check.specs.Checking.{HasProgram, IsReportedBreach, refusal_of};
 
 use crate::program::resolve;
@@ -19,7 +19,7 @@ use ss_check_rules::{CheckError, judge};
 use ss_names::Names;
 use ss_names_scopes::Locals;
 use ss_program::checked::Checked;
-use ss_tables::Tables;
+use ss_tables::{TableError, Tables};
 use ss_tree::program::Program;
 use ss_tree::release::release_tree;
 use std::alloc::Global;
@@ -74,4 +74,27 @@ pub fn check(alloc: Global, program: Program, tables: Tables) -> Result<Checked,
     names.release();
     release_tree(program);
     result
+}
+
+/// The program with its names resolved, if it breaks no rule: its tables are made, and it is checked by them.
+///
+/// # Errors
+/// As [`Tables::of`] where it breaks a rule by what it declares, 51 to 60. Else the answer within is that of [`check`].
+pub fn check_tree(
+    alloc: Global,
+    program: Program,
+) -> Result<Result<Checked, CheckError>, TableError>
+    ensures misdeclared { IfErr result (λ e. IsReportedError e (declared_refusal (view_program_tree program))) }
+    ensures declared { IfOk result (λ r. declared_refusal (view_program_tree program) ≡ None) }
+    ensures checked { IfOk result (λ r. IfOk r (λ c. HasProgram (view_program_tree program) (checked_program c))) }
+    ensures nodes { IfOk result (λ r. IfOk r (λ c. nodes (program_seen (checked_program c)) ≤ tree_nodes (view_program_tree program))) }
+    ensures refused { IfOk result (λ r. IfErr r (λ e. IsReportedBreach e (refusal_of (view_program_tree program)))) }
+{
+    match Tables::of(alloc, &program) {
+        Ok(tables) => Ok(check(alloc, program, tables)),
+        Err(error) => {
+            release_tree(program);
+            Err(error)
+        }
+    }
 }

@@ -5,7 +5,7 @@ ghost use Rattle.ss_engine.specs.Refusals.{coded, table_refusal, lexed, parsed, 
 ghost use Rattle.ss_engine.specs.Accepting.{IsCompiledTo, IsRefusedWith};
 
 use crate::refusal::Refusal;
-use ss_check::{CheckError, check};
+use ss_check::{CheckError, check_tree};
 use ss_code::error::CodeError;
 use ss_code::generate;
 use ss_code::model::Model;
@@ -13,8 +13,7 @@ use ss_code_instructions::laws::laws_of_code;
 use ss_lex::{LexError, tokens};
 use ss_parse::{ParseError, parse};
 use ss_program::release::release_checked;
-use ss_tables::{TableError, Tables};
-use ss_tree::release::release_tree;
+use ss_tables_rules::TableError;
 use std::alloc::Global;
 
 impl From<LexError> for Refusal {
@@ -87,14 +86,8 @@ pub fn compile(alloc: Global, text: &[u8]) -> Result<Model, Refusal>
     laws_of_code();
     let tokens = tokens(alloc, text)?;
     let program = parse(alloc, &tokens)?;
-    let tables = match Tables::of(alloc, &program) {
-        Ok(tables) => tables,
-        Err(error) => {
-            release_tree(program);
-            return Err(Refusal::from(error));
-        }
-    };
-    let resolved = check(alloc, program, tables)?;
+    let outcome = check_tree(alloc, program)?;
+    let resolved = outcome?;
     let made = generate(alloc, &resolved);
     release_checked(resolved);
     let code = made?;

@@ -6,7 +6,7 @@ ghost use Rattle.ss_engine.specs.Refusals.{refusal_line, refusal_name, refusal_n
 use ss_check::CheckError;
 use ss_lex::LexError;
 use ss_parse::ParseError;
-use ss_tables::TableError;
+use ss_tables_rules::TableError;
 
 /// Why a text is refused, with the line in which that shows.
 #[derive(Clone, Copy, Debug, PartialEq, Eq)]

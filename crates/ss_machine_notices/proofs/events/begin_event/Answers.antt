@@ -1,5 +1,5 @@
 use Rattle.std.proofs.Common.{ℕ, rules, ◌≡◌, ◌+◌, ◌<◌, ℤ, List, Some, Ok, Err, length, refl, ap, sym, ◌∙◌, subst, to_z, of_z, w64, arith}
-use Rattle.ss_machine_notices.proofs.Common.{begun_event_at, cleared_long, Compiled, Core, HasReceived, Here, IfSome, is_single, IsNextEvent, IsOutOfMemory, IsUnbegun, Mode, modes_of, Notices, one, SectionEntry, Seen, slice_get, slice_get_read, small, State, TakeEvent}
+use Rattle.ss_machine_notices.proofs.Common.{begun_event_at, cleared_long, HasEntered, HasReceived, Here, IfSome, is_single, IsOutOfMemory, IsUnbegun, Mode, modes_of, Notices, one, SectionEntry, Seen, slice_get, slice_get_read, small, State, TakeEvent}
 use Rattle.ss_machine_notices.proofs.Beginning.{saved_within, receives_not}
 use Rattle.ss_machine_notices.proofs.Begun.{begun_class, begun_single, begun_rank, begun_said, begun_saved, begun_modes, begun_entry_within, begun_frame, frame_within}
 use Rattle.ss_machine_notices.proofs.Started.{entry_is, begins, begins_fault, unbegun_as}
@@ -21,21 +21,12 @@ offset_bounds-events-rank c =
     let within : c.rank-rank.result < length c.args.events.now = omega (arith, rank, begun_entry_within z.0 z.1 c.args.here c.args.state.now c.args.cell c.args.notice c.args.class z.3, ap length z.2) in
     search rules
 
--- the entry at the rank of the event is that of the code
-entry_at : (c : goal.After-index-events-rank) (w : Compiled) (core : Core) → c.args.events.now ≡ w.run.events → (n : IsNextEvent w core c.args.here c.args.state.now c.args.cell c.args.notice c.args.class) → slice_get w.run.events n.coming.ranked.rank ≡ Some c.index-events-rank.result
-entry_at c w core all n =
-    let es = c.args.events.now in let k = c.rank-rank.result in
-    let rank : k ≡ n.coming.ranked.rank = c.rank-rank.ensures n.coming.ranked n.place in
-    let within : k < length es = omega (arith, rank, begun_entry_within w core c.args.here c.args.state.now c.args.cell c.args.notice c.args.class n, ap length all) in
-    ap (slice_get w.run.events) (sym rank) ∙ ap (λ (l : List SectionEntry). slice_get l k) (sym all) ∙ slice_get_read es (length es) k c.index-events-rank.result refl within c.index-events-rank.is
-
--- and what it says, once the event was entered
-said_at : (c : goal.In-Ok) (w : Compiled) (core : Core) (n : IsNextEvent w core c.args.here c.args.state.now c.args.cell c.args.notice c.args.class) → slice_get c.enter.new.self.world.notices c.rank-rank.result ≡ Some n.coming.ranked.said
-said_at c w core n = ap (slice_get c.enter.new.self.world.notices) (c.rank-rank.ensures n.coming.ranked n.place) ∙ ap (λ (t : State). slice_get t.world.notices n.coming.ranked.rank) c.in-Ok.ensures.ok.is ∙ begun_said w core c.args.here c.args.state.now c.args.cell c.args.notice c.args.class n
-
 pub enter-requires-clause-sized : goal.enter-requires-clause-sized
 enter-requires-clause-sized c =
-    let z = c.requires in let d = c.index-events-rank.result in let at = entry_at (goal.at.enter-requires-clause-sized c).After-index-events-rank z.0 z.1 z.2 z.3 in
+    let z = c.requires in let es = c.args.events.now in let d = c.index-events-rank.result in let k = c.rank-rank.result in
+    let rank : k ≡ z.3.coming.ranked.rank = c.rank-rank.ensures z.3.coming.ranked z.3.place in
+    let within : k < length es = omega (arith, rank, begun_entry_within z.0 z.1 c.args.here c.args.state.now c.args.cell c.args.notice c.args.class z.3, ap length z.2) in
+    let at : slice_get z.0.run.events z.3.coming.ranked.rank ≡ Some d = ap (slice_get z.0.run.events) (sym rank) ∙ ap (λ (l : List SectionEntry). slice_get l k) (sym z.2) ∙ slice_get_read es (length es) k d refl within c.index-events-rank.is in
     (entry_is z.0 z.1 c.args.here c.args.state.now c.args.cell c.args.notice c.args.class z.3 d at).sized
 
 pub enter-requires-clause-small : goal.enter-requires-clause-small
@@ -46,23 +37,27 @@ enter-requires-clause-place c = let z = c.requires in let lt = small z.0 z.1 c.a
 
 pub unbegun-requires-clause-rank : goal.unbegun-requires-clause-rank
 unbegun-requires-clause-rank c =
-    let z = c.requires in let refused : IsOutOfMemory c.args.state.now c.enter.new.self = search rules in
+    let z = c.requires in
+    let refused : IsOutOfMemory c.args.state.now c.enter.new.self = search rules in
     let rank : c.rank-rank.result ≡ z.3.coming.ranked.rank = c.rank-rank.ensures z.3.coming.ranked z.3.place in
     omega (arith, rank, begun_rank z.0 z.1 c.args.here c.args.state.now c.args.cell c.args.notice c.args.class z.3, ap (λ (e : Seen). length e.notices) refused.world)
 
 pub unbegun-requires-clause-class : goal.unbegun-requires-clause-class
 unbegun-requires-clause-class c =
-    let z = c.requires in let refused : IsOutOfMemory c.args.state.now c.enter.new.self = search rules in
+    let z = c.requires in
+    let refused : IsOutOfMemory c.args.state.now c.enter.new.self = search rules in
     omega (arith, begun_class z.0 z.1 c.args.here c.args.state.now c.args.cell c.args.notice c.args.class z.3, ap (λ (e : Seen). length e.heap.layout.classes) refused.world)
 
 pub unbegun-requires-clause-single : goal.unbegun-requires-clause-single
 unbegun-requires-clause-single c =
-    let z = c.requires in let refused : IsOutOfMemory c.args.state.now c.enter.new.self = search rules in
+    let z = c.requires in
+    let refused : IsOutOfMemory c.args.state.now c.enter.new.self = search rules in
     ap (λ (e : Seen). is_single (slice_get e.heap.layout.classes c.args.class)) refused.world ∙ begun_single z.0 z.1 c.args.here c.args.state.now c.args.cell c.args.notice c.args.class z.3
 
 pub unbegun-requires-clause-saved : goal.unbegun-requires-clause-saved
 unbegun-requires-clause-saved c = λ said here.
-    let z = c.requires in let refused : IsOutOfMemory c.args.state.now c.enter.new.self = search rules in
+    let z = c.requires in
+    let refused : IsOutOfMemory c.args.state.now c.enter.new.self = search rules in
     let rank : c.rank-rank.result ≡ z.3.coming.ranked.rank = c.rank-rank.ensures z.3.coming.ranked z.3.place in
     let it : z.3.coming.ranked.said ≡ said = one (sym (begun_said z.0 z.1 c.args.here c.args.state.now c.args.cell c.args.notice c.args.class z.3) ∙ ap (λ (e : Seen). slice_get e.notices z.3.coming.ranked.rank) (sym refused.world) ∙ ap (slice_get c.enter.new.self.world.notices) (sym rank) ∙ here) in
     let low = subst (λ (m : Notices). IfSome m.saved (λ k. k < c.args.here.frame)) it (begun_saved z.0 z.1 c.args.here c.args.state.now c.args.cell c.args.notice c.args.class z.3) in
@@ -70,40 +65,46 @@ unbegun-requires-clause-saved c = λ said here.
 
 pub unbegun-requires-clause-ticks : goal.unbegun-requires-clause-ticks
 unbegun-requires-clause-ticks c =
-    let z = c.requires in let refused : IsOutOfMemory c.args.state.now c.enter.new.self = search rules in
+    let z = c.requires in
+    let refused : IsOutOfMemory c.args.state.now c.enter.new.self = search rules in
     omega (arith, z.3.left, refused.ticks, z.3.few)
 
 pub returns-in_default : goal.returns-in_default
 returns-in_default c = λ w core all n.
     let s = c.args.state.now in let x = c.args.notice in let class = c.args.class in let s1 = c.enter.new.self in let new = c.unbegun.new.state in
     let same : to_z w64 (of_z w64 x) ≡ x = search rules in
-    let d = c.index-events-rank.result in let k = c.rank-rank.result in
+    let es = c.args.events.now in let d = c.index-events-rank.result in let k = c.rank-rank.result in
     let refused : IsOutOfMemory s s1 = search rules in
     let rank : k ≡ n.coming.ranked.rank = c.rank-rank.ensures n.coming.ranked n.place in
-    let at = entry_at (goal.at.returns-in_default c).After-index-events-rank w core all n in
+    let within : k < length es = omega (arith, rank, begun_entry_within w core c.args.here s c.args.cell c.args.notice c.args.class n, ap length all) in
+    let at : slice_get w.run.events n.coming.ranked.rank ≡ Some d = ap (slice_get w.run.events) (sym rank) ∙ ap (λ (l : List SectionEntry). slice_get l k) (sym all) ∙ slice_get_read es (length es) k d refl within c.index-events-rank.is in
     let here : slice_get s1.world.notices k ≡ Some n.coming.ranked.said = ap (slice_get s1.world.notices) rank ∙ ap (λ (e : Seen). slice_get e.notices n.coming.ranked.rank) refused.world ∙ begun_said w core c.args.here s c.args.cell c.args.notice c.args.class n in
     let u = subst (λ (y : ℤ). IsUnbegun n.coming.ranked.said class y s1 new) same (c.unbegun.ensures.state n.coming.ranked.said here) in
     unbegun_as w core c.args.here s c.args.cell c.args.notice c.args.class n d at s1 new (begun_event_at c.args.here c.args.cell c.unbegun.result) refused u (ap (begun_event_at c.args.here c.args.cell) c.unbegun.ensures.none)
 
 pub receive-requires-clause-rank : goal.receive-requires-clause-rank
 receive-requires-clause-rank c =
-    let z = c.requires in let enters = c.in-Ok.ensures.ok in
+    let z = c.requires in
+    let enters : HasEntered c.args.here c.args.state.now c.enter.new.self c.index-events-rank.result c.args.cell c.in-Ok.frame = search rules in
     let rank : c.rank-rank.result ≡ z.3.coming.ranked.rank = c.rank-rank.ensures z.3.coming.ranked z.3.place in
     omega (arith, rank, begun_rank z.0 z.1 c.args.here c.args.state.now c.args.cell c.args.notice c.args.class z.3, ap (λ (t : State). length t.world.notices) enters.is)
 
 pub receive-requires-clause-class : goal.receive-requires-clause-class
 receive-requires-clause-class c =
-    let z = c.requires in let enters = c.in-Ok.ensures.ok in
+    let z = c.requires in
+    let enters : HasEntered c.args.here c.args.state.now c.enter.new.self c.index-events-rank.result c.args.cell c.in-Ok.frame = search rules in
     omega (arith, begun_class z.0 z.1 c.args.here c.args.state.now c.args.cell c.args.notice c.args.class z.3, ap (λ (t : State). length t.world.heap.layout.classes) enters.is)
 
 pub receive-requires-clause-single : goal.receive-requires-clause-single
 receive-requires-clause-single c =
-    let z = c.requires in let enters = c.in-Ok.ensures.ok in
+    let z = c.requires in
+    let enters : HasEntered c.args.here c.args.state.now c.enter.new.self c.index-events-rank.result c.args.cell c.in-Ok.frame = search rules in
     ap (λ (t : State). is_single (slice_get t.world.heap.layout.classes c.args.class)) enters.is ∙ begun_single z.0 z.1 c.args.here c.args.state.now c.args.cell c.args.notice c.args.class z.3
 
 pub receive-requires-clause-saved : goal.receive-requires-clause-saved
 receive-requires-clause-saved c = λ said here.
-    let z = c.requires in let enters = c.in-Ok.ensures.ok in
+    let z = c.requires in
+    let enters : HasEntered c.args.here c.args.state.now c.enter.new.self c.index-events-rank.result c.args.cell c.in-Ok.frame = search rules in
     let rank : c.rank-rank.result ≡ z.3.coming.ranked.rank = c.rank-rank.ensures z.3.coming.ranked z.3.place in
     let it : z.3.coming.ranked.said ≡ said = one (sym (begun_said z.0 z.1 c.args.here c.args.state.now c.args.cell c.args.notice c.args.class z.3) ∙ ap (λ (t : State). slice_get t.world.notices z.3.coming.ranked.rank) (sym enters.is) ∙ ap (slice_get c.enter.new.self.world.notices) (sym rank) ∙ here) in
     let low = subst (λ (m : Notices). IfSome m.saved (λ k. k < c.args.here.frame)) it (begun_saved z.0 z.1 c.args.here c.args.state.now c.args.cell c.args.notice c.args.class z.3) in
@@ -111,29 +112,42 @@ receive-requires-clause-saved c = λ said here.
 
 pub receive-requires-clause-modes : goal.receive-requires-clause-modes
 receive-requires-clause-modes c = λ i m e.
-    let z = c.requires in let d = c.index-events-rank.result in let enters = c.in-Ok.ensures.ok in let at = entry_at (goal.at.receive-requires-clause-modes c).After-index-events-rank z.0 z.1 z.2 z.3 in
+    let z = c.requires in let es = c.args.events.now in let d = c.index-events-rank.result in let k = c.rank-rank.result in
+    let enters : HasEntered c.args.here c.args.state.now c.enter.new.self d c.args.cell c.in-Ok.frame = search rules in
+    let rank : k ≡ z.3.coming.ranked.rank = c.rank-rank.ensures z.3.coming.ranked z.3.place in
+    let within : k < length es = omega (arith, rank, begun_entry_within z.0 z.1 c.args.here c.args.state.now c.args.cell c.args.notice c.args.class z.3, ap length z.2) in
+    let at : slice_get z.0.run.events z.3.coming.ranked.rank ≡ Some d = ap (slice_get z.0.run.events) (sym rank) ∙ ap (λ (l : List SectionEntry). slice_get l k) (sym z.2) ∙ slice_get_read es (length es) k d refl within c.index-events-rank.is in
     let given = c.deref.ensures.value ∙ (entry_is z.0 z.1 c.args.here c.args.state.now c.args.cell c.args.notice c.args.class z.3 d at).given in
     ap (λ (t : State). slice_get (modes_of t.world.heap.layout c.args.class) i) enters.is ∙ begun_modes z.0 z.1 c.args.here c.args.state.now c.args.cell c.args.notice c.args.class z.3 i m (ap (λ (ms : List Mode). slice_get ms i) (sym given) ∙ e)
 
 pub receive-requires-clause-places : goal.receive-requires-clause-places
 receive-requires-clause-places c =
-    let z = c.requires in let d = c.index-events-rank.result in let enters = c.in-Ok.ensures.ok in let at = entry_at (goal.at.receive-requires-clause-places c).After-index-events-rank z.0 z.1 z.2 z.3 in
+    let z = c.requires in let es = c.args.events.now in let d = c.index-events-rank.result in let k = c.rank-rank.result in
+    let enters : HasEntered c.args.here c.args.state.now c.enter.new.self d c.args.cell c.in-Ok.frame = search rules in
+    let rank : k ≡ z.3.coming.ranked.rank = c.rank-rank.ensures z.3.coming.ranked z.3.place in
+    let within : k < length es = omega (arith, rank, begun_entry_within z.0 z.1 c.args.here c.args.state.now c.args.cell c.args.notice c.args.class z.3, ap length z.2) in
+    let at : slice_get z.0.run.events z.3.coming.ranked.rank ≡ Some d = ap (slice_get z.0.run.events) (sym rank) ∙ ap (λ (l : List SectionEntry). slice_get l k) (sym z.2) ∙ slice_get_read es (length es) k d refl within c.index-events-rank.is in
     let long = cleared_long enters.grown (c.in-Ok.frame + length d.given.items) d.others.items in
     omega (arith, enters.room, (entry_is z.0 z.1 c.args.here c.args.state.now c.args.cell c.args.notice c.args.class z.3 d at).sized.variables, ap length c.deref.ensures.value, long, ap (λ (t : State). length t.rows.numbers) enters.is)
 
 pub fault_of_event-requires : goal.fault_of_event-requires
 fault_of_event-requires c =
-    let z = c.requires in let enters = c.in-Ok.ensures.ok in
+    let z = c.requires in
+    let enters : HasEntered c.args.here c.args.state.now c.enter.new.self c.index-events-rank.result c.args.cell c.in-Ok.frame = search rules in
     let rank : c.rank-rank.result ≡ z.3.coming.ranked.rank = c.rank-rank.ensures z.3.coming.ranked z.3.place in
-    let here = said_at (goal.at.fault_of_event-requires c).In-Ok z.0 z.1 z.3 in
+    let here : slice_get c.enter.new.self.world.notices c.rank-rank.result ≡ Some z.3.coming.ranked.said = ap (slice_get c.enter.new.self.world.notices) rank ∙ ap (λ (t : State). slice_get t.world.notices z.3.coming.ranked.rank) enters.is ∙ begun_said z.0 z.1 c.args.here c.args.state.now c.args.cell c.args.notice c.args.class z.3 in
     let kept = receives_not z.3.coming.ranked.said c.args.class (to_z w64 (of_z w64 c.args.notice)) c.deref.result.now c.in-Ok.frame c.enter.new.self c.receive.new.state c.in-Err.kind (c.in-Err.ensures z.3.coming.ranked.said here) in
     omega (arith, rank, begun_rank z.0 z.1 c.args.here c.args.state.now c.args.cell c.args.notice c.args.class z.3, ap (λ (e : Seen). length e.notices) kept, ap (λ (t : State). length t.world.notices) enters.is)
 
 pub returns-in-Ok-receive : goal.returns-in-Ok-receive
 returns-in-Ok-receive c = λ w core all n.
     let s = c.args.state.now in let x = c.args.notice in let class = c.args.class in let s1 = c.enter.new.self in let frame = c.in-Ok.frame in
-    let d = c.index-events-rank.result in let enters = c.in-Ok.ensures.ok in
-    let at = entry_at (goal.at.returns-in-Ok-receive c).After-index-events-rank w core all n in let here = said_at (goal.at.returns-in-Ok-receive c).In-Ok w core n in
+    let es = c.args.events.now in let d = c.index-events-rank.result in let k = c.rank-rank.result in
+    let enters : HasEntered c.args.here s s1 d c.args.cell frame = search rules in
+    let rank : k ≡ n.coming.ranked.rank = c.rank-rank.ensures n.coming.ranked n.place in
+    let within : k < length es = omega (arith, rank, begun_entry_within w core c.args.here s c.args.cell c.args.notice c.args.class n, ap length all) in
+    let at : slice_get w.run.events n.coming.ranked.rank ≡ Some d = ap (slice_get w.run.events) (sym rank) ∙ ap (λ (l : List SectionEntry). slice_get l k) (sym all) ∙ slice_get_read es (length es) k d refl within c.index-events-rank.is in
+    let here : slice_get s1.world.notices k ≡ Some n.coming.ranked.said = ap (slice_get s1.world.notices) rank ∙ ap (λ (t : State). slice_get t.world.notices n.coming.ranked.rank) enters.is ∙ begun_said w core c.args.here s c.args.cell c.args.notice c.args.class n in
     let same : to_z w64 (of_z w64 x) ≡ x = search rules in
     let got =
     subst (λ (ms : List Mode). HasReceived n.coming.ranked.said class x ms frame s1 c.receive.new.state (Ok tt)) c.deref.ensures.value
@@ -143,17 +157,25 @@ returns-in-Ok-receive c = λ w core all n.
 pub returns-in-Err : goal.returns-in-Err
 returns-in-Err c = λ w core all n.
     let s = c.args.state.now in let x = c.args.notice in let class = c.args.class in let s1 = c.enter.new.self in let frame = c.in-Ok.frame in
-    let d = c.index-events-rank.result in let enters = c.in-Ok.ensures.ok in
-    let at = entry_at (goal.at.returns-in-Err c).After-index-events-rank w core all n in let here = said_at (goal.at.returns-in-Err c).In-Ok w core n in
+    let es = c.args.events.now in let d = c.index-events-rank.result in let k = c.rank-rank.result in
+    let enters : HasEntered c.args.here s s1 d c.args.cell frame = search rules in
+    let rank : k ≡ n.coming.ranked.rank = c.rank-rank.ensures n.coming.ranked n.place in
+    let within : k < length es = omega (arith, rank, begun_entry_within w core c.args.here s c.args.cell c.args.notice c.args.class n, ap length all) in
+    let at : slice_get w.run.events n.coming.ranked.rank ≡ Some d = ap (slice_get w.run.events) (sym rank) ∙ ap (λ (l : List SectionEntry). slice_get l k) (sym all) ∙ slice_get_read es (length es) k d refl within c.index-events-rank.is in
+    let here : slice_get s1.world.notices k ≡ Some n.coming.ranked.said = ap (slice_get s1.world.notices) rank ∙ ap (λ (t : State). slice_get t.world.notices n.coming.ranked.rank) enters.is ∙ begun_said w core c.args.here s c.args.cell c.args.notice c.args.class n in
     let same : to_z w64 (of_z w64 x) ≡ x = search rules in
     let got =
     subst (λ (ms : List Mode). HasReceived n.coming.ranked.said class x ms frame s1 c.receive.new.state (Err c.in-Err.kind)) c.deref.ensures.value
     (subst (λ (y : ℤ). HasReceived n.coming.ranked.said class y c.deref.result.now frame s1 c.receive.new.state (Err c.in-Err.kind)) same (c.in-Err.ensures n.coming.ranked.said here)) in
     let kept = receives_not n.coming.ranked.said class x d.given.items frame s1 c.receive.new.state c.in-Err.kind got in
-    let still : slice_get c.receive.new.state.world.notices c.rank-rank.result ≡ Some n.coming.ranked.said = ap (λ (e : Seen). slice_get e.notices c.rank-rank.result) kept ∙ here in
+    let still : slice_get c.receive.new.state.world.notices k ≡ Some n.coming.ranked.said = ap (λ (e : Seen). slice_get e.notices k) kept ∙ here in
     begins_fault w core c.args.here s c.args.cell c.args.notice c.args.class n d at s1 frame enters c.receive.new.state c.in-Err.kind got c.fault_of_event.new.state (begun_event_at c.args.here c.args.cell c.fault_of_event.result) (c.fault_of_event.ensures.state n.coming.ranked.said still) (ap (begun_event_at c.args.here c.args.cell) c.fault_of_event.ensures.none)
 
 pub receive-requires-clause-small : goal.receive-requires-clause-small
 receive-requires-clause-small c =
-    let z = c.requires in let d = c.index-events-rank.result in let enters = c.in-Ok.ensures.ok in let at = entry_at (goal.at.receive-requires-clause-small c).After-index-events-rank z.0 z.1 z.2 z.3 in
+    let z = c.requires in let es = c.args.events.now in let d = c.index-events-rank.result in let k = c.rank-rank.result in
+    let enters : HasEntered c.args.here c.args.state.now c.enter.new.self d c.args.cell c.in-Ok.frame = search rules in
+    let rank : k ≡ z.3.coming.ranked.rank = c.rank-rank.ensures z.3.coming.ranked z.3.place in
+    let within : k < length es = omega (arith, rank, begun_entry_within z.0 z.1 c.args.here c.args.state.now c.args.cell c.args.notice c.args.class z.3, ap length z.2) in
+    let at : slice_get z.0.run.events z.3.coming.ranked.rank ≡ Some d = ap (slice_get z.0.run.events) (sym rank) ∙ ap (λ (l : List SectionEntry). slice_get l k) (sym z.2) ∙ slice_get_read es (length es) k d refl within c.index-events-rank.is in
     omega (arith, enters.room, enters.small, (entry_is z.0 z.1 c.args.here c.args.state.now c.args.cell c.args.notice c.args.class z.3 d at).sized.variables, ap length c.deref.ensures.value)
