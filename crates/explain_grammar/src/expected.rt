@@ -99,20 +99,20 @@ fn value_name(has_name: bool, has_number: bool) -> &'static str {
 
 // Adds what candidates are called together, if they are there.
 fn add_groups(all: &mut Expected, candidates: &[Candidate]) -> Made<()> {
-    let has_relation = has_group(candidates, &Group::Relation);
     let has_name = candidates.contains(&Candidate::Name);
     let has_number = candidates.contains(&Candidate::Number);
+    let has_value = has_name || has_number;
     let has_statement = has_group(candidates, &Group::Statement);
+    let has_phrase = has_group(candidates, &Group::Phrase) && !has_statement;
+    let has_relation = has_group(candidates, &Group::Relation);
     let has_declaration = has_group(candidates, &Group::Declaration);
-    let has_phrase = has_group(candidates, &Group::Phrase);
     let has_picture = candidates.contains(&Candidate::Picture);
     let has_end = candidates.contains(&Candidate::End);
-    let value = value_name(has_name, has_number);
     add_if(all, has_relation, Group::Relation.name())?;
-    add_if(all, has_name || has_number, value)?;
+    add_if(all, has_value, value_name(has_name, has_number))?;
     add_if(all, has_statement, Group::Statement.name())?;
     add_if(all, has_declaration, Group::Declaration.name())?;
-    add_if(all, has_phrase && !has_statement, Group::Phrase.name())?;
+    add_if(all, has_phrase, Group::Phrase.name())?;
     add_if(all, has_picture, "a line of picture")?;
     add_if(all, has_end, "the end of the text")
 }
