@@ -147,8 +147,8 @@ fn pass(
         Word::Main | Word::Routine | Word::Event if begun.is_some() => opens.clear(),
         _ => {}
     }
-    if let Some(open) = begun {
-        opens.push(open)?;
+    if let Some(begun) = begun {
+        opens.push(begun)?;
     }
     Ok(())
 }
