@@ -1,13 +1,13 @@
 //! What may come at a place of a text, and what is open there.
 #![tactic(auto)]
 
+mod candidates;
 mod expected;
 mod forms;
 mod opens;
 
-pub use expected::{
-    Candidate, STATEMENT, candidates_after, expected_words, has_group, has_token, has_word,
-};
+pub use candidates::{Candidate, candidates_after, has_token, has_word};
+pub use expected::{Group, STATEMENT, expected_words, has_group};
 pub use forms::{
     WORDS, begins_statement, form_of, is_among, is_value_word, leader_before, spelling_of,
 };

@@ -46,9 +46,15 @@ impl Construct {
     }
 }
 
+/// The reserved word that the token before is.
+pub fn word_before(tokens: &[Token], index: usize) -> Option<Word> {
+    let before = index.checked_sub(1)?;
+    word_at(tokens, before)
+}
+
 /// What a section that begins with this token is; None where none does.
 pub fn head_at(tokens: &[Token], index: usize) -> Option<Construct> {
-    let after_end = index > 0 && word_at(tokens, index.saturating_sub(1)) == Some(Word::End);
+    let after_end = word_before(tokens, index) == Some(Word::End);
     if !is_first_of_line(tokens, index) && !after_end {
         return None;
     }
@@ -63,26 +69,27 @@ pub fn head_at(tokens: &[Token], index: usize) -> Option<Construct> {
     }
 }
 
+// As `head_at`, where the token may be in a preamble: there EVENT begins no section.
+fn section_at(tokens: &[Token], index: usize, in_preamble: bool) -> Option<Construct> {
+    let head = head_at(tokens, index)?;
+    if in_preamble && head == Construct::Event {
+        return None;
+    }
+    Some(head)
+}
+
 /// The index of the token with which the section begins that a place is in; 0 in a preamble.
 pub fn section_before(tokens: &[Token], at: usize) -> usize {
     let mut found = 0;
     let mut in_preamble = word_at(tokens, 0) == Some(Word::Preamble);
     for index in 0..at.min(tokens.len()) {
         in_preamble = in_preamble && word_at(tokens, index) != Some(Word::End);
-        let head = head_at(tokens, index);
-        if head.is_some() && !(in_preamble && head == Some(Construct::Event)) {
+        if section_at(tokens, index, in_preamble).is_some() {
             in_preamble = false;
             found = index;
         }
     }
     found
-}
-
-// What is open, and the first token of the head of a loop whose DO has not come.
-#[derive(Drop)]
-struct Walk {
-    opens: Vec<Open>,
-    head: Option<usize>,
 }
 
 // Whether what was opened last is such a construct.
@@ -100,54 +107,73 @@ fn close(opens: &mut Vec<Open>, construct: Construct) {
     }
 }
 
-// What begins with a token that is a reserved word: a section, an IF or a loop.
-fn opened(walk: &Walk, tokens: &[Token], index: usize, word: Word) -> Option<Open> {
-    let in_preamble = is_last(walk.opens.as_slice(), Construct::Preamble);
-    let (construct, token) = match (head_at(tokens, index), word) {
-        (Some(head), _) if !in_preamble || head != Construct::Event => (head, index),
-        (_, Word::Preamble) => (Construct::Preamble, index),
-        (_, Word::If) => (Construct::If, index),
-        (_, Word::Do) => (Construct::Loop, walk.head.unwrap_or(index)),
+// What begins with a token that is a reserved word: a section, an IF, or a loop, which begins with the first token of its head.
+fn begun_at(
+    opens: &[Open],
+    head: Option<usize>,
+    tokens: &[Token],
+    index: usize,
+    word: Word,
+) -> Option<Open> {
+    let in_preamble = is_last(opens, Construct::Preamble);
+    if let Some(construct) = section_at(tokens, index, in_preamble) {
+        return Some(Open {
+            construct,
+            token: index,
+        });
+    }
+    let (construct, token) = match word {
+        Word::Preamble => (Construct::Preamble, index),
+        Word::If => (Construct::If, index),
+        Word::Do => (Construct::Loop, head.unwrap_or(index)),
         _ => return None,
     };
     Some(Open { construct, token })
 }
 
-// Goes past a token that is a reserved word.
-fn pass(walk: &mut Walk, tokens: &[Token], index: usize, word: Word) -> Made<()> {
-    let opened = opened(walk, tokens, index, word);
+// Goes past a token that is a reserved word: takes off what it closes, and adds what begins with it.
+fn pass(
+    opens: &mut Vec<Open>,
+    head: Option<usize>,
+    tokens: &[Token],
+    index: usize,
+    word: Word,
+) -> Made<()> {
+    let begun = begun_at(opens.as_slice(), head, tokens, index, word);
     match word {
-        Word::Always => close(&mut walk.opens, Construct::If),
-        Word::Loop => close(&mut walk.opens, Construct::Loop),
-        Word::End => walk.opens.clear(),
-        Word::Main | Word::Routine | Word::Event if opened.is_some() => walk.opens.clear(),
+        Word::Always => close(opens, Construct::If),
+        Word::Loop => close(opens, Construct::Loop),
+        Word::End => opens.clear(),
+        Word::Main | Word::Routine | Word::Event if begun.is_some() => opens.clear(),
         _ => {}
     }
-    walk.head = match word {
-        Word::For => Some(index),
-        Word::While | Word::Until => walk.head.or(Some(index)),
-        Word::Do => None,
-        _ if begins_statement(word) => None,
-        _ => walk.head,
-    };
-    if let Some(open) = opened {
-        walk.opens.push(open)?;
+    if let Some(begun) = begun {
+        opens.push(begun)?;
     }
     Ok(())
 }
 
+// The first token of the head of a loop whose DO has not come, after a token that is a reserved word.
+fn head_after(head: Option<usize>, index: usize, word: Word) -> Option<usize> {
+    match word {
+        Word::For => Some(index),
+        Word::While | Word::Until => head.or(Some(index)),
+        Word::Do => None,
+        _ if begins_statement(word) => None,
+        _ => head,
+    }
+}
+
 /// The constructs that are open before a token, the outermost first, where the walk begins at another one.
 pub fn opens_at(alloc: Global, tokens: &[Token], from: usize, at: usize) -> Made<Vec<Open>> {
-    let mut walk = Walk {
-        opens: Vec::new(alloc),
-        head: None,
-    };
+    let mut opens = Vec::new(alloc);
+    let mut head = None;
     for index in from..at.min(tokens.len()) {
         if let Some(word) = word_at(tokens, index) {
-            pass(&mut walk, tokens, index, word)?;
+            pass(&mut opens, head, tokens, index, word)?;
+            head = head_after(head, index, word);
         }
     }
-    let Walk { opens, head: _ } = walk;
     Ok(opens)
 }
 

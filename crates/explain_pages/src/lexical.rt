@@ -3,7 +3,6 @@
 use crate::page::Part::{Bytes, Line, Words};
 use crate::page::{Made, Page};
 use crate::places::{Stretch, bytes_of, line_at, line_bytes, word_at};
-use ss_engine::Refusal;
 use ss_lex::{LexError, Word, tokens};
 use std::alloc::Global;
 
@@ -36,7 +35,7 @@ fn piece_length(rest: &[u8]) -> usize {
 // Whether a piece is refused by itself as the text is, or is the word that calls for pictures.
 fn is_wrong(alloc: Global, error: &LexError, piece: &[u8]) -> bool {
     match tokens(alloc, piece) {
-        Err(found) => Refusal::from(found).number() == Refusal::from(*error).number(),
+        Err(found) => words_of(&found).1 == words_of(error).1,
         Ok(all) => {
             let word = word_at(all.list(), 0);
             matches!(error, LexError::PictureCut(_))
@@ -85,7 +84,21 @@ fn foreign_words(bytes: &[u8]) -> &'static str {
     }
 }
 
-// What is wrong with the piece, after its bytes, and what helps.
+// The line of a refusal; 0 where it has none.
+fn refusal_line(error: &LexError) -> u32 {
+    match error {
+        LexError::TooLong(line)
+        | LexError::NotAscii(line)
+        | LexError::BadNumber(line)
+        | LexError::OpenText(line)
+        | LexError::AlphaTooLong(line)
+        | LexError::PictureCut(line)
+        | LexError::NameTooLong(line) => line.0,
+        LexError::Memory => 0,
+    }
+}
+
+// What is wrong with the piece, after its bytes, and what helps: each refusal has a cure of its own.
 fn words_of(error: &LexError) -> (&'static str, &'static str) {
     match error {
         LexError::TooLong(_) => ("", "Put data into a file for READ, and leave comments out."),
@@ -149,7 +162,7 @@ impl Page<'_> {
 
     /// Explains a text that has no tokens.
     pub fn explain_lexical(&mut self, error: &LexError) -> Made<()> {
-        let number = Refusal::from(*error).line();
+        let number = refusal_line(error);
         if number > 0 {
             self.wrong_line(error, number)?;
         }
