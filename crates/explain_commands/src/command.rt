@@ -29,6 +29,12 @@ fn flag<'a>(alloc: Global, name: &'a str, help: &'a str) -> Arg<'a> {
         .action(ArgAction::SetTrue)
 }
 
+// The ticks that the run is given.
+fn tick_count<'a>(alloc: Global) -> Arg<'a> {
+    let help = "Run the model with at most so many ticks, 1,000,000 where it is run without this";
+    named(alloc, "ticks", "N", help).value_parser(ValueParser::unsigned(0, u64::MAX))
+}
+
 // The command line with none of its words.
 fn bare_line<'a>(alloc: Global) -> Command<'a> {
     Command::new(alloc, "explain")
@@ -44,12 +50,10 @@ fn bare_line<'a>(alloc: Global) -> Command<'a> {
 // MODEL [--input FILE] [--ticks N]
 fn run_line<'a>(alloc: Global) -> Result<Command<'a>, AllocError> {
     let input = "Run the model with the input data in this file";
-    let ticks = "Run the model with at most so many ticks, 1,000,000 where it is run without this";
-    let count = ValueParser::unsigned(0, u64::MAX);
     bare_line(alloc)
         .arg(model_file(alloc))?
         .arg(named(alloc, "input", "FILE", input))?
-        .arg(named(alloc, "ticks", "N", ticks).value_parser(count))
+        .arg(tick_count(alloc))
 }
 
 /// The whole command line. The error comes where memory was refused.
