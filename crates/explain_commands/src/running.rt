@@ -164,12 +164,7 @@ fn show<R: FaultyRead, W: FaultyWrite, L: Write, P: Progress>(
     };
     let stop = match run_shown(guide, session, shown, watches, lines, progress) {
         Ok(stop) => stop,
-        Err(error) => {
-            if error.kind() == ErrorKind::OutOfMemory {
-                return Err(ProgramFailure::Memory);
-            }
-            return Err(ProgramFailure::Report);
-        }
+        Err(error) => return Err(unshown(error.kind())),
     };
     match ending_of(guide, session, stop) {
         Ok(page) => {
@@ -177,5 +172,14 @@ fn show<R: FaultyRead, W: FaultyWrite, L: Write, P: Progress>(
             Ok((stop, text))
         }
         Err(_) => Err(ProgramFailure::Memory),
+    }
+}
+
+// What stops the program where lines can't be shown.
+fn unshown(kind: ErrorKind) -> ProgramFailure {
+    if kind == ErrorKind::OutOfMemory {
+        ProgramFailure::Memory
+    } else {
+        ProgramFailure::Report
     }
 }
