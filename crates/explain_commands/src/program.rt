@@ -75,7 +75,7 @@ fn obey<F: FileStore, O: Write, E: Write, P: Progress>(
         return Ending::Ended(check(alloc, text.as_slice(), &mut outputs.output));
     };
     match data_of(alloc, files, run.input) {
-        Ok(data) => run_text(alloc, text.as_slice(), data, run, outputs),
+        Ok(input) => run_text(alloc, text.as_slice(), input, run, outputs),
         Err(failure) => Ending::Ended(Err(failure)),
     }
 }

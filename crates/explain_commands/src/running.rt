@@ -18,21 +18,21 @@ use std::io::{ErrorKind, Read, Write};
 #[derive(Drop)]
 struct Beginning<R> {
     model: Model,
-    data: R,
+    input: R,
     watches: Vec<Watch>,
 }
 
-/// Runs a text with this data; explains it where it is refused.
+/// Runs a text with this input; explains it where it is refused.
 pub fn run_text<R: Read + Drop, O: Write, E: Write, P: Progress>(
     alloc: Global,
     text: &[u8],
-    data: R,
+    input: R,
     run: &RunOrder<'_>,
     outputs: &mut Outputs<O, E, P>,
 ) -> Ending {
     match compile_with_names(alloc, text) {
         Ok((model, guide)) => {
-            let ending = run_model(&guide, run, model, data, outputs);
+            let ending = run_model(&guide, run, model, input, outputs);
             drop(guide);
             ending
         }
@@ -41,19 +41,19 @@ pub fn run_text<R: Read + Drop, O: Write, E: Write, P: Progress>(
     }
 }
 
-// Runs a model with this data, if all names can be watched.
+// Runs a model with this input, if all names can be watched.
 fn run_model<R: Read + Drop, O: Write, E: Write, P: Progress>(
     guide: &Guide<'_>,
     run: &RunOrder<'_>,
     model: Model,
-    data: R,
+    input: R,
     outputs: &mut Outputs<O, E, P>,
 ) -> Ending {
     match watches_in(guide, run, &mut outputs.errors) {
         Ok(watches) => {
             let beginning = Beginning {
                 model,
-                data,
+                input,
                 watches,
             };
             Ending::Ended(run_from(guide, run, beginning, outputs))
@@ -127,10 +127,10 @@ fn run_session<R: Read + Drop, W: Write + Drop, L: Write, P: Progress>(
 ) -> Result<Outcome, ProgramFailure> {
     let Beginning {
         model,
-        data,
+        input,
         mut watches,
     } = beginning;
-    let reader = Kept::new(Counted::new(data));
+    let reader = Kept::new(Counted::new(input));
     let mut session = match Session::start(guide.alloc, model, reader, Counted::new(report)) {
         Ok(session) => session,
         Err(_) => return Ok(Outcome::Stopped(Stop::Memory, 0)),
