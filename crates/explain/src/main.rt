@@ -2,7 +2,7 @@
 //! happens in it, tick by tick.
 #![tactic(auto)]
 
-use explain_commands::{Disk, Streams, perform, without_words, words};
+use explain_commands::{Disk, Outputs, perform, without_words, words};
 use std::process::ExitCode;
 
 fn main(rt: HostRuntime) -> ExitCode {
@@ -10,17 +10,10 @@ fn main(rt: HostRuntime) -> ExitCode {
         Ok(words) => words,
         Err(kind) => return ExitCode::from(without_words(&rt, kind)),
     };
-    let streams = Streams {
-        input: rt.reader(),
+    let outputs = Outputs {
         output: rt.stdout(),
         errors: rt.stderr(),
+        progress: rt.stderr(),
     };
-    ExitCode::from(perform(
-        rt.alloc(),
-        &words,
-        &Disk::new(&rt),
-        &rt,
-        rt.stderr(),
-        streams,
-    ))
+    ExitCode::from(perform(rt.alloc(), &words, &Disk::new(&rt), &rt, outputs))
 }

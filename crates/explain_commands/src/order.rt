@@ -1,20 +1,28 @@
-//! The command line as it is declared to `clap`, and what its words ask for.
+//! What the words of a command line ask for.
 
-use clap::builder::ValueParser;
+use crate::command::whole_command;
+use clap::ArgMatches;
 use clap::error::ErrorKind;
-use clap::{Arg, ArgAction, ArgMatches, Command};
 use simscript_order::Misuse;
-use std::alloc::{AllocError, Global};
+use std::alloc::Global;
 use std::convert::AsStr;
 
-/// What a run is to show.
+/// The ticks of a run whose words name none.
+const TICKS: u64 = 1_000_000;
+
+/// A run that is asked for, and what is to be shown of it.
 #[derive(Clone, Copy, Debug, PartialEq, Eq)]
 pub struct RunOrder<'a> {
+    /// The file with the input data.
     pub input: Option<&'a str>,
     pub ticks: u64,
+    /// Whether there is a line for each tick.
     pub trace: bool,
+    /// Whether there is a line for each event.
     pub events: bool,
+    /// The names that are watched, with commas between.
     pub watch: Option<&'a str>,
+    /// Whether it is said each second how far the run is.
     pub progress: bool,
 }
 
@@ -25,13 +33,17 @@ pub struct Order<'a> {
     pub run: Option<RunOrder<'a>>,
 }
 
-/// The ticks of a run whose words name none.
-const TICKS: u64 = 1_000_000;
+impl RunOrder<'_> {
+    /// Whether lines are shown of the run, in place of its report.
+    pub fn has_lines(&self) -> bool {
+        self.trace || self.events || self.watch.is_some()
+    }
+}
 
-// The run that the matches ask for.
-fn run_of<'a>(matches: &ArgMatches<'a>) -> Option<RunOrder<'a>> {
+// The run that the matches ask for, if there is a word of one.
+fn run_order<'a>(matches: &ArgMatches<'a>) -> Option<RunOrder<'a>> {
     let ticks = matches.get_one::<u64>("ticks");
-    let order = RunOrder {
+    let run = RunOrder {
         input: matches.get_str("input"),
         ticks: ticks.unwrap_or(TICKS),
         trace: matches.get_flag("trace"),
@@ -39,13 +51,22 @@ fn run_of<'a>(matches: &ArgMatches<'a>) -> Option<RunOrder<'a>> {
         watch: matches.get_str("watch"),
         progress: matches.get_flag("progress"),
     };
-    let is_asked = order.input.is_some()
-        || ticks.is_some()
-        || order.trace
-        || order.events
-        || order.watch.is_some()
-        || order.progress;
-    if is_asked { Some(order) } else { None }
+    if run.has_lines() || run.progress || run.input.is_some() || ticks.is_some() {
+        Some(run)
+    } else {
+        None
+    }
+}
+
+// The order that the matches ask for.
+fn matched_order<'a>(matches: &ArgMatches<'a>) -> Option<Order<'a>> {
+    match matches.get_str("MODEL") {
+        Some(model) => Some(Order {
+            model,
+            run: run_order(matches),
+        }),
+        None => None,
+    }
 }
 
 impl<'a> Order<'a> {
@@ -56,71 +77,13 @@ impl<'a> Order<'a> {
             return Err(Misuse::Memory);
         };
         match command.try_get_matches_from(words) {
-            Ok(matches) => match matches.get_str("MODEL") {
-                Some(model) => Ok(Order {
-                    model,
-                    run: run_of(&matches),
-                }),
-                None => Err(Misuse::Incomplete),
-            },
-            Err(error) => match error.kind() {
-                ErrorKind::OutOfMemory => Err(Misuse::Memory),
-                _ => Err(Misuse::Words(error)),
-            },
+            Ok(matches) => matched_order(&matches).ok_or(Misuse::Incomplete),
+            Err(error) => {
+                if error.kind() == ErrorKind::OutOfMemory {
+                    return Err(Misuse::Memory);
+                }
+                Err(Misuse::Words(error))
+            }
         }
     }
-}
-
-// An argument with a value after its name.
-fn named<'a>(alloc: Global, name: &'a str, value: &'a str, help: &'a str) -> Arg<'a> {
-    Arg::new(alloc, name)
-        .long(name)
-        .value_name(value)
-        .help(help)
-        .action(ArgAction::Set)
-}
-
-// A word that is there or not.
-fn flag<'a>(alloc: Global, name: &'a str, help: &'a str) -> Arg<'a> {
-    Arg::new(alloc, name)
-        .long(name)
-        .help(help)
-        .action(ArgAction::SetTrue)
-}
-
-// The command line with its file.
-fn line_with_file<'a>(alloc: Global) -> Result<Command<'a>, AllocError> {
-    Command::new(alloc, "explain")
-        .version("1.0.0")
-        .about(
-            "Explains a model: why its text is refused and what helps, what looks odd in it, why its run stops, and what happens in it, tick by tick",
-        )
-        .after_help(
-            "Examples:\n  explain shop.sim\n  explain shop.sim --input shop.data\n  explain shop.sim --input shop.data --events\n  explain shop.sim --input shop.data --watch N.LINEUP,BUSY\n\nWhat is explained goes to the standard output. So does the report of a run; with --trace, --events or --watch it goes to the standard error.\n\nThe exit status is that of simscript: 0 where all is right, 1 for a refused text, 2 for a wrong command line, 3 for a fault, 4 where the ticks were used up, 5 where memory ran out and 6 where a file, the input or the output failed.",
-        )
-        .arg(
-            Arg::new(alloc, "MODEL")
-                .help("The file with the model's text, /dev/stdin for a pipe")
-                .action(ArgAction::Set)
-                .required(true),
-        )
-}
-
-// The whole command line. The error comes where memory was refused.
-fn whole_command<'a>(alloc: Global) -> Result<Command<'a>, AllocError> {
-    let input = "Run the model with the input data in this file";
-    let ticks = "Run the model with at most so many ticks, 1,000,000 where it is run without this";
-    let trace = "Run the model, and write a line for each tick";
-    let events = "Run the model, and write a line for each event";
-    let watch =
-        "Run the model, and write a line `time,name,value` whenever one of these has another value after a tick: variables, N. of sets, statistics, attributes as LOAD(2), with commas between";
-    let progress = "Run the model, and say each second on the standard error how far it is";
-    let count = ValueParser::unsigned(0, u64::MAX);
-    line_with_file(alloc)?
-        .arg(named(alloc, "input", "FILE", input))?
-        .arg(named(alloc, "ticks", "N", ticks).value_parser(count))?
-        .arg(flag(alloc, "trace", trace))?
-        .arg(flag(alloc, "events", events))?
-        .arg(named(alloc, "watch", "NAMES", watch))?
-        .arg(flag(alloc, "progress", progress))
 }

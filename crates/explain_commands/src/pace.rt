@@ -1,5 +1,6 @@
 //! How far a run is, said on a terminal each second.
 
+use crate::order::Order;
 use explain_runs::Progress;
 use explain_texts::Part::{Count, Whole};
 use explain_texts::{Made, Page};
@@ -10,39 +11,42 @@ use std::time::Instant;
 
 /// Says once a second how far a run is, on one line that is written anew.
 #[derive(Drop)]
-pub struct Pace<'a, C, E> {
-    clock: &'a C,
-    errors: E,
+pub struct Pace<'a, C, T> {
     alloc: Global,
+    clock: &'a C,
+    terminal: T,
     ticks: u64,
     /// When it began; None where nothing is to be said.
     start: Option<Instant>,
     seconds: u64,
 }
 
-impl<'a, C: Clock, E: Write> Pace<'a, C, E> {
-    /// That of a run with so many ticks, where it is on.
-    pub fn new(alloc: Global, clock: &'a C, errors: E, ticks: u64, is_on: bool) -> Pace<'a, C, E> {
-        let start = match Instant::now(clock) {
-            Ok(now) if is_on => Some(now),
-            _ => None,
+impl<'a, C: Clock, T: Write> Pace<'a, C, T> {
+    /// That of a run that begins now, if the order asks for it.
+    pub fn new(alloc: Global, clock: &'a C, terminal: T, order: &Order<'_>) -> Pace<'a, C, T> {
+        let (ticks, start) = match &order.run {
+            Some(run) if run.progress => (run.ticks, Instant::now(clock).ok()),
+            _ => (0, None),
         };
         Pace {
-            clock,
-            errors,
             alloc,
+            clock,
+            terminal,
             ticks,
             start,
             seconds: 0,
         }
     }
 
+    // The whole seconds since it began; 0 where the clock can't be read.
     fn passed(&self) -> u64 {
         let Some(start) = &self.start else {
             return 0;
         };
-        let passed = start.elapsed(self.clock);
-        passed.map_or(0, |passed| passed.as_secs())
+        match start.elapsed(self.clock) {
+            Ok(passed) => passed.as_secs(),
+            Err(_) => 0,
+        }
     }
 
     // The line that says how far the run is.
@@ -51,7 +55,7 @@ impl<'a, C: Clock, E: Write> Pace<'a, C, E> {
             Count(used),
             Whole(time),
             Count(living),
-            Count(used / self.seconds.max(1)),
+            Count(used.checked_div(self.seconds).unwrap_or(used)),
             Count(self.ticks.saturating_sub(used)),
         ];
         let words = "\r{} ticks, time {}, {} entities alive, {} ticks a second, {} ticks left   ";
@@ -61,12 +65,12 @@ impl<'a, C: Clock, E: Write> Pace<'a, C, E> {
     /// Ends the line, where something was said.
     pub fn end(&mut self) {
         if self.seconds > 0 {
-            let _ = self.errors.write_all(b"\n");
+            let _ = self.terminal.write_all(b"\n");
         }
     }
 }
 
-impl<C: Clock, E: Write> Progress for Pace<'_, C, E> {
+impl<C: Clock, T: Write> Progress for Pace<'_, C, T> {
     fn report(&mut self, used: u64, time: i64, living: u64) {
         let passed = self.passed();
         if passed <= self.seconds {
@@ -74,7 +78,7 @@ impl<C: Clock, E: Write> Progress for Pace<'_, C, E> {
         }
         self.seconds = passed;
         if let Ok(page) = self.line(used, time, living) {
-            let _ = self.errors.write_all(page.bytes());
+            let _ = self.terminal.write_all(page.bytes());
         }
     }
 }
