@@ -7,7 +7,7 @@ use Rattle.ss_base.specs.declared.value.Value.{Value}
 use Rattle.ss_base.specs.declared.value.Value.TheVariants.{Whole}
 use Rattle.ss_base.specs.declared.layout.RankKey.{RankKey}
 use Rattle.ss_base.specs.declared.layout.Discipline.{Discipline}
-use Rattle.ss_base.specs.declared.layout.Discipline.TheVariants.{Fifo, Lifo, Ranked}
+use Rattle.ss_base.specs.declared.layout.Discipline.TheVariants.{Ranked}
 use Rattle.ss_base.specs.declared.layout.Owner.{Owner}
 use Rattle.ss_base.specs.declared.layout.Owner.TheVariants.{System, Class}
 use Rattle.ss_base.specs.declared.layout.SetLayout.{SetLayout}
@@ -99,9 +99,8 @@ is_field l class key = nat_lt key.field (length (modes_of l class))
 
 -- whether the keys of a discipline are attributes of the members of a set
 abbrev pub is_fit : Layout → ℕ → Discipline → Bool
-is_fit l set Fifo = true
-is_fit l set Lifo = true
 is_fit l set (Ranked keys) = list_all (is_field l (member_class l set)) keys
+is_fit l set _ = true
 
 -- where a member is filed: by the discipline of the set, first, last, directly before a member, or directly after it
 pub data Filing : Type 0 where
