@@ -2,9 +2,10 @@
 use Rattle.std.proofs.Common.{◌≡◌, ℕ, ◌+◌, ◌<◌, Bool, true, false, List, [], ◌∷◌, ◌++◌, length, slice_get, Some, Ok, Err, refl, sym, ap, subst, ◌∙◌, append_assoc, append-nil}
 use Rattle.std.specs.Prelude.{ℤ, if◌then◌else◌, Result, MatchResult}
 use denote.RawPtr.{Ptr}
+use Rattle.ss_records_entities.specs.Parts.{before_end, after_end}
 use Rattle.ss_records_entities.proofs.Common.{and_then, AreAllDistinct, AreNeighbours, CanJoin, contains, contains_in, entity_at, EntityBlock, FaultKind, get_there, HasLink, HasNeighbours, head0, is_filed, IsInList, IsInPlace, IsKept, IsNotInList, IsOwnerBlock, last_or, link, member_base, members_of, number, owner_base, places, pred_from, Records, SetLayout, State, succ, word_at}
 use Rattle.ss_records_words.proofs.Splice.{distinct_less, succ_cut, cut, pred_cut, last_splice}
-use Rattle.ss_world.specs.Sets.{joiner, less, owner, put_before, put_in, with_list_of, put_after, put_beside, filed_before, filed_after, taken_out}
+use Rattle.ss_world.specs.Sets.{joiner, less, owner, put_before, put_in, with_list_of, put_after, put_beside, filed_first, filed_last, filed_before, filed_after, taken_out}
 use Rattle.ss_base.specs.declared.fault.FaultKind.TheVariants.{FiledTwice, NotFiled}
 use Rattle.ss_records_entities.proofs.Listed.{put_before_cut, put_after_cut, less_cut, not_in_front}
 use Rattle.ss_records_entities.proofs.Leading.{To, leads, at_target, its_number, its_members, positive, first_to, last_to, next_to, prev_to}
@@ -29,13 +30,12 @@ module _ (r : Records) (K : IsKept r) (s : ℕ) (inside : s < length r.layout.se
 
   -- at the ends of a set
   module _ (e : EntityBlock) (h : IsOwnerBlock r s e) (b : ℕ) (base : (u : SetLayout) → slice_get r.layout.sets s ≡ Some u → b ≡ owner_base r.layout s u) (q : EntityBlock) where
-    pub at_first : word_at r.blocks.cells e.place.at b ≡ link q.place.at → word_at r.blocks.cells q.place.at 1 ≡ number q.number → AreNeighbours r s e.number end q [] (f e.number)
-    at_first w v =
+    pub at_end : (last : Bool) → word_at r.blocks.cells e.place.at (if last then b + 1 else b) ≡ link q.place.at → word_at r.blocks.cells q.place.at 1 ≡ number q.number
+        → AreNeighbours r s e.number (if last then q else end) (if last then end else q) (before_end last (f e.number)) (after_end last (f e.number))
+    at_end false w v =
         let l = lies_there e.place.at b _ (first_to r.layout r.blocks.cells r.system.at (places r) r.notes.lists K s inside e.place.at e.number h.lies h.may b base) q w v in
         record { list = refl; before = refl; last = refl; after = l.0; first = l.1 }
-
-    pub at_last : word_at r.blocks.cells e.place.at (b + 1) ≡ link q.place.at → word_at r.blocks.cells q.place.at 1 ≡ number q.number → AreNeighbours r s e.number q end (f e.number) []
-    at_last w v =
+    at_end true w v =
         let l = lies_there e.place.at (b + 1) _ (last_to r.layout r.blocks.cells r.system.at (places r) r.notes.lists K s inside e.place.at e.number h.lies h.may b base) q w v in
         record { list = sym (append-nil (f e.number)); before = l.0; last = l.1; after = refl; first = refl }
 
@@ -126,17 +126,24 @@ module _ (st : State) (s : ℕ) (o x : ℤ) (m n : ℕ) (jn : joiner st s x ≡ 
   at_both : (g : ℕ → ℕ → Result State FaultKind) → and_then (joiner st s x) (λ i. and_then (owner st s o) (g i)) ≡ g n m
   at_both g = ap (λ z. and_then z (λ i. and_then (owner st s o) (g i))) jn ∙ ap (λ z. and_then z (g n)) om
 
-  pub put_twice : (put : ℕ → List ℕ → List ℕ) → is_filed st.lists s n ≡ true → and_then (joiner st s x) (λ i. and_then (owner st s o) (λ k. put_in put st s k i)) ≡ Err FiledTwice
+  put_twice : (put : ℕ → List ℕ → List ℕ) → is_filed st.lists s n ≡ true → and_then (joiner st s x) (λ i. and_then (owner st s o) (λ k. put_in put st s k i)) ≡ Err FiledTwice
   put_twice put h = at_both (λ i k. put_in put st s k i) ∙ rw h refl
 
-  pub put_done : (put : ℕ → List ℕ → List ℕ) (new : State) → is_filed st.lists s n ≡ false → new ≡ with_list_of st s m (put n (members_of st.lists s m)) → and_then (joiner st s x) (λ i. and_then (owner st s o) (λ k. put_in put st s k i)) ≡ Ok new
+  put_done : (put : ℕ → List ℕ → List ℕ) (new : State) → is_filed st.lists s n ≡ false → new ≡ with_list_of st s m (put n (members_of st.lists s m)) → and_then (joiner st s x) (λ i. and_then (owner st s o) (λ k. put_in put st s k i)) ≡ Ok new
   put_done put new h e = at_both (λ i k. put_in put st s k i) ∙ rw h (ap Ok (sym e))
 
-  pub put_tried : (put : ℕ → List ℕ → List ℕ) (new : State) (r : Result (Unit {0}) FaultKind)
+  put_tried : (put : ℕ → List ℕ → List ℕ) (new : State) (r : Result (Unit {0}) FaultKind)
       → MatchResult r (λ _. (is_filed st.lists s n ≡ false) × (new ≡ with_list_of st s m (put n (members_of st.lists s m)))) (λ e. (e ≡ FiledTwice) × (is_filed st.lists s n ≡ true) × (new ≡ st))
       → MatchResult r (λ _. and_then (joiner st s x) (λ i. and_then (owner st s o) (λ k. put_in put st s k i)) ≡ Ok new) (λ e. (and_then (joiner st s x) (λ i. and_then (owner st s o) (λ k. put_in put st s k i)) ≡ Err e) × (new ≡ st))
   put_tried put new (Ok u) h = put_done put new h.0 h.1
   put_tried put new (Err e) h = (put_twice put h.1 ∙ ap Err (sym h.0), h.2)
+
+  -- at an end
+  pub end_tried : (last : Bool) (new : State) (r : Result (Unit {0}) FaultKind)
+      → MatchResult r (λ _. (is_filed st.lists s n ≡ false) × (new ≡ with_list_of st s m (before_end last (members_of st.lists s m) ++ n ∷ after_end last (members_of st.lists s m)))) (λ e. (e ≡ FiledTwice) × (is_filed st.lists s n ≡ true) × (new ≡ st))
+      → MatchResult r (λ _. (if last then filed_last else filed_first) st s o x ≡ Ok new) (λ e. ((if last then filed_last else filed_first) st s o x ≡ Err e) × (new ≡ st))
+  end_tried true new r h = put_tried (λ y l. l ++ y ∷ []) new r h
+  end_tried false new r h = put_tried (λ y l. y ∷ l) new r h
 
   pub not_out : contains (members_of st.lists s m) n ≡ false → and_then (joiner st s x) (λ i. and_then (owner st s o) (λ k. taken_out st s k i)) ≡ Err NotFiled
   not_out h = at_both (λ i k. taken_out st s k i) ∙ rw h refl
@@ -165,7 +172,12 @@ module _ (st : State) (s : ℕ) (o x : ℤ) (m n : ℕ) (jn : joiner st s x ≡ 
       pub beside_done : (new : State) → is_filed st.lists s n ≡ false → contains (members_of st.lists s m) k ≡ true → new ≡ with_list_of st s m (put_by before k n (members_of st.lists s m)) → whole ≡ Ok new
       beside_done new h i e = side before ∙ rw (h, i) (ap Ok (sym e))
 
--- where one of the three references is to none, so does filing fail
+-- where one of the references is to none, so does filing fail
+pub end_failed : (last : Bool) (st : State) (s : ℕ) (o x : ℤ) (f : FaultKind) → ((g : ℕ → ℕ → Result State FaultKind) → and_then (joiner st s x) (λ n. and_then (owner st s o) (g n)) ≡ Err f)
+    → (if last then filed_last else filed_first) st s o x ≡ Err f
+end_failed true st s o x f h = h (λ n m. put_in (λ y l. l ++ y ∷ []) st s m n)
+end_failed false st s o x f h = h (λ n m. put_in (λ y l. y ∷ l) st s m n)
+
 pub beside_failed : (before : Bool) (st : State) (s : ℕ) (o x y : ℤ) (f : FaultKind)
     → ((g : ℕ → ℕ → ℕ → Result State FaultKind) → and_then (joiner st s x) (λ n. and_then (joiner st s y) (λ k. and_then (owner st s o) (g n k))) ≡ Err f)
     → (if before then filed_before else filed_after) st s o x y ≡ Err f

@@ -1,9 +1,9 @@
-use Rattle.std.proofs.Common.{◌≡◌, ◌+◌, [], refl, sym, ap, ◌∙◌, arith}
+use Rattle.std.proofs.Common.{◌≡◌, ◌+◌, false, [], refl, sym, ap, ◌∙◌, arith}
 use Rattle.ss_records_entities.proofs.Common.{cast_signed, counter, first_in, ints, link, members_of, number, state, with_list_of, word_at}
 use mir.Syntax.{w64}
 use Rattle.ss_records_entities.proofs.Looks.{as_whole, first_leads, first_small, first_value, next_leads, counts, how_many}
 use Rattle.ss_records_entities.proofs.Files.{owner_words, member_words', after_word', kept_out, state_out, some_members}
-use Rattle.ss_records_entities.proofs.Cuts.{at_first}
+use Rattle.ss_records_entities.proofs.Cuts.{at_end}
 use Rattle.ss_records_entities.proofs.Ends.{joins_it, taken, first_in_it, none_taken}
 use Rattle.ss_records_entities.proofs.Drawn.{following, less_is, around_first}
 use Rattle.ss_records_entities.proofs.Remembered.{numbered_entry}
@@ -32,14 +32,14 @@ returns-then-first-eq0-clause-done c =
 pub keep-requires-clause-entry : goal.keep-requires-clause-entry
 keep-requires-clause-entry c =
     let r = c.args.self.now in let k = c.requires.kept in let e = c.args.home in let own = c.requires.owns in let set = c.owner_base-set in let q = c.look-first.result in
-    let between = at_first r k c.args.s c.requires.set e own set.result set.ensures.at q c.look-first.ensures.word c.look-first.ensures.there in
+    let between = at_end r k c.args.s c.requires.set e own set.result set.ensures.at q false c.look-first.ensures.word c.look-first.ensures.there in
     let inn = first_in_it r c.args.s e.number (record { place = r.system; number = 0 }) q (members_of r.notes.lists c.args.s e.number) between c.if-first-eq0.false in
     numbered_entry r k c.args.s q (joins_it r k c.args.s c.requires.set e.number q between.after inn)
 
 pub look-after-requires : goal.look-after-requires
 look-after-requires c =
     let r = c.args.self.now in let k = c.requires.kept in let e = c.args.home in let own = c.requires.owns in let set = c.owner_base-set in let mem = c.member_base-member in let q = c.look-first.result in
-    let between = at_first r k c.args.s c.requires.set e own set.result set.ensures.at q c.look-first.ensures.word c.look-first.ensures.there in
+    let between = at_end r k c.args.s c.requires.set e own set.result set.ensures.at q false c.look-first.ensures.word c.look-first.ensures.there in
     let inn = first_in_it r c.args.s e.number (record { place = r.system; number = 0 }) q (members_of r.notes.lists c.args.s e.number) between c.if-first-eq0.false in
     let j = joins_it r k c.args.s c.requires.set e.number q between.after inn in
     record { leads = rw c.look-first.ensures.cells (next_leads r k c.args.s c.requires.set q j mem.result mem.ensures.at) }
@@ -50,7 +50,7 @@ peek_count-count-requires c = record { word = rw (c.look-after.ensures.cells, c.
 pub unlink-requires-clause-member : goal.unlink-requires-clause-member
 unlink-requires-clause-member c =
     let r = c.args.self.now in let k = c.requires.kept in let e = c.args.home in let own = c.requires.owns in let set = c.owner_base-set in let mem = c.member_base-member in let q = c.look-first.result in
-    let between = at_first r k c.args.s c.requires.set e own set.result set.ensures.at q c.look-first.ensures.word c.look-first.ensures.there in
+    let between = at_end r k c.args.s c.requires.set e own set.result set.ensures.at q false c.look-first.ensures.word c.look-first.ensures.there in
     let inn = first_in_it r c.args.s e.number (record { place = r.system; number = 0 }) q (members_of r.notes.lists c.args.s e.number) between c.if-first-eq0.false in
     let j = joins_it r k c.args.s c.requires.set e.number q between.after inn in
     let z = c.look-after.result in let cells = c.look-first.ensures.cells in let both = c.look-after.ensures.cells ∙ cells in
@@ -63,7 +63,7 @@ unlink-requires-clause-member c =
 pub unlink-requires-clause-owner : goal.unlink-requires-clause-owner
 unlink-requires-clause-owner c =
     let r = c.args.self.now in let k = c.requires.kept in let e = c.args.home in let own = c.requires.owns in let set = c.owner_base-set in let mem = c.member_base-member in let q = c.look-first.result in
-    let between = at_first r k c.args.s c.requires.set e own set.result set.ensures.at q c.look-first.ensures.word c.look-first.ensures.there in
+    let between = at_end r k c.args.s c.requires.set e own set.result set.ensures.at q false c.look-first.ensures.word c.look-first.ensures.there in
     let inn = first_in_it r c.args.s e.number (record { place = r.system; number = 0 }) q (members_of r.notes.lists c.args.s e.number) between c.if-first-eq0.false in
     let j = joins_it r k c.args.s c.requires.set e.number q between.after inn in
     rw (c.start_at-2.ensures.cells, c.peek_count-count.ensures.cells, c.look-after.ensures.cells, c.look-first.ensures.cells) (owner_words r k c.args.s c.requires.set e q own mem.result set.result mem.ensures.at set.ensures.at)
@@ -71,7 +71,7 @@ unlink-requires-clause-owner c =
 pub unlink-requires-clause-after : goal.unlink-requires-clause-after
 unlink-requires-clause-after c = λ no.
     let r = c.args.self.now in let k = c.requires.kept in let e = c.args.home in let own = c.requires.owns in let set = c.owner_base-set in let mem = c.member_base-member in let q = c.look-first.result in
-    let between = at_first r k c.args.s c.requires.set e own set.result set.ensures.at q c.look-first.ensures.word c.look-first.ensures.there in
+    let between = at_end r k c.args.s c.requires.set e own set.result set.ensures.at q false c.look-first.ensures.word c.look-first.ensures.there in
     let inn = first_in_it r c.args.s e.number (record { place = r.system; number = 0 }) q (members_of r.notes.lists c.args.s e.number) between c.if-first-eq0.false in
     let j = joins_it r k c.args.s c.requires.set e.number q between.after inn in
     let z = c.look-after.result in let cells = c.look-first.ensures.cells in let both = c.look-after.ensures.cells ∙ cells in
@@ -84,7 +84,7 @@ unlink-requires-clause-after c = λ no.
 pub unlink-requires-clause-counts : goal.unlink-requires-clause-counts
 unlink-requires-clause-counts c =
     let r = c.args.self.now in let k = c.requires.kept in let e = c.args.home in let own = c.requires.owns in let set = c.owner_base-set in let mem = c.member_base-member in let q = c.look-first.result in
-    let between = at_first r k c.args.s c.requires.set e own set.result set.ensures.at q c.look-first.ensures.word c.look-first.ensures.there in
+    let between = at_end r k c.args.s c.requires.set e own set.result set.ensures.at q false c.look-first.ensures.word c.look-first.ensures.there in
     let inn = first_in_it r c.args.s e.number (record { place = r.system; number = 0 }) q (members_of r.notes.lists c.args.s e.number) between c.if-first-eq0.false in
     let j = joins_it r k c.args.s c.requires.set e.number q between.after inn in
     let z = c.look-after.result in let cells = c.look-first.ensures.cells in let both = c.look-after.ensures.cells ∙ cells in
@@ -104,7 +104,7 @@ overflow_cast-result c =
 pub returns-clause-kept : goal.returns-clause-kept
 returns-clause-kept c =
     let r = c.args.self.now in let k = c.requires.kept in let e = c.args.home in let own = c.requires.owns in let set = c.owner_base-set in let mem = c.member_base-member in let q = c.look-first.result in
-    let between = at_first r k c.args.s c.requires.set e own set.result set.ensures.at q c.look-first.ensures.word c.look-first.ensures.there in
+    let between = at_end r k c.args.s c.requires.set e own set.result set.ensures.at q false c.look-first.ensures.word c.look-first.ensures.there in
     let inn = first_in_it r c.args.s e.number (record { place = r.system; number = 0 }) q (members_of r.notes.lists c.args.s e.number) between c.if-first-eq0.false in
     let j = joins_it r k c.args.s c.requires.set e.number q between.after inn in
     let z = c.look-after.result in let cells = c.look-first.ensures.cells in let both = c.look-after.ensures.cells ∙ cells in
@@ -119,7 +119,7 @@ returns-clause-kept c =
 pub returns-clause-done : goal.returns-clause-done
 returns-clause-done c = λ o om.
     let r = c.args.self.now in let k = c.requires.kept in let e = c.args.home in let own = c.requires.owns in let set = c.owner_base-set in let mem = c.member_base-member in let q = c.look-first.result in
-    let between = at_first r k c.args.s c.requires.set e own set.result set.ensures.at q c.look-first.ensures.word c.look-first.ensures.there in
+    let between = at_end r k c.args.s c.requires.set e own set.result set.ensures.at q false c.look-first.ensures.word c.look-first.ensures.there in
     let inn = first_in_it r c.args.s e.number (record { place = r.system; number = 0 }) q (members_of r.notes.lists c.args.s e.number) between c.if-first-eq0.false in
     let j = joins_it r k c.args.s c.requires.set e.number q between.after inn in
     let z = c.look-after.result in let cells = c.look-first.ensures.cells in let both = c.look-after.ensures.cells ∙ cells in

@@ -2,7 +2,7 @@ use Rattle.std.proofs.Common.{arith, ◌≡◌, ◌+◌, ◌≤◌, true, refl, 
 use Rattle.ss_records_entities.proofs.Common.{cast_signed, ints, last_in, less, members_of, Records, state, to_z-of_z, uncounted, with_list_of}
 use mir.Syntax.{w64}
 use Rattle.ss_records_entities.proofs.Looks.{as_whole, last_leads, last_small, last_value}
-use Rattle.ss_records_entities.proofs.Cuts.{at_last}
+use Rattle.ss_records_entities.proofs.Cuts.{at_end}
 use Rattle.ss_records_entities.proofs.Still.{kept_still, set_still, owns_still, joins_still, listed_still, room_first, one_few, owner_room, reads_only}
 use Rattle.ss_records_entities.proofs.Ends.{joins_it, has_it, taken, last_in_it, none_taken, last_refused, untouched, one_at_most, one_and_nine}
 use Rattle.ss_records_entities.proofs.records.Records.remove_last.Goals as goal
@@ -41,7 +41,7 @@ pub remember-requires : goal.remember-requires
 remember-requires c =
     let r = c.args.self.now in let e = c.in-Ok.owner in let q = c.follow-last.result in let b = c.follow-last.new.self in let k = c.requires.kept in let own = c.in-Ok.ensures.found.0 in let at = c.owner_base-base in
     let h = reads_only r b c.follow-last.ensures.cells in
-    let between = at_last r k c.args.s c.requires.set e own at.result at.ensures.at q c.follow-last.ensures.word c.follow-last.ensures.there in
+    let between = at_end r k c.args.s c.requires.set e own at.result at.ensures.at q true c.follow-last.ensures.word c.follow-last.ensures.there in
     let inn = last_in_it r c.args.s e.number q (record { place = r.system; number = 0 }) (members_of r.notes.lists c.args.s e.number) between c.if-last-eq0.false in
     record {
       kept = kept_still r (record r { blocks = b }) h k;
@@ -53,7 +53,7 @@ pub cut_out-requires : goal.cut_out-requires
 cut_out-requires c =
     let r = c.args.self.now in let e = c.in-Ok.owner in let q = c.follow-last.result in let b = c.follow-last.new.self in let k = c.requires.kept in let own = c.in-Ok.ensures.found.0 in let at = c.owner_base-base in
     let looked = reads_only r b c.follow-last.ensures.cells in let p = c.remember.new.self in let h : uncounted p ≡ uncounted r = ap uncounted c.remember.ensures ∙ looked in
-    let between = at_last r k c.args.s c.requires.set e own at.result at.ensures.at q c.follow-last.ensures.word c.follow-last.ensures.there in
+    let between = at_end r k c.args.s c.requires.set e own at.result at.ensures.at q true c.follow-last.ensures.word c.follow-last.ensures.there in
     let inn = last_in_it r c.args.s e.number q (record { place = r.system; number = 0 }) (members_of r.notes.lists c.args.s e.number) between c.if-last-eq0.false in
     record {
       kept = kept_still r p h k;
@@ -77,7 +77,7 @@ returns-else-last-eq0 c =
       kept = c.cut_out.ensures.kept;
       done =
           let looked = reads_only r b c.follow-last.ensures.cells in let h : uncounted c.remember.new.self ≡ uncounted r = ap uncounted c.remember.ensures ∙ looked in
-          let between = at_last r k c.args.s c.requires.set e own at.result at.ensures.at q c.follow-last.ensures.word c.follow-last.ensures.there in
+          let between = at_end r k c.args.s c.requires.set e own at.result at.ensures.at q true c.follow-last.ensures.word c.follow-last.ensures.there in
           let inn = last_in_it r c.args.s e.number q (record { place = r.system; number = 0 }) (members_of r.notes.lists c.args.s e.number) between c.if-last-eq0.false in let fits = c.ranges.o in
           let t = simp to_z-of_z at c.in-Ok.ensures.found in let found = sym (last_value r k c.args.s c.requires.set e t.0 at.result at.ensures.at q c.follow-last.ensures.word c.follow-last.ensures.there c.args.o t.1) in
           let is = as_whole q.number q.number refl (last_small r k c.args.s c.requires.set e own at.result at.ensures.at q c.follow-last.ensures.word c.follow-last.ensures.there) in
