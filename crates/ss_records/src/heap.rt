@@ -532,7 +532,7 @@ impl Heap {
         ensures done { MatchResult result (λ x. first_removed self.old.state set o ≡ Ok (x, self.new.state)) (λ e. (first_removed self.old.state set o ≡ Err e) × (self.new.state ≡ self.old.state)) }
         ensures touches { (self.new.touches ≤ 12) × (self.new.total ≡ self.old.total + self.new.touches) }
     {
-        self.records.remove_first(set, o)
+        self.records.remove_end(set, o, false)
     }
 
     /// Takes the last member out of the set of an owner, and answers it: a `last` and a `remove` with one look for the
@@ -542,8 +542,7 @@ impl Heap {
         ensures done { MatchResult result (λ x. last_removed self.old.state set o ≡ Ok (x, self.new.state)) (λ e. (last_removed self.old.state set o ≡ Err e) × (self.new.state ≡ self.old.state)) }
         ensures touches { (self.new.touches ≤ 12) × (self.new.total ≡ self.old.total + self.new.touches) }
     {
-        self.records.start();
-        self.records.remove_last(set, o)
+        self.records.remove_end(set, o, true)
     }
 
     /// Whether x is in the set of an owner. Faults: those of x (1 to 5), then those of the owner.

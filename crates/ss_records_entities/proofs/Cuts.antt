@@ -3,12 +3,18 @@ use Rattle.std.proofs.Common.{◌≡◌, ℕ, ◌+◌, ◌<◌, Bool, true, fals
 use Rattle.std.specs.Prelude.{ℤ, if◌then◌else◌, Result, MatchResult}
 use denote.RawPtr.{Ptr}
 use Rattle.ss_records_entities.specs.Parts.{before_end, after_end}
-use Rattle.ss_records_entities.proofs.Common.{and_then, AreAllDistinct, AreNeighbours, CanJoin, contains, contains_in, entity_at, EntityBlock, FaultKind, get_there, HasLink, HasNeighbours, head0, is_filed, IsInList, IsInPlace, IsKept, IsNotInList, IsOwnerBlock, last_or, link, member_base, members_of, number, owner_base, places, pred_from, Records, SetLayout, State, succ, word_at}
-use Rattle.ss_records_words.proofs.Splice.{distinct_less, succ_cut, cut, pred_cut, last_splice}
+use Rattle.ss_records_entities.proofs.Common.{after_in, and_then, AreAllDistinct, AreNeighbours, before_in, CanJoin, contains, contains_in, entity_at, EntityBlock, FaultKind, get_there, HasLink, HasNeighbours, head0, is_filed, IsInList, IsInPlace, IsKept, IsNotInList, IsOwnerBlock, last_or, link, member_base, members_of, number, owner_base, places, pred_from, Records, SetLayout, State, succ, word_at}
+use Rattle.ss_records_words.proofs.Splice.{distinct_less, succ_cut, succ_last, cut, pred_cut, pred_head, last_splice}
 use Rattle.ss_world.specs.Sets.{joiner, less, owner, put_before, put_in, with_list_of, put_after, put_beside, filed_first, filed_last, filed_before, filed_after, taken_out}
 use Rattle.ss_base.specs.declared.fault.FaultKind.TheVariants.{FiledTwice, NotFiled}
 use Rattle.ss_records_entities.proofs.Listed.{put_before_cut, put_after_cut, less_cut, not_in_front}
 use Rattle.ss_records_entities.proofs.Leading.{To, leads, at_target, its_number, its_members, positive, first_to, last_to, next_to, prev_to}
+
+-- q is the last member of the set s of o, or the first
+pub record IsAtEnd (r : Records) (s o : ℕ) (last : Bool) (q : EntityBlock) : Type 0 where
+  pub lies : IsInPlace r s q
+  pub is : q.number ≡ (if last then last_or 0 (members_of r.notes.lists s o) else head0 (members_of r.notes.lists s o))
+  pub inn : IsInList q.number (members_of r.notes.lists s o)
 
 -- the list with one more directly before another, or after it
 abbrev pub put_by : Bool → ℕ → ℕ → List ℕ → List ℕ
@@ -39,6 +45,13 @@ module _ (r : Records) (K : IsKept r) (s : ℕ) (inside : s < length r.layout.se
         let l = lies_there e.place.at (b + 1) _ (last_to r.layout r.blocks.cells r.system.at (places r) r.notes.lists K s inside e.place.at e.number h.lies h.may b base) q w v in
         record { list = sym (append-nil (f e.number)); before = l.0; last = l.1; after = refl; first = refl }
 
+    -- the member there, if there is one
+    pub end_is : (last : Bool) → word_at r.blocks.cells e.place.at (if last then b + 1 else b) ≡ link q.place.at → word_at r.blocks.cells q.place.at 1 ≡ number q.number → (q.number ≡ 0 → ⊥) → IsAtEnd r s e.number last q
+    end_is false w v some = let a = at_end false w v in
+        record { lies = a.after; is = a.first; inn = after_in q.number [] (f e.number) (sym a.first) (λ i. some (sym i)) }
+    end_is true w v some = let a = at_end true w v in
+        record { lies = a.before; is = a.last; inn = subst (IsInList q.number) (append-nil (f e.number)) (before_in q.number (f e.number) [] (sym a.last) (λ i. some (sym i))) }
+
   -- beside a member y
   module _ (y : EntityBlock) (j : CanJoin r s y) (b : ℕ) (base : (u : SetLayout) → slice_get r.layout.sets s ≡ Some u → b ≡ member_base r.layout s u) (o : ℕ) (there : contains (f o) y.number ≡ true) where
     here : IsInList y.number (f o)
@@ -56,8 +69,11 @@ module _ (r : Records) (K : IsKept r) (s : ℕ) (inside : s < length r.layout.se
     some : 0 ≡ y.number → ⊥
     some = positive r.layout r.blocks.cells r.system.at (places r) r.notes.lists K s inside y.place.at y.number j.lies j.is b base
 
+    distinct : AreAllDistinct (f o)
+    distinct = let k = get_there r.layout.sets s inside in (K.names s k.0 k.1).distinct o
+
     apart : AreAllDistinct (xs ++ y.number ∷ ys)
-    apart = let k = get_there r.layout.sets s inside in subst AreAllDistinct parts.2 ((K.names s k.0 k.1).distinct o)
+    apart = subst AreAllDistinct parts.2 distinct
 
     not_before : IsNotInList y.number xs
     not_before = not_in_front y.number xs ys (distinct_less xs y.number ys apart).1
@@ -120,6 +136,18 @@ module _ (r : Records) (K : IsKept r) (s : ℕ) (inside : s < length r.layout.se
 
     pub list_less : xs ++ ys ≡ less y.number (f o)
     list_less = sym (ap (less y.number) parts.2 ∙ less_cut xs y.number ys not_before)
+
+    -- where it is at an end, by the neighbour on the other side
+    pub around_end : (last : Bool) → y.number ≡ (if last then last_or 0 (f o) else head0 (f o)) → (z : EntityBlock) → word_at r.blocks.cells y.place.at (if last then b + 1 else b) ≡ link z.place.at → word_at r.blocks.cells z.place.at 1 ≡ number z.number
+        → HasNeighbours r s o y.number (if last then z else end) (if last then end else z) xs ys
+    around_end false is z w v =
+        let n = next_is z w v in
+        let none : pred_from 0 y.number (f o) ≡ 0 = pred_head 0 y.number [] (f o) (sym is) some distinct in
+        record { list = parts.2; before = refl; last = sym none ∙ ap (pred_from 0 y.number) parts.2 ∙ pred_cut xs y.number ys some apart; after = n.0; first = n.1 }
+    around_end true is z w v =
+        let p = prev_is z w v in
+        let none : succ y.number (f o ++ []) ≡ 0 = succ_last y.number (f o) [] (sym is) some (subst AreAllDistinct (sym (append-nil (f o))) distinct) in
+        record { list = parts.2; before = p.0; last = p.1; after = refl; first = sym none ∙ ap (succ y.number) (append-nil (f o)) ∙ ap (succ y.number) parts.2 ∙ succ_cut xs y.number ys some apart }
 
 -- what was done, as the definitions say
 module _ (st : State) (s : ℕ) (o x : ℤ) (m n : ℕ) (jn : joiner st s x ≡ Ok n) (om : owner st s o ≡ Ok m) where

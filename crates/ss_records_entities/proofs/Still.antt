@@ -45,9 +45,6 @@ base_room n h = omega (arith, h)
 pub base_room2 : (n : ℕ) → n ≤ 5242883 → Fits w64 (n + 2)
 base_room2 n h = omega (arith, h)
 
-pub owner_room : (n : ℕ) → n ≤ 8388614 → Fits w64 (n + 1)
-owner_room n h = omega (arith, h)
-
 -- ## Touches, by this call and by all calls
 
 module _ (a A b B : ℕ) (none : a ≡ 0) where

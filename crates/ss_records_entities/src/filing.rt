@@ -268,45 +268,21 @@ impl Records {
         self.link_out(s, owner, before, x, after);
     }
 
-    /// Takes the first member out of a set, and answers it.
+    /// Takes the last member out of a set, or the first, and answers it.
     #[inline(always)]
-    pub fn remove_first(&mut self, s: usize, o: i64) -> Result<i64, FaultKind>
+    pub fn remove_end(&mut self, s: usize, o: i64, is_last: bool) -> Result<i64, FaultKind>
         requires kept { IsKept self.old }
         requires set { s < length self.old.layout.sets }
         ensures kept { IsKept self.new }
-        ensures done { MatchResult result (λ x. first_removed (state self.old) s o ≡ Ok (x, state self.new)) (λ e. (first_removed (state self.old) s o ≡ Err e) × (state self.new ≡ state self.old)) }
+        ensures done { MatchResult result (λ x. (if is_last then last_removed else first_removed) (state self.old) s o ≡ Ok (x, state self.new)) (λ e. ((if is_last then last_removed else first_removed) (state self.old) s o ≡ Err e) × (state self.new ≡ state self.old)) }
         ensures touches { (self.new.blocks.touches ≤ 12) × (self.new.blocks.total ≡ self.old.blocks.total + self.new.blocks.touches) }
     {
         match self.owner(s, o) {
-            Ok(owner) => self.draw_first(s, owner),
+            Ok(owner) => self.draw_end(s, owner, is_last),
             Err(fault) => {
                 self.blocks.start();
                 Err(fault)
             }
-        }
-    }
-
-    /// Takes the last member out of a set, and answers it.
-    pub fn remove_last(&mut self, s: usize, o: i64) -> Result<i64, FaultKind>
-        requires kept { IsKept self.old }
-        requires set { s < length self.old.layout.sets }
-        requires touches { self.old.blocks.touches ≡ 0 }
-        ensures kept { IsKept self.new }
-        ensures done { MatchResult result (λ x. last_removed (state self.old) s o ≡ Ok (x, state self.new)) (λ e. (last_removed (state self.old) s o ≡ Err e) × (state self.new ≡ state self.old)) }
-        ensures touches { (self.new.blocks.touches ≤ 12) × (self.new.blocks.total ≡ self.old.blocks.total + self.new.blocks.touches) }
-    {
-        match self.owner(s, o) {
-            Ok(owner) => {
-                let base = self.layout.owner_base(s);
-                let last = self.blocks.follow(owner.place, base + 1);
-                if last.number == 0 {
-                    return Err(FaultKind::EmptySet);
-                }
-                self.remember(s, last);
-                self.cut_out(s, owner, last);
-                Ok(last.number as i64)
-            }
-            Err(fault) => Err(fault),
         }
     }
 
@@ -358,39 +334,46 @@ impl Records {
         Ok(())
     }
 
-    // Takes the first member out of the set of an owner, remembers it and answers it. Faults: 8 where there is none. The touches are
+    // Takes the member at an end out of the set of an owner, remembers it and answers it. Faults: 8 where there is none. The touches are
     // counted at once.
     #[inline(always)]
-    fn draw_first(&mut self, s: usize, home: EntityBlock) -> Result<i64, FaultKind>
+    fn draw_end(&mut self, s: usize, home: EntityBlock, is_last: bool) -> Result<i64, FaultKind>
         requires kept { IsKept self.old }
         requires set { s < length self.old.layout.sets }
         requires owns { IsOwnerBlock self.old s home }
         ensures kept { IsKept self.new }
-        ensures done { MatchResult result (λ x. (o : ℤ) → owner (state self.old) s o ≡ Ok home.number → first_removed (state self.old) s o ≡ Ok (x, state self.new)) (λ e. ((o : ℤ) → owner (state self.old) s o ≡ Ok home.number → first_removed (state self.old) s o ≡ Err e) × (state self.new ≡ state self.old)) }
+        ensures done { MatchResult result (λ x. (o : ℤ) → owner (state self.old) s o ≡ Ok home.number → (if is_last then last_removed else first_removed) (state self.old) s o ≡ Ok (x, state self.new)) (λ e. ((o : ℤ) → owner (state self.old) s o ≡ Ok home.number → (if is_last then last_removed else first_removed) (state self.old) s o ≡ Err e) × (state self.new ≡ state self.old)) }
         ensures touches { (self.new.blocks.touches ≤ 12) × (self.new.blocks.total ≡ self.old.blocks.total + self.new.blocks.touches) }
     {
         let set = self.layout.owner_base(s);
         let member = self.layout.member_base(s);
-        let first = self.blocks.look(home.place, set);
-        if first.number == 0 {
+        let word = sets::beside(set, is_last);
+        let end = self.blocks.look(home.place, word);
+        if end.number == 0 {
             self.blocks.start_at(1);
             return Err(FaultKind::EmptySet);
         }
-        sets::keep(&mut self.directory, &self.layout, s, first);
-        let after = self.blocks.look(first.place, member);
+        sets::keep(&mut self.directory, &self.layout, s, end);
+        let link = sets::beside(member, is_last);
+        let next = self.blocks.look(end.place, link);
         let count = self.blocks.peek_count(home.place, set + 2);
+        let none = EntityBlock {
+            place: self.system,
+            number: 0,
+        };
+        let gap = gap_beside(none, next, is_last);
         let position = LinkPosition {
             owner: home.place,
-            before: self.system,
-            is_first: true,
-            after: after.place,
-            is_last: after.number == 0,
+            before: gap.before.place,
+            is_first: gap.before.number == 0,
+            after: gap.after.place,
+            is_last: gap.after.number == 0,
             count,
         };
         self.blocks.start_at(3);
-        self.blocks.unlink(member, set, first.place, &position);
-        self.notes.take_out(s, home.number, first.number);
-        Ok(first.number as i64)
+        self.blocks.unlink(member, set, end.place, &position);
+        self.notes.take_out(s, home.number, end.number);
+        Ok(end.number as i64)
     }
 
     /// Whether x is in the set of an owner: at most two touches.
