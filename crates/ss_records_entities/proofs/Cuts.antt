@@ -78,45 +78,20 @@ module _ (r : Records) (K : IsKept r) (s : ℕ) (inside : s < length r.layout.se
     not_before : IsNotInList y.number xs
     not_before = not_in_front y.number xs ys (distinct_less xs y.number ys apart).1
 
-    next_there : To r.blocks.cells at y.place.at b (succ y.number (f o))
-    next_there = next_to r.layout r.blocks.cells r.system.at (places r) r.notes.lists K s inside y.place.at y.number j.lies j.is b base o here
+    -- on one side of it: before it, or after it
+    abbrev Read : Bool → EntityBlock → Type 0
+    Read before q = word_at r.blocks.cells y.place.at (if before then b + 1 else b) ≡ link q.place.at
 
-    prev_there : To r.blocks.cells at y.place.at (b + 1) (pred_from 0 y.number (f o))
-    prev_there = prev_to r.layout r.blocks.cells r.system.at (places r) r.notes.lists K s inside y.place.at y.number j.lies j.is b base o here
+    there_beside : (before : Bool) → To r.blocks.cells at y.place.at (if before then b + 1 else b) (if before then pred_from 0 y.number (f o) else succ y.number (f o))
+    there_beside true = prev_to r.layout r.blocks.cells r.system.at (places r) r.notes.lists K s inside y.place.at y.number j.lies j.is b base o here
+    there_beside false = next_to r.layout r.blocks.cells r.system.at (places r) r.notes.lists K s inside y.place.at y.number j.lies j.is b base o here
 
-    pub next_found : HasLink r.blocks.cells y.place.at b
-    next_found = leads r.blocks.cells at y.place.at b _ next_there
-
-    pub prev_found : HasLink r.blocks.cells y.place.at (b + 1)
-    prev_found = leads r.blocks.cells at y.place.at (b + 1) _ prev_there
-
-    module _ (q : EntityBlock) (w : word_at r.blocks.cells y.place.at b ≡ link q.place.at) (v : word_at r.blocks.cells q.place.at 1 ≡ number q.number) where
-      next_is : (IsInPlace r s q) × (q.number ≡ head0 ys)
-      next_is = let l = lies_there y.place.at b _ next_there q w v in (l.0, l.1 ∙ ap (succ y.number) parts.2 ∙ succ_cut xs y.number ys some apart)
-
-      after_it : AreNeighbours r s o y q (xs ++ y.number ∷ []) ys
-      after_it = record { list = parts.2 ∙ sym (append_assoc xs (y.number ∷ []) ys); before = j.lies; last = sym (last_splice 0 xs y.number []); after = next_is.0; first = next_is.1 }
-
-    module _ (q : EntityBlock) (w : word_at r.blocks.cells y.place.at (b + 1) ≡ link q.place.at) (v : word_at r.blocks.cells q.place.at 1 ≡ number q.number) where
-      prev_is : (IsInPlace r s q) × (q.number ≡ last_or 0 xs)
-      prev_is = let l = lies_there y.place.at (b + 1) _ prev_there q w v in (l.0, l.1 ∙ ap (pred_from 0 y.number) parts.2 ∙ pred_cut xs y.number ys some apart)
-
-      before_it : AreNeighbours r s o q y xs (y.number ∷ ys)
-      before_it = record { list = parts.2; before = prev_is.0; last = prev_is.1; after = j.lies; first = refl }
-
-      pub around_it : (z : EntityBlock) → word_at r.blocks.cells y.place.at b ≡ link z.place.at → word_at r.blocks.cells z.place.at 1 ≡ number z.number → HasNeighbours r s o y.number q z xs ys
-      around_it z wz vz = let n = next_is z wz vz in record { list = parts.2; before = prev_is.0; last = prev_is.1; after = n.0; first = n.1 }
-
-    list_before : (x : ℕ) → xs ++ x ∷ y.number ∷ ys ≡ put_before y.number x (f o)
-    list_before x = sym (ap (put_before y.number x) parts.2 ∙ put_before_cut xs y.number x ys not_before)
-
-    list_after : (x : ℕ) → (xs ++ y.number ∷ []) ++ x ∷ ys ≡ put_after y.number x (f o)
-    list_after x = append_assoc xs (y.number ∷ []) (x ∷ ys) ∙ sym (ap (put_after y.number x) parts.2 ∙ put_after_cut xs y.number x ys not_before)
-
-    -- on either side of it
     pub beside_found : (before : Bool) → HasLink r.blocks.cells y.place.at (if before then b + 1 else b)
-    beside_found true = prev_found
-    beside_found false = next_found
+    beside_found before = leads r.blocks.cells at y.place.at (if before then b + 1 else b) _ (there_beside before)
+
+    is_beside : (before : Bool) (q : EntityBlock) → Read before q → word_at r.blocks.cells q.place.at 1 ≡ number q.number → (IsInPlace r s q) × (q.number ≡ (if before then last_or 0 xs else head0 ys))
+    is_beside true q w v = let l = lies_there y.place.at (b + 1) _ (there_beside true) q w v in (l.0, l.1 ∙ ap (pred_from 0 y.number) parts.2 ∙ pred_cut xs y.number ys some apart)
+    is_beside false q w v = let l = lies_there y.place.at b _ (there_beside false) q w v in (l.0, l.1 ∙ ap (succ y.number) parts.2 ∙ succ_cut xs y.number ys some apart)
 
     abbrev pub front : Bool → List ℕ
     front true = xs
@@ -126,26 +101,32 @@ module _ (r : Records) (K : IsKept r) (s : ℕ) (inside : s < length r.layout.se
     back true = y.number ∷ ys
     back false = ys
 
-    pub beside_it : (before : Bool) (q : EntityBlock) → word_at r.blocks.cells y.place.at (if before then b + 1 else b) ≡ link q.place.at → word_at r.blocks.cells q.place.at 1 ≡ number q.number → AreNeighbours r s o (if before then q else y) (if before then y else q) (front before) (back before)
-    beside_it true q w v = before_it q w v
-    beside_it false q w v = after_it q w v
+    pub beside_it : (before : Bool) (q : EntityBlock) → Read before q → word_at r.blocks.cells q.place.at 1 ≡ number q.number → AreNeighbours r s o (if before then q else y) (if before then y else q) (front before) (back before)
+    beside_it true q w v = let n = is_beside true q w v in
+        record { list = parts.2; before = n.0; last = n.1; after = j.lies; first = refl }
+    beside_it false q w v = let n = is_beside false q w v in
+        record { list = parts.2 ∙ sym (append_assoc xs (y.number ∷ []) ys); before = j.lies; last = sym (last_splice 0 xs y.number []); after = n.0; first = n.1 }
 
     pub list_beside : (before : Bool) (x : ℕ) → front before ++ x ∷ back before ≡ put_by before y.number x (f o)
-    list_beside true x = list_before x
-    list_beside false x = list_after x
+    list_beside true x = sym (ap (put_before y.number x) parts.2 ∙ put_before_cut xs y.number x ys not_before)
+    list_beside false x = append_assoc xs (y.number ∷ []) (x ∷ ys) ∙ sym (ap (put_after y.number x) parts.2 ∙ put_after_cut xs y.number x ys not_before)
+
+    -- on both sides
+    pub around_it : (q : EntityBlock) → Read true q → word_at r.blocks.cells q.place.at 1 ≡ number q.number → (z : EntityBlock) → Read false z → word_at r.blocks.cells z.place.at 1 ≡ number z.number → HasNeighbours r s o y.number q z xs ys
+    around_it q w v z wz vz = let p = is_beside true q w v in let n = is_beside false z wz vz in
+        record { list = parts.2; before = p.0; last = p.1; after = n.0; first = n.1 }
 
     pub list_less : xs ++ ys ≡ less y.number (f o)
     list_less = sym (ap (less y.number) parts.2 ∙ less_cut xs y.number ys not_before)
 
     -- where it is at an end, by the neighbour on the other side
-    pub around_end : (last : Bool) → y.number ≡ (if last then last_or 0 (f o) else head0 (f o)) → (z : EntityBlock) → word_at r.blocks.cells y.place.at (if last then b + 1 else b) ≡ link z.place.at → word_at r.blocks.cells z.place.at 1 ≡ number z.number
-        → HasNeighbours r s o y.number (if last then z else end) (if last then end else z) xs ys
+    pub around_end : (last : Bool) → y.number ≡ (if last then last_or 0 (f o) else head0 (f o)) → (z : EntityBlock) → Read last z → word_at r.blocks.cells z.place.at 1 ≡ number z.number → HasNeighbours r s o y.number (if last then z else end) (if last then end else z) xs ys
     around_end false is z w v =
-        let n = next_is z w v in
+        let n = is_beside false z w v in
         let none : pred_from 0 y.number (f o) ≡ 0 = pred_head 0 y.number [] (f o) (sym is) some distinct in
         record { list = parts.2; before = refl; last = sym none ∙ ap (pred_from 0 y.number) parts.2 ∙ pred_cut xs y.number ys some apart; after = n.0; first = n.1 }
     around_end true is z w v =
-        let p = prev_is z w v in
+        let p = is_beside true z w v in
         let none : succ y.number (f o ++ []) ≡ 0 = succ_last y.number (f o) [] (sym is) some (subst AreAllDistinct (sym (append-nil (f o))) distinct) in
         record { list = parts.2; before = p.0; last = p.1; after = refl; first = sym none ∙ ap (succ y.number) (append-nil (f o)) ∙ ap (succ y.number) parts.2 ∙ succ_cut xs y.number ys some apart }
 

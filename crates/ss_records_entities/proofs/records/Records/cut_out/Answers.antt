@@ -1,7 +1,7 @@
-use Rattle.std.proofs.Common.{◌≡◌, ◌+◌, ◌++◌, refl, sym, ap, ◌∙◌}
+use Rattle.std.proofs.Common.{◌≡◌, ◌+◌, ◌++◌, true, false, refl, sym, ap, ◌∙◌}
 use Rattle.ss_records_entities.proofs.Common.{link, number, State, state, with_list_of, word_at}
 use Rattle.ss_records_entities.proofs.Files.{still_around}
-use Rattle.ss_records_entities.proofs.Cuts.{parts, prev_found, next_found, around_it, list_less}
+use Rattle.ss_records_entities.proofs.Cuts.{parts, beside_found, around_it, list_less}
 use Rattle.ss_records_entities.proofs.Still.{kept_still, set_still, owns_still, joins_still, base_room, reads_only}
 use Rattle.ss_records_entities.proofs.Ends.{room_at_first, room_at_second, few_then, nine_touches}
 use Rattle.ss_records_entities.proofs.records.Records.cut_out.Goals as goal
@@ -14,7 +14,7 @@ overflow_add-base c = base_room c.member_base-base.result c.member_base-base.ens
 
 pub follow-before-requires-clause-leads : goal.follow-before-requires-clause-leads
 follow-before-requires-clause-leads c =
-    prev_found c.args.self.now c.requires.kept c.args.s c.requires.set c.args.x c.requires.joins c.member_base-base.result c.member_base-base.ensures.at c.args.owner.number c.requires.there
+    beside_found c.args.self.now c.requires.kept c.args.s c.requires.set c.args.x c.requires.joins c.member_base-base.result c.member_base-base.ensures.at c.args.owner.number c.requires.there true
 
 pub follow-before-requires-clause-room : goal.follow-before-requires-clause-room
 follow-before-requires-clause-room c = let r = c.args.self.now in room_at_first r.blocks.touches r.blocks.total (r.blocks.touches + 1) (r.blocks.total + 1) 0 0 c.requires.touches (refl, refl)
@@ -22,7 +22,7 @@ follow-before-requires-clause-room c = let r = c.args.self.now in room_at_first 
 pub follow-after-requires : goal.follow-after-requires
 follow-after-requires c =
     record {
-      leads = rw c.follow-before.ensures.cells (next_found c.args.self.now c.requires.kept c.args.s c.requires.set c.args.x c.requires.joins c.member_base-base.result c.member_base-base.ensures.at c.args.owner.number c.requires.there);
+      leads = rw c.follow-before.ensures.cells (beside_found c.args.self.now c.requires.kept c.args.s c.requires.set c.args.x c.requires.joins c.member_base-base.result c.member_base-base.ensures.at c.args.owner.number c.requires.there false);
       room = let r = c.args.self.now in let a = c.follow-before.new.self in room_at_second r.blocks.touches r.blocks.total a.touches a.total 0 0 c.requires.touches c.follow-before.ensures.touches;
     }
 

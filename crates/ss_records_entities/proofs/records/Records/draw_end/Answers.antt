@@ -2,11 +2,10 @@ use Rattle.std.proofs.Common.{◌≡◌, ℕ, ◌+◌, List, ◌++◌, refl, sym
 use Rattle.std.specs.Prelude.{if◌then◌else◌}
 use Rattle.ss_records_entities.proofs.Common.{CanJoin, cast_signed, counter, HasLink, HasNeighbours, ints, less, link, members_of, number, state, with_list_of, word_at}
 use mir.Syntax.{w64}
-use Rattle.ss_records_entities.proofs.Looks.{as_whole, end_leads, end_small, end_value, counts, how_many}
+use Rattle.ss_records_entities.proofs.Looks.{as_whole, beside_leads, end_leads, end_small, end_value, counts, how_many}
 use Rattle.ss_records_entities.proofs.Files.{owner_words, member_words', before_word', after_word', kept_out, state_out, some_members}
 use Rattle.ss_records_entities.proofs.Cuts.{IsAtEnd, end_is, parts, around_end, list_less}
 use Rattle.ss_records_entities.proofs.Ends.{joins_it, has_it, end_taken, none_at_end}
-use Rattle.ss_records_entities.proofs.Onward.{beside_leads}
 use Rattle.ss_records_entities.proofs.Remembered.{numbered_entry}
 use Rattle.ss_records_entities.proofs.Still.{kept_still, unmoved}
 use Rattle.ss_records_entities.proofs.records.Records.draw_end.Goals as goal

@@ -1,13 +1,13 @@
 use Rattle.std.proofs.Common.{rules, ◌≡◌, ℤ, w64, to_z, of_z, true, false, refl, sym, ap, subst, ◌∙◌, arith}
 use Rattle.ss_records_entities.proofs.Common.{first_where, HasLink, member_class, members_of, ranks_past, Records, state, to_z-of_z, Whole, word_at}
-use Rattle.ss_records_entities.proofs.Looks.{first_leads}
+use Rattle.ss_records_entities.proofs.Looks.{end_leads}
 use Rattle.ss_records_entities.proofs.Cuts.{at_end}
 use Rattle.ss_records_entities.proofs.Still.{joins_still, unmoved}
 use Rattle.ss_records_entities.proofs.Passing.{at_start, room, joins, small, it_is, none_past, next_leads, next_walk}
 use Rattle.ss_records_entities.proofs.records.Records.past.Goals as goal
 
 pub follow-member-requires-clause-leads : goal.follow-member-requires-clause-leads
-follow-member-requires-clause-leads c = first_leads c.args.self.now c.requires.kept c.args.s c.requires.set c.args.owner c.requires.owns c.owner_base-first.result c.owner_base-first.ensures.at
+follow-member-requires-clause-leads c = end_leads c.args.self.now c.requires.kept c.args.s c.requires.set c.args.owner c.requires.owns c.owner_base-first.result c.owner_base-first.ensures.at false
 
 pub members-init : goal.members-init
 members-init c =

@@ -1,8 +1,8 @@
-use Rattle.std.proofs.Common.{◌≡◌, ◌+◌, true, false, refl, sym, ap, subst, ◌∙◌, arith}
+use Rattle.std.proofs.Common.{◌≡◌, ◌+◌, false, refl, sym, ap, subst, ◌∙◌, arith}
 use Rattle.std.specs.Prelude.{if◌then◌else◌}
 use Rattle.ss_records_entities.specs.Parts.{before_end, after_end}
-use Rattle.ss_records_entities.proofs.Common.{AreNeighbours, by_same, counter, false_is_not_true, HasLink, is_filed, link, members_of, number, state, word_at}
-use Rattle.ss_records_entities.proofs.Looks.{next_leads, end_leads, counts, how_many, how_many_small, is_filed_value}
+use Rattle.ss_records_entities.proofs.Common.{AreNeighbours, counter, false_is_not_true, HasLink, is_filed, link, members_of, number, state, word_at}
+use Rattle.ss_records_entities.proofs.Looks.{beside_leads, beside_free, beside_filed, end_leads, counts, how_many, how_many_small}
 use Rattle.ss_records_entities.proofs.Files.{owner_words, member_words, before_word, after_word, kept_in, state_in}
 use Rattle.ss_records_entities.proofs.Cuts.{at_end}
 use Rattle.ss_records_entities.proofs.Still.{kept_still, unmoved}
@@ -12,8 +12,7 @@ use Rattle.ss_records_entities.proofs.records.Records.put_end.Goals.{After-gap_b
 -- it is in no set of the name
 free : (c : After-gap_beside-gap) → is_filed c.args.self.now.notes.lists c.args.s c.args.x.number ≡ false
 free c =
-    let r = c.args.self.now in let q = c.look-next.result in let x = c.args.x in let same : q.number ≡ x.number = c.if-next-x.false in
-    sym (is_filed_value r c.requires.kept c.args.s c.requires.set x c.requires.joins c.member_base-member.result c.member_base-member.ensures.at q c.look-next.ensures.word c.look-next.ensures.there) ∙ by_same q.number x.number (λ z i. rw z refl) (λ z n. absurd (n same))
+    beside_free c.args.self.now c.requires.kept c.args.s c.requires.set c.args.x c.requires.joins c.member_base-member.result c.member_base-member.ensures.at c.look-next.result c.look-next.ensures.there false c.look-next.ensures.word c.if-next-x.false
 
 -- where it goes
 between : (c : After-gap_beside-gap) → AreNeighbours c.args.self.now c.args.s c.args.owner.number c.gap_beside-gap.result.before c.gap_beside-gap.result.after (before_end c.args.is_last (members_of c.args.self.now.notes.lists c.args.s c.args.owner.number)) (after_end c.args.is_last (members_of c.args.self.now.notes.lists c.args.s c.args.owner.number))
@@ -24,14 +23,13 @@ between c =
     rw (c.gap_beside-gap.ensures.before, c.gap_beside-gap.ensures.after) (at_end r c.requires.kept c.args.s c.requires.set e c.requires.owns set.result set.ensures.at q c.args.is_last w v)
 
 pub look-next-requires : goal.look-next-requires
-look-next-requires c = record { leads = next_leads c.args.self.now c.requires.kept c.args.s c.requires.set c.args.x c.requires.joins c.member_base-member.result c.member_base-member.ensures.at }
+look-next-requires c = record { leads = beside_leads c.args.self.now c.requires.kept c.args.s c.requires.set c.args.x c.requires.joins c.member_base-member.result c.member_base-member.ensures.at false }
 
 pub returns-then-next-x : goal.returns-then-next-x
 returns-then-next-x c =
     let r = c.args.self.now in let q = record r { blocks = c.start_at.new.self } in let f = c.start_at.ensures in let look = c.look-next.ensures in
     let h = unmoved r q refl (f.cells ∙ look.cells) in
-    let e = c.look-next.result in let x = c.args.x in
-    let filed : is_filed r.notes.lists c.args.s x.number ≡ true = sym (is_filed_value r c.requires.kept c.args.s c.requires.set x c.requires.joins c.member_base-member.result c.member_base-member.ensures.at e look.word look.there) ∙ by_same e.number x.number (λ z i. absurd (c.if-next-x.true i)) (λ z n. rw z refl) in
+    let filed = beside_filed r c.requires.kept c.args.s c.requires.set c.args.x c.requires.joins c.member_base-member.result c.member_base-member.ensures.at c.look-next.result look.there c.if-next-x.true false look.word in
     record {
       kept = kept_still r q h c.requires.kept;
       done = (refl, filed, ap state h);
