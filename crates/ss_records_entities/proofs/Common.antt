@@ -20,7 +20,7 @@ pub use Rattle.ss_records_blocks.proofs.Paging.{quot, rem}
 pub use Rattle.ss_records_blocks.proofs.Puts.{length-blanks, length_put, put_other, word_blank, word_here, word_other, words_new, words_without}
 pub use Rattle.ss_records_blocks.proofs.Same.{by_same, differs, false_is_not_true, same}
 pub use Rattle.ss_records_blocks.specs.Cells.{Cells, IsCounter, IsLink, IsNumber, MayBeNumber, Memory, Word, blanks, counter, link, number, put_word, with_word, without_block, word_at, word_of, words_at}
-pub use Rattle.ss_records_blocks.specs.Links.{HasLink, Slots, hooked, linked_in, unlinked_in}
+pub use Rattle.ss_records_blocks.specs.Links.{HasLink, Slots, hooked, linked_in, rewired, unlinked_in}
 pub use Rattle.ss_records_blocks.specs.Pages.{in_page}
 pub use Rattle.ss_records_blocks.specs.Places.{Numbers, living_count, row_in}
 pub use Rattle.ss_records_blocks.specs.Writes.{IsWrittenAt, owned_from}
@@ -37,7 +37,7 @@ pub use Rattle.ss_records_words.proofs.Listing.{listed}
 pub use Rattle.ss_records_words.proofs.Splice.{after_in, before_in, distinct_less, head_is, in_left, in_mid, last_is, not_and_in, not_in, pred_is, succ_cut, succ_is}
 pub use Rattle.ss_records_words.specs.Kept.{AreFormed, AreOfClass, ArePartsKept, IsPermanent, IsSmall, issued_place, numbered_place, state_of}
 pub use Rattle.ss_records_words.specs.Laid.{AreLaidTo, IsBorn, IsLaid, IsSystemLaid}
-pub use Rattle.ss_records_words.specs.Links.{AreShowing, AreSlotsApart, IsLinkedIn, IsOfMember, IsOfOwner, IsUnlinked, Words, words_of}
+pub use Rattle.ss_records_words.specs.Links.{AreShowing, AreSlotsApart, IsLinkedIn, IsOfMember, IsOfOwner, IsRewired, IsUnlinked, Words, words_of}
 pub use Rattle.ss_records_words.specs.Places.{Directory, IsListedAt, IsMade, Made, class_at_place, entity_at, listing, lying, own_or, owner_at, permanent_count, place_in_record}
 pub use Rattle.ss_records_words.specs.Plans.{is_system}
 pub use Rattle.ss_records_words.specs.Reading.{IsValuePut, class_in_words, plain, record_at, record_of, records_at, value_at, value_of_words, values_from}

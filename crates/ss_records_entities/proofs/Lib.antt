@@ -38,4 +38,3 @@ pub mod Setless
 pub mod Skims
 pub mod Spared
 pub mod Still
-pub mod UnlinkWrites
