@@ -1,5 +1,5 @@
 -- Taking the first or the last member out of a set, and the test of membership.
-use Rattle.std.proofs.Common.{◌≡◌, ℕ, zero, suc, Bool, true, false, ◌+◌, ◌≤◌, ◌<◌, ◌^◌, length, Ok, Err, refl, sym, ap, subst, ◌∙◌, arith}
+use Rattle.std.proofs.Common.{◌≡◌, ℕ, zero, suc, Bool, true, false, ◌+◌, ◌≤◌, ◌<◌, length, Ok, Err, refl, sym, ap, subst, ◌∙◌, arith}
 use Rattle.std.specs.Prelude.{if◌then◌else◌}
 use Rattle.ss_records_entities.proofs.Common.{and_then, CanJoin, contains, EntityBlock, FaultKind, first_in, get_there, head0, in_contains, IsEntityOf, IsInList, IsInPlace, IsKept, last_in, last_or, MatchResult, members_of, places, pos, Records, Result, State, state, ℤ}
 use Rattle.ss_world.specs.Sets.{joiner, less, member_in, owner, with_list_of, removed}
@@ -81,18 +81,3 @@ module _ (a A : ℕ) (none : a ≡ 0) where
   module _ (b B : ℕ) where
     pub two_at_most : (b ≤ a + 2) × (B + a ≡ A + b) → (b ≤ 2) × (B ≡ A + b)
     two_at_most more = (omega (arith, none, more.0), omega (arith, none, more.1))
-
--- of two looks and a link out
-module _ (a A b B d D : ℕ) (few : a ≤ 8) (first : (b ≡ a + 1) × (B ≡ A + 1)) where
-  pub room_at_first : a + 1 < 2 ^ 64
-  room_at_first = omega (arith, few)
-
-  pub room_at_second : b + 1 < 2 ^ 64
-  room_at_second = omega (arith, few, first.0)
-
-  module _ (second : (d ≡ b + 1) × (D ≡ B + 1)) where
-    pub few_then : d ≤ 16
-    few_then = omega (arith, few, first.0, second.0)
-
-    pub nine_touches : (f F : ℕ) → (f ≡ d + 7) × (F ≡ D + 7) → (f ≡ a + 9) × (F ≡ A + 9)
-    nine_touches f F link = (omega (arith, first.0, second.0, link.0), omega (arith, first.1, second.1, link.1))

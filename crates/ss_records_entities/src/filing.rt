@@ -3,7 +3,7 @@ ghost use Rattle.std.specs.Prelude.{◌≡◌, ℕ, ◌+◌, ◌<◌, ◌≤◌,
 ghost use Rattle.ss_world.specs.State.{State, and_then, is_filed, contains, members_of};
 ghost use Rattle.ss_world.specs.Disciplines.{first_removed, last_removed, member_test};
 ghost use Rattle.ss_world.specs.Sets.{joiner, owner, less, with_list_of, put_in, put_beside, taken_out, filed_first, filed_last, filed_before, filed_after, removed};
-ghost use Rattle.ss_records_entities.specs.Parts.{IsKept, state, uncounted, IsOwnerBlock, CanJoin, AreNeighbours, HasNeighbours, before_end, after_end};
+ghost use Rattle.ss_records_entities.specs.Parts.{IsKept, state, uncounted, IsOwnerBlock, CanJoin, AreNeighbours, before_end, after_end};
 
 use crate::records::Records;
 use crate::sets;
@@ -142,40 +142,6 @@ impl Records {
             .put_before(s, owner.number, x.number, after.number);
     }
 
-    // Unlinks x from the set of an owner, from between its neighbours: seven touches.
-    fn link_out(
-        &mut self,
-        s: usize,
-        owner: EntityBlock,
-        before: EntityBlock,
-        x: EntityBlock,
-        after: EntityBlock,
-    )
-        requires kept { IsKept self.old }
-        requires set { s < length self.old.layout.sets }
-        requires owns { IsOwnerBlock self.old s owner }
-        requires joins { CanJoin self.old s x }
-        requires around { (xs : List ℕ) × (ys : List ℕ) × HasNeighbours self.old s owner.number x.number before after xs ys }
-        requires touches { self.old.blocks.touches ≤ 16 }
-        ensures kept { IsKept self.new }
-        ensures done { (xs : List ℕ) (ys : List ℕ) → HasNeighbours self.old s owner.number x.number before after xs ys → state self.new ≡ with_list_of (state self.old) s owner.number (xs ++ ys) }
-        ensures touches { (self.new.blocks.touches ≡ self.old.blocks.touches + 7) × (self.new.blocks.total ≡ self.old.blocks.total + 7) }
-    {
-        let member = self.layout.member_base(s);
-        let set = self.layout.owner_base(s);
-        let count = self.blocks.count(owner.place, set + 2);
-        let position = LinkPosition {
-            owner: owner.place,
-            before: before.place,
-            is_first: before.number == 0,
-            after: after.place,
-            is_last: after.number == 0,
-            count,
-        };
-        self.blocks.unlink(member, set, x.place, &position);
-        self.notes.take_out(s, owner.number, x.number);
-    }
-
     /// Files x last, or first.
     #[inline(always)]
     pub fn file_end(&mut self, s: usize, o: i64, x: i64, is_last: bool) -> Result<(), FaultKind>
@@ -262,10 +228,21 @@ impl Records {
         ensures done { state self.new ≡ with_list_of (state self.old) s owner.number (less x.number (members_of self.old.notes.lists s owner.number)) }
         ensures touches { (self.new.blocks.touches ≡ self.old.blocks.touches + 9) × (self.new.blocks.total ≡ self.old.blocks.total + 9) }
     {
-        let base = self.layout.member_base(s);
-        let before = self.blocks.follow(x.place, base + 1);
-        let after = self.blocks.follow(x.place, base);
-        self.link_out(s, owner, before, x, after);
+        let member = self.layout.member_base(s);
+        let set = self.layout.owner_base(s);
+        let before = self.blocks.follow(x.place, member + 1);
+        let after = self.blocks.follow(x.place, member);
+        let count = self.blocks.count(owner.place, set + 2);
+        let position = LinkPosition {
+            owner: owner.place,
+            before: before.place,
+            is_first: before.number == 0,
+            after: after.place,
+            is_last: after.number == 0,
+            count,
+        };
+        self.blocks.unlink(member, set, x.place, &position);
+        self.notes.take_out(s, owner.number, x.number);
     }
 
     /// Takes the last member out of a set, or the first, and answers it.
