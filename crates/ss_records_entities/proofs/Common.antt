@@ -34,7 +34,7 @@ pub use Rattle.ss_records_entities.specs.declared.records.Records.{Records}
 pub use Rattle.ss_records_words.proofs.Disjoint.{above_head, entry_of, is_of, owner_inside}
 pub use Rattle.ss_records_words.proofs.Filed.{above_zero, contains_in, filed_or_not, in_contains, not_filed_in}
 pub use Rattle.ss_records_words.proofs.Listing.{listed}
-pub use Rattle.ss_records_words.proofs.Splice.{after_in, before_in, distinct_less, head_is, in_left, in_mid, last_is, not_and_in, not_in, pred_is, succ_cut, succ_is}
+pub use Rattle.ss_records_words.proofs.Splice.{after_in, before_in, distinct_less, head_is, in_left, in_mid, last_is, not_and_in, not_in, pred_is, succ_is}
 pub use Rattle.ss_records_words.specs.Kept.{AreFormed, AreOfClass, ArePartsKept, IsPermanent, IsSmall, issued_place, numbered_place, state_of}
 pub use Rattle.ss_records_words.specs.Laid.{AreLaidTo, IsBorn, IsLaid, IsSystemLaid}
 pub use Rattle.ss_records_words.specs.Links.{AreShowing, AreSlotsApart, IsLinkedIn, IsOfMember, IsOfOwner, IsRewired, IsUnlinked, Words, words_of}
@@ -45,7 +45,7 @@ pub use Rattle.ss_records_words.specs.Shape.{block_words, count_before, count_se
 pub use Rattle.ss_records_words.specs.Slotted.{AreSpared, IsEntityOf, IsNameKept, IsOfName, MayOwn, member_base, owner_base, slots_of}
 pub use Rattle.ss_world.specs.Disciplines.{member_test}
 pub use Rattle.ss_world.specs.Lists.{AreAllDistinct, IsInList, IsNotInList, head0, last_or, pred_from, succ, with_list}
-pub use Rattle.ss_world.specs.Sets.{first_in, follower, joiner, last_in, less, member_class, member_in, next_in, owner, owner_by, owner_in, owner_kind, precursor, previous_in, put_after, put_before, put_in, taken_out, with_list_of}
+pub use Rattle.ss_world.specs.Sets.{first_in, follower, joiner, last_in, less, member_class, member_in, owner, owner_by, owner_in, owner_kind, precursor, put_after, put_before, taken_out, with_list_of}
 pub use Rattle.ss_world.specs.State.{LAST_NUMBER, Members, Record, State, and_then, assigned, contains, created, created_all, destroyed, entity_in, entity_of_kind, first_record, has_members, in_a_set, indexed, is_filed, is_notice, kind_in, kind_of, let_go, members_of, modes_of, no_value, number_in, numbered_record, of_class, owner_of, owns_members, record_with_value, time_in, timed, value_in, with_made, with_members, with_time}
 pub use Rattle.std.proofs.lemmas.Bool.{lt-ltb}
 pub use Rattle.std.proofs.lemmas.Int.{ints, to_z-of_z}

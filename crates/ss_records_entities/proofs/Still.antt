@@ -39,9 +39,6 @@ module _ (r q : Records) (h : uncounted q ≡ uncounted r) where
 pub few_fields : (l : Layout) (c f : ℕ) (m : Mode) → IsSmall l → slice_get (modes_of l c) f ≡ Some m → f < 1048576
 few_fields l c f m h g = omega (arith, h.fields c, slice_get_within (modes_of l c) f m g)
 
-pub base_room : (n : ℕ) → n ≤ 5242883 → Fits w64 (n + 1)
-base_room n h = omega (arith, h)
-
 pub base_room2 : (n : ℕ) → n ≤ 5242883 → Fits w64 (n + 2)
 base_room2 n h = omega (arith, h)
 
