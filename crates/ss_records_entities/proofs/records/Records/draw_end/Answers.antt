@@ -99,11 +99,11 @@ returns c =
       kept = rw (c.unlink.ensures.cells, c.start_at-2.ensures.cells, c.peek_count-count.ensures.cells, c.look-next.ensures.cells, c.look-end.ensures.cells, c.take_out.ensures, c.keep.ensures) (kept_out r k c.args.s c.requires.set e q own mem.result set.result mem.ensures.at set.ensures.at j gap.before gap.after w.0 w.1 w.2 c.peek_count-count.result many);
       done = λ o om.
           let new = record r { blocks = c.unlink.new.self; notes = c.take_out.new.self; directory = c.keep.new.directory } in
-          let out : state new ≡ with_list_of (state r) c.args.s e.number (w.0 ++ w.1) = rw (c.unlink.ensures.cells, c.start_at-2.ensures.cells, c.peek_count-count.ensures.cells, c.look-next.ensures.cells, c.look-end.ensures.cells, c.take_out.ensures, c.keep.ensures) (state_out r k c.args.s c.requires.set e q own mem.result set.result mem.ensures.at set.ensures.at j gap.before gap.after w.0 w.1 w.2 c.peek_count-count.result many) in
+          let out : (xs ys : List ℕ) → HasNeighbours r c.args.s e.number q.number gap.before gap.after xs ys → state new ≡ with_list_of (state r) c.args.s e.number (xs ++ ys) = λ xs ys near. rw (c.unlink.ensures.cells, c.start_at-2.ensures.cells, c.peek_count-count.ensures.cells, c.look-next.ensures.cells, c.look-end.ensures.cells, c.take_out.ensures, c.keep.ensures) (state_out r k c.args.s c.requires.set e q own mem.result set.result mem.ensures.at set.ensures.at j gap.before gap.after xs ys near c.peek_count-count.result many) in
           let found = sym (end_value r k c.args.s c.requires.set e own set.result set.ensures.at q c.look-end.ensures.there c.args.is_last (led a) o om) in
           let is = as_whole q.number q.number refl (end_small r k c.args.s c.requires.set e own set.result set.ensures.at q c.look-end.ensures.there c.args.is_last (led a)) in
           end_taken r k c.args.s c.requires.set e.number q m.lies m.inn c.args.is_last o (cast_signed w64 q.number) (state new) om found is
-          (out ∙ ap (with_list_of (state r) c.args.s e.number) w.3);
+          (out w.0 w.1 w.2 ∙ ap (with_list_of (state r) c.args.s e.number) w.3);
       touches =
           let first = c.look-end.ensures.touches in let second = c.look-next.ensures.touches in let third = c.peek_count-count.ensures.touches in let at = c.start_at-2.ensures.touches in
           let out = c.unlink.ensures.touches in
