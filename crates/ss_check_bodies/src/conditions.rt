@@ -1,6 +1,6 @@
 //! Conditions with their names resolved.
 
-ghost use Rattle.std.specs.Prelude.{List, map};
+ghost use Rattle.std.specs.Prelude.{List};
 ghost use Rattle.ss_tree.specs.Tree.{TestTree};
 ghost use Rattle.ss_tree.specs.View.{view_condition_tree, view_conjunction_tree, view_test_tree};
 ghost use Rattle.ss_program.specs.Program.{Test as TestSeen};
@@ -91,29 +91,12 @@ impl FromTree for ResolvedConjunction {
         resolver: &Resolver<'_>,
         tree: &Conjunction,
     ) -> Result<ResolvedConjunction, ResolveError> {
-        let tests = resolver.resolve_tests(&tree.tests)?;
+        let tests = resolver.resolve_each::<ResolvedTest>(tree.tests.as_slice())?;
         Ok(ResolvedConjunction { tests })
     }
 }
 
 impl Resolver<'_> {
-    // Tests joined by AND.
-    fn resolve_tests(&self, trees: &[Test]) -> Result<Vec<ResolvedTest>, ResolveError>
-        ensures { HasGiven (λ v. map test_seen v.items) result (conjunction (scope_in self.now) (map view_test_tree trees.now)) }
-    {
-        self.resolve_each(trees)
-    }
-
-    // Conjunctions joined by OR.
-    fn resolve_alternatives(
-        &self,
-        trees: &[Conjunction],
-    ) -> Result<Vec<ResolvedConjunction>, ResolveError>
-        ensures { HasGiven (λ v. map conjunction_seen v.items) result (condition (scope_in self.now) (map view_conjunction_tree trees.now)) }
-    {
-        self.resolve_each(trees)
-    }
-
     /// A condition.
     pub(crate) fn resolve_condition(
         &self,
@@ -121,7 +104,7 @@ impl Resolver<'_> {
     ) -> Result<ResolvedCondition, ResolveError>
         ensures { HasGiven condition_seen result (condition (scope_in self.now) (view_condition_tree tree.now)) }
     {
-        let alternatives = self.resolve_alternatives(&tree.alternatives)?;
+        let alternatives = self.resolve_each::<ResolvedConjunction>(tree.alternatives.as_slice())?;
         Ok(ResolvedCondition { alternatives })
     }
 }

@@ -7,7 +7,7 @@ ghost use Rattle.std.specs.Option.{option_map};
 ghost use Rattle.ss_program.specs.Program.{Guard as GuardSeen, Phrase as PhraseSeen};
 ghost use Rattle.ss_program.specs.View.{view_expression as view_resolved, view_guard as guard_seen, view_head as head_seen, view_phrase as phrase_seen, view_start as start_seen};
 ghost use Rattle.std.specs.Option.{option_map as option_seen};
-ghost use Rattle.ss_names_meaning.specs.Answers.{HasGiven, each, if_there};
+ghost use Rattle.ss_names_meaning.specs.Answers.{HasGiven, if_there};
 ghost use Rattle.ss_names_meaning.specs.Expressions.{expression};
 ghost use Rattle.ss_names_meaning.specs.Heads.{called_variable, guard, head, phrases_of, resolved_phrase, resolved_start};
 ghost use Rattle.ss_check_bodies.specs.Results.{scope_in};
@@ -80,27 +80,6 @@ impl FromTree for ResolvedGuard {
 }
 
 impl Resolver<'_> {
-    // ---- conditions of loops
-
-    /// Phrases.
-    pub(crate) fn resolve_phrases(
-        &self,
-        trees: &[Phrase],
-    ) -> Result<Vec<ResolvedPhrase>, ResolveError>
-        ensures { HasGiven (λ v. map phrase_seen v.items) result (each (resolved_phrase (scope_in self.now)) (map view_phrase_tree trees.now)) }
-    {
-        self.resolve_each(trees)
-    }
-
-    /// The conditions of a loop that begins with WHILE or UNTIL.
-    pub(crate) fn resolve_guards(&self, trees: &[Guard]) -> Result<Vec<ResolvedGuard>, ResolveError>
-        ensures { HasGiven (λ v. map guard_seen v.items) result (each (guard (scope_in self.now)) (map view_guard_tree trees.now)) }
-    {
-        self.resolve_each(trees)
-    }
-
-    // ---- what a FOR goes over
-
     // The variable after CALLED, or else that of the class.
     fn called_variable(
         &self,

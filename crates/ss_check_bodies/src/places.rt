@@ -1,13 +1,13 @@
 //! Targets, sets and statistics with their names resolved.
 
-ghost use Rattle.std.specs.Prelude.{◌≡◌, map, None};
+ghost use Rattle.std.specs.Prelude.{◌≡◌, None};
 ghost use Rattle.ss_tree.specs.Tree.{NamedTree};
 ghost use Rattle.ss_tree.specs.View.{view_expression_tree, view_named, view_position_tree};
 ghost use Rattle.std.specs.Option.{option_map};
 ghost use Rattle.ss_program.specs.Program.{InputTarget as TargetSeen, Place as PlaceSeen, Restart as RestartSeen};
 ghost use Rattle.ss_program.specs.View.{view_expression as view_resolved, view_owner, view_place, view_position as position_seen, view_restart, view_target};
 ghost use Rattle.std.specs.Option.{option_map as option_seen};
-ghost use Rattle.ss_names_meaning.specs.Answers.{HasGiven, each};
+ghost use Rattle.ss_names_meaning.specs.Answers.{HasGiven};
 ghost use Rattle.ss_names_meaning.specs.Expressions.{set_owner, place_of, set_named, set_number, set_of_name, target};
 ghost use Rattle.ss_names_meaning.specs.Statements.{entity_called, new_place, position, reader, restart};
 ghost use Rattle.ss_check_bodies.specs.Results.{scope_in};
@@ -142,20 +142,6 @@ impl Resolver<'_> {
         place_of(meaning, entity)
     }
 
-    /// Targets.
-    pub(crate) fn resolve_targets(&self, trees: &[Named]) -> Result<Vec<Place>, ResolveError>
-        ensures { HasGiven (λ v. map view_place v.items) result (each (target (scope_in self.now)) (map view_named trees.now)) }
-    {
-        self.resolve_each(trees)
-    }
-
-    /// The targets of READ.
-    pub(crate) fn resolve_readers(&self, trees: &[Named]) -> Result<Vec<InputTarget>, ResolveError>
-        ensures { HasGiven (λ v. map view_target v.items) result (each (reader (scope_in self.now)) (map view_named trees.now)) }
-    {
-        self.resolve_each(trees)
-    }
-
     /// What takes the number of a new entity: the target after CALLED, or else the variable of the class.
     pub(crate) fn resolve_new_place(
         &self,
@@ -225,14 +211,5 @@ impl Resolver<'_> {
                 Ok(ResolvedPosition::AfterMember { member })
             }
         }
-    }
-
-    // ---- statistics
-
-    /// The statistics of a RESET.
-    pub(crate) fn resolve_restarts(&self, trees: &[Named]) -> Result<Vec<Restart>, ResolveError>
-        ensures { HasGiven (λ v. map view_restart v.items) result (each (restart (scope_in self.now)) (map view_named trees.now)) }
-    {
-        self.resolve_each(trees)
     }
 }
