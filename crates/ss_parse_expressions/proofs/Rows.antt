@@ -1,11 +1,13 @@
 -- Rows of what a reader reads.
 use Rattle.std.proofs.Common.{◌≡◌, ℕ, zero, suc, ◌<◌, ◌≤◌, Bool, true, false, ◌||◌, List, [], ◌∷◌, ◌++◌, length, map, drop, Result, Ok, Err, refl, sym, ap, subst, ◌∙◌, append_assoc, arith, inl, inr}
 use Rattle.std.proofs.lemmas.List.{append-nil, map_push}
+use Rattle.std.specs.Global.{Vec}
 use Rattle.ss_parse_expressions.proofs.Common.{Line, openers, ParseFault, Span, Token}
 use Rattle.ss_parse_expressions.specs.declared.failure.ParseFailure.{ParseFailure}
 use Rattle.ss_parse_expressions.specs.declared.failure.ParseFailure.TheVariants as failures
-use Rattle.ss_parse_expressions.specs.Reading.{Reader, ◌>>=◌, HasFailedReading, row, rows, first_and, comma, word, begins, skip, skip_separator, begins_more, list_of, kind_of_mark}
+use Rattle.ss_parse_expressions.specs.Reading.{Reader, ◌>>=◌, HasFailedReading, HasGivenReading, row, rows, first_and, comma, word, begins, skip, skip_separator, begins_more, list_of, kind_of_mark}
 use Rattle.ss_lex.specs.declared.word.Word.TheVariants as words
+use Rattle.ss_parse_expressions.specs.Steps.{AreJoined}
 use Rattle.ss_parse_expressions.specs.Shapes as shapes
 use Rattle.ss_parse_expressions.specs.Shapes.{Shape, ◌▷◌, nothing, never, either_shape, each_in_turn, separated_list, separator}
 use Rattle.ss_parse_expressions.proofs.Tools.{bind_ok, which, chosen, carry, or_false, and_true, ok_or_err}
@@ -278,6 +280,17 @@ module _ {A : Type 0} {starts : List Token → Bool} {item : Reader A} (loop : L
   pub breaks_plain : (read : List A) (ts : List Token) (e : ParseFailure) (total : Result (List A × List Token) ParseFault) → starts ts ≡ true → HasFailedReading e (item ts) → with_front read (rows starts item ts) ≡ total → HasFailedReading e total
   breaks_plain read ts failures.Memory total started f so_far = tt
   breaks_plain read ts (failures.Refused f left) total started e so_far = sym so_far ∙ ap (with_front read) (rows_fail starts item loop.at_end loop.shrinks ts f started e)
+
+-- ---- what goes to the end of what was read
+
+-- what was read next
+pub next_read : {X Y : Type 0} (view : X → Y) (r : Result X ParseFailure) (read : Result Y ParseFault) (x : X) → HasGivenReading view r read → r ≡ Ok x → read ≡ Ok (view x)
+next_read view r read x h is = subst (λ z. HasGivenReading view z read) is h
+
+-- what was to be read next failed
+pub next_fails : {A B Y : Type 0} (view : A × B → Y) (before : Vec A) (r : Result (A × B) ParseFailure) (read : Result Y ParseFault) (e : ParseFailure) → HasGivenReading view r read → AreJoined before r (Err e) → HasFailedReading e read
+next_fails view before r read e h (inl is) = subst (λ z. HasFailedReading z read) (sym is) tt
+next_fails view before r read e h (inr is) = subst (λ z. HasGivenReading view z read) is h
 
 -- r leaves all tokens but the first, and these are all but the first
 pub first_taken : {A : Type 0} (r : Result (A × List Token) ParseFault) (x : A) (ts rest : List Token) → r ≡ Ok (x, drop 1 ts) → rest ≡ drop 1 ts → r ≡ Ok (x, rest)
