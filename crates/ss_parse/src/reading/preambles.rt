@@ -14,7 +14,7 @@ use ss_lex::{Symbol, Token, TokenKind, Word};
 use ss_parse_expressions::classes::{WordClass, skip_class};
 use ss_parse_expressions::failure::ParseFailure;
 use ss_parse_expressions::names::{begins_name, items, name, names};
-use ss_parse_expressions::steps::{alone, beside};
+use ss_parse_expressions::steps::{alone, beside, joined};
 use ss_parse_expressions::tables::{begins_word_of, take_word_of};
 use ss_parse_expressions::tokens::{
     after_first, begins_symbol, begins_word, expect_word, skip_separator, skip_word, syntax,
@@ -165,8 +165,8 @@ fn clause_list(alloc: Global, tokens: &[Token]) -> Result<(Vec<Clause>, &[Token]
     let (first, mut rest) = clause(alloc, tokens)?;
     let mut all = alone(alloc, first)?;
     'more: while begins_more_clauses(rest) {
-        let (next, after) = clause(alloc, skip_separator(rest))?;
-        all.push(next)?;
+        let (longer, after) = joined(all, clause(alloc, skip_separator(rest)))?;
+        all = longer;
         rest = after;
     }
     Ok((all, rest))

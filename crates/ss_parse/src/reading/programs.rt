@@ -15,7 +15,7 @@ use ss_parse_expressions::classes::{WordClass, skip_class};
 use ss_parse_expressions::failure::ParseFailure;
 use ss_parse_expressions::names::{name, names};
 use ss_parse_expressions::nesting::levels;
-use ss_parse_expressions::steps::beside;
+use ss_parse_expressions::steps::{beside, joined};
 use ss_parse_expressions::tokens::{after_first, begins_word, expect_word, skip_word, syntax};
 use ss_parse_statements::statements::statements;
 use ss_tree::preamble::ModeWord;
@@ -147,8 +147,8 @@ fn definitions(
     let mut all = Vec::new(alloc);
     let mut rest = tokens;
     'more: while begins_word(rest, Word::Define) {
-        let (next, after) = definition(alloc, rest)?;
-        all.push(next)?;
+        let (longer, after) = joined(all, definition(alloc, rest))?;
+        all = longer;
         rest = after;
     }
     Ok((all, rest))
@@ -227,8 +227,8 @@ fn sections(
     let mut all = Vec::new(alloc);
     let mut rest = tokens;
     'more: while begins_section(rest) {
-        let (next, after) = section(alloc, rest, room)?;
-        all.push(next)?;
+        let (longer, after) = joined(all, section(alloc, rest, room))?;
+        all = longer;
         rest = after;
     }
     Ok((all, rest))
