@@ -3,7 +3,7 @@
 ghost use Rattle.std.specs.Prelude.{◌≡◌, None, map};
 ghost use Rattle.ss_tree.specs.View.{view_clause, view_order, view_preamble};
 ghost use Rattle.ss_parse_expressions.specs.Reading.{HasGivenReading, word, begins, expect, after_dropped, closed, maybe_list, begins_more, taken, in_table};
-ghost use Rattle.ss_lex.specs.declared.word.Word.TheVariants.{Include, Variable};
+ghost use Rattle.ss_lex.specs.declared.word.Word.TheVariants.{Variable};
 ghost use Rattle.ss_parse_expressions.specs.ReadWords.{begins_name, names};
 ghost use Rattle.ss_parse.specs.SpelledPreambles.{group_after};
 ghost use Rattle.ss_parse_expressions.specs.WordTables.{mode_of_word, rank_of};
@@ -230,14 +230,18 @@ fn temporary(line: Line, tokens: &[Token]) -> Result<(PreambleStatement, &[Token
     Ok((PreambleStatement::TemporaryEntities { line }, rest))
 }
 
-/// The classes that EVENT NOTICES includes, if there are any.
-fn included(alloc: Global, tokens: &[Token]) -> Result<(Vec<Name>, &[Token]), ParseFailure>
-    ensures { HasGivenReading (λ x. (x.0.items, x.1.now)) result (maybe_list (begins (word Include)) (after_dropped (expect (word Include)) names) tokens.now) }
+/// The names after this word, if it is there.
+pub fn names_after(
+    alloc: Global,
+    tokens: &[Token],
+    wanted: Word,
+) -> Result<(Vec<Name>, &[Token]), ParseFailure>
+    ensures { HasGivenReading (λ x. (x.0.items, x.1.now)) result (maybe_list (begins (word wanted)) (after_dropped (expect (word wanted)) names) tokens.now) }
 {
-    if !begins_word(tokens, Word::Include) {
+    if !begins_word(tokens, wanted) {
         return Ok((Vec::new(alloc), tokens));
     }
-    names(alloc, skip_word(tokens, Word::Include))
+    names(alloc, skip_word(tokens, wanted))
 }
 
 /// The rest of EVENT NOTICES, after its first word.
@@ -250,7 +254,7 @@ fn notices(
     ensures { HasGivenReading (λ x. (view_preamble x.0, x.1.now)) result (notices_at line tokens.now) }
 {
     let rest = expect_word(tokens, Word::Notices)?;
-    let (included, rest) = included(alloc, rest)?;
+    let (included, rest) = names_after(alloc, rest, Word::Include)?;
     Ok((PreambleStatement::EventNotices { line, included }, rest))
 }
 

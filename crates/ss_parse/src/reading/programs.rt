@@ -4,11 +4,10 @@ ghost use Rattle.std.specs.Prelude.{◌≡◌, map};
 ghost use Rattle.ss_parse_expressions.specs.Openers.{nesting_limit};
 ghost use Rattle.ss_parse_expressions.specs.Shapes.{first_token_line};
 ghost use Rattle.ss_tree.specs.View.{view_definition, view_kind, view_statement_tree, view_section, view_program_tree};
-ghost use Rattle.ss_parse_expressions.specs.Reading.{HasGivenReading, word, begins, expect, after_dropped, maybe_list, rows};
-ghost use Rattle.ss_parse_expressions.specs.ReadWords.{names};
+ghost use Rattle.ss_parse_expressions.specs.Reading.{HasGivenReading, rows};
 ghost use Rattle.ss_parse.specs.ReadPrograms.{begins_section, saving, routine_kind, event_kind, kind_after, variables, definition, definitions, body_in, section_at, section_in, program_in, program_of};
 
-use crate::reading::preambles::{preamble, variable_mode};
+use crate::reading::preambles::{names_after, preamble, variable_mode};
 use ss_base::{Line, Name};
 use ss_lex::{Token, TokenKind, Word};
 use ss_parse_expressions::classes::{WordClass, skip_class};
@@ -31,20 +30,6 @@ fn line_at(tokens: &[Token]) -> Line
         [] => Line(0),
         [first, ..] => first.line,
     }
-}
-
-/// The names after this word, if it is there.
-fn names_after(
-    alloc: Global,
-    tokens: &[Token],
-    wanted: Word,
-) -> Result<(Vec<Name>, &[Token]), ParseFailure>
-    ensures { HasGivenReading (λ x. (x.0.items, x.1.now)) result (maybe_list (begins (word wanted)) (after_dropped (expect (word wanted)) names) tokens.now) }
-{
-    if !begins_word(tokens, wanted) {
-        return Ok((Vec::new(alloc), tokens));
-    }
-    names(alloc, skip_word(tokens, wanted))
 }
 
 /// Whether SAVING THE EVENT NOTICE is first.
