@@ -6,7 +6,7 @@ ghost use Rattle.ss_parse_expressions.specs.Reading.{HasGivenReading, word, begi
 ghost use Rattle.ss_lex.specs.declared.word.Word.TheVariants.{Variable};
 ghost use Rattle.ss_parse_expressions.specs.ReadWords.{begins_name, names};
 ghost use Rattle.ss_parse.specs.SpelledPreambles.{group_after};
-ghost use Rattle.ss_parse_expressions.specs.WordTables.{mode_of_word, rank_of};
+ghost use Rattle.ss_parse_expressions.specs.WordTables.{mode_of_word};
 ghost use Rattle.ss_parse.specs.ReadPreambles.{then_rank, keys, statistic_kind, found, clause, begins_clause, clause_list, clauses, ranking, order, permanent_at, temporary_at, notices_at, every_at, normally_at, system_at, define_end, define_at, priority_at, break_at, statistics_at, preamble_at, begins_preamble, preamble_in, preambles, whole_preamble};
 
 use ss_base::{Line, Name};
@@ -27,27 +27,13 @@ use ss_tree::preamble::{
 };
 use std::alloc::Global;
 
-/// A mode.
-fn mode(tokens: &[Token]) -> Result<(ModeWord, &[Token]), ParseFailure>
-    ensures { HasGivenReading (λ x. (x.0, x.1.now)) result (taken (in_table mode_of_word) tokens.now) }
-{
-    take_word_of::<ModeWords>(tokens)
-}
-
 /// The end of a DEFINE of variables: a mode.
 pub fn variable_mode(tokens: &[Token]) -> Result<(ModeWord, &[Token]), ParseFailure>
     ensures { HasGivenReading (λ x. (x.0, x.1.now)) result (closed (taken (in_table mode_of_word)) (expect (word Variable)) tokens.now) }
 {
-    let (mode, rest) = mode(tokens)?;
+    let (mode, rest) = take_word_of::<ModeWords>(tokens)?;
     let rest = expect_word(rest, Word::Variable)?;
     Ok((mode, rest))
-}
-
-/// HIGH or LOW.
-fn rank(tokens: &[Token]) -> Result<(bool, &[Token]), ParseFailure>
-    ensures { HasGivenReading (λ x. (x.0, x.1.now)) result (taken (in_table rank_of) tokens.now) }
-{
-    take_word_of::<RankWords>(tokens)
 }
 
 /// A clause of an EVERY.
@@ -76,7 +62,7 @@ fn then_rank(tokens: &[Token]) -> Result<(bool, &[Token]), ParseFailure>
 {
     let rest = expect_noisy(tokens, Word::Then)?;
     let rest = expect_word(rest, Word::By)?;
-    rank(rest)
+    take_word_of::<RankWords>(rest)
 }
 
 /// Keys, the further ones after THEN BY.
@@ -84,7 +70,7 @@ fn then_rank(tokens: &[Token]) -> Result<(bool, &[Token]), ParseFailure>
 fn keys(alloc: Global, tokens: &[Token]) -> Result<(Vec<NamedKey>, &[Token]), ParseFailure>
     ensures { HasGivenReading (λ x. (x.0.items, x.1.now)) result (keys tokens.now) }
 {
-    let (high, from) = rank(tokens)?;
+    let (high, from) = take_word_of::<RankWords>(tokens)?;
     let first = name(from)?;
     let mut all = alone(alloc, NamedKey { high, name: first })?;
     let mut rest = after_first(from);
@@ -291,7 +277,7 @@ fn normally(line: Line, tokens: &[Token]) -> Result<(PreambleStatement, &[Token]
 {
     let rest = expect_noisy(tokens, Word::Mode)?;
     let rest = expect_word(rest, Word::Is)?;
-    let (mode, rest) = mode(rest)?;
+    let (mode, rest) = take_word_of::<ModeWords>(rest)?;
     Ok((PreambleStatement::Normally { line, mode }, rest))
 }
 
