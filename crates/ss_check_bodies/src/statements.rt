@@ -17,7 +17,7 @@ use ss_names::{Meaning, RoutineSection};
 use ss_names_declarations::value_at;
 use ss_names_meaning::ResolveError;
 use ss_names_uses::ClassNeed;
-use ss_program::statement::{InputTarget, Place, Restart, Statement as Resolved};
+use ss_program::statement::{CountedClass, InputTarget, Place, Restart, Statement as Resolved};
 use ss_tree::expression::{Expression, Named};
 use ss_tree::statement::Statement;
 use std::alloc::{AllocError, Global};
@@ -178,7 +178,7 @@ impl Resolver<'_> {
                 })
             }
             Statement::CreateEvery { line, classes } => {
-                let counted = self.all_counted(classes)?;
+                let counted = self.resolve_each::<CountedClass>(classes.as_slice())?;
                 Ok(Resolved::CreateEvery {
                     line: *line,
                     classes: counted,
