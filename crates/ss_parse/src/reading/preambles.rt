@@ -4,7 +4,7 @@ ghost use Rattle.std.specs.Prelude.{◌≡◌, None, map};
 ghost use Rattle.ss_tree.specs.View.{view_clause, view_order, view_preamble};
 ghost use Rattle.ss_parse_expressions.specs.Reading.{HasGivenReading, word, begins, expect, after_dropped, closed, maybe_list, begins_more, taken, in_table};
 ghost use Rattle.ss_lex.specs.declared.word.Word.TheVariants.{Variable};
-ghost use Rattle.ss_parse_expressions.specs.ReadWords.{begins_name, names};
+ghost use Rattle.ss_parse_expressions.specs.ReadWords.{names};
 ghost use Rattle.ss_parse.specs.SpelledPreambles.{group_after};
 ghost use Rattle.ss_parse_expressions.specs.WordTables.{mode_of_word};
 ghost use Rattle.ss_parse.specs.ReadPreambles.{then_rank, keys, statistic_kind, found, clause, begins_clause, clause_list, clauses, ranking, order, permanent_at, temporary_at, notices_at, every_at, normally_at, system_at, define_end, define_at, priority_at, break_at, statistics_at, preamble_at, begins_preamble, preamble_in, preambles, whole_preamble};
@@ -13,7 +13,7 @@ use ss_base::{Line, Name};
 use ss_lex::{Symbol, Token, TokenKind, Word};
 use ss_parse_expressions::classes::{WordClass, skip_class};
 use ss_parse_expressions::failure::ParseFailure;
-use ss_parse_expressions::names::{begins_name, items, name, names};
+use ss_parse_expressions::names::{begins_more_names, items, name, names};
 use ss_parse_expressions::steps::{alone, beside, joined};
 use ss_parse_expressions::tables::{begins_word_of, take_word_of};
 use ss_parse_expressions::tokens::{
@@ -94,14 +94,6 @@ fn statistic_kind(tokens: &[Token]) -> Result<(StatisticKind, &[Token]), ParseFa
     take_word_of::<StatisticWords>(skip_word(rest, Word::The))
 }
 
-/// Whether a separator and then a name follow.
-fn begins_more_statistics(tokens: &[Token]) -> bool
-    ensures { result ≡ begins_more begins_name tokens.now }
-{
-    (begins_symbol(tokens, Symbol::Comma) || begins_word(tokens, Word::And))
-        && begins_name(skip_separator(tokens))
-}
-
 /// Statistics with separators between.
 #[tactic(auto, unfolding(crate::specs::ReadPreambles::statistic))]
 fn found(alloc: Global, tokens: &[Token]) -> Result<(Vec<NamedStatistic>, &[Token]), ParseFailure>
@@ -110,7 +102,7 @@ fn found(alloc: Global, tokens: &[Token]) -> Result<(Vec<NamedStatistic>, &[Toke
     let first = name(tokens)?;
     let (kind, mut rest) = statistic_kind(after_first(tokens))?;
     let mut all = alone(alloc, NamedStatistic { name: first, kind })?;
-    'more: while begins_more_statistics(rest) {
+    'more: while begins_more_names(rest) {
         let from = skip_separator(rest);
         let next = name(from)?;
         let (measure, after) = statistic_kind(after_first(from))?;
