@@ -62,8 +62,8 @@ returns c =
       kept = rw (c.unlink.ensures.cells, c.count-count.ensures.cells, c.follow-after.ensures.cells, c.follow-before.ensures.cells, c.take_out.ensures) (kept_out r k c.args.s c.requires.set e x own mem.result set.result mem.ensures.at set.ensures.at c.requires.joins a z w.0 w.1 w.2 c.count-count.result many);
       done =
           let new = record r { blocks = c.unlink.new.self; notes = c.take_out.new.self } in
-          let out : state new ≡ with_list_of (state r) c.args.s e.number (w.0 ++ w.1) = rw (c.unlink.ensures.cells, c.count-count.ensures.cells, c.follow-after.ensures.cells, c.follow-before.ensures.cells, c.take_out.ensures) (state_out r k c.args.s c.requires.set e x own mem.result set.result mem.ensures.at set.ensures.at c.requires.joins a z w.0 w.1 w.2 c.count-count.result many) in
-          out ∙ ap (with_list_of (state r) c.args.s e.number) w.3;
+          let out : (xs ys : List ℕ) → HasNeighbours r c.args.s e.number x.number a z xs ys → state new ≡ with_list_of (state r) c.args.s e.number (xs ++ ys) = λ xs ys near. rw (c.unlink.ensures.cells, c.count-count.ensures.cells, c.follow-after.ensures.cells, c.follow-before.ensures.cells, c.take_out.ensures) (state_out r k c.args.s c.requires.set e x own mem.result set.result mem.ensures.at set.ensures.at c.requires.joins a z xs ys near c.count-count.result many) in
+          out w.0 w.1 w.2 ∙ ap (with_list_of (state r) c.args.s e.number) w.3;
       touches =
           let first = c.follow-before.ensures.touches in let second = c.follow-after.ensures.touches in let third = c.count-count.ensures.touches in let out = c.unlink.ensures.touches in
           (omega (arith, first.0, second.0, third.0, out.0), omega (arith, first.1, second.1, third.1, out.1));
