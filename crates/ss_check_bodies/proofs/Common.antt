@@ -16,7 +16,7 @@ pub use Rattle.ss_program.specs.Program.{Expression}
 pub use Rattle.ss_program.specs.View.{view_body, view_item}
 pub use Rattle.ss_program.specs.Views.{with_operation}
 pub use Rattle.ss_tree.specs.Tree.{HeadTree, expression_row, statement_row, term_row}
-pub use Rattle.ss_tree.specs.View.{view_guard_tree, view_named, view_term}
+pub use Rattle.ss_tree.specs.View.{view_term}
 unfoldable pub use Rattle.ss_tree.specs.View.{view_expression_tree}
 pub use Rattle.std.proofs.lemmas.List.{map-append, take_more}
 pub use Rattle.std.specs.Global.{Vec}

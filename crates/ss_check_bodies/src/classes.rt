@@ -1,12 +1,14 @@
 //! Classes by the kind that their place needs.
 
 ghost use Rattle.std.specs.Prelude.{◌≡◌};
-ghost use Rattle.ss_names_meaning.specs.Answers.{HasGiven, each};
+ghost use Rattle.ss_tree.specs.Names.{NameBytes};
+ghost use Rattle.ss_program.specs.declared.statement.CountedClass.{CountedClass as CountedSeen};
+ghost use Rattle.ss_names_meaning.specs.Answers.{HasGiven};
 ghost use Rattle.ss_names_meaning.specs.Classes.{class_named, class_number, count_of, counted, variable_named};
 ghost use Rattle.ss_check_bodies.specs.Results.{scope_in};
 
+use crate::lists::FromTree;
 use crate::resolver::Resolver;
-use crate::results::followed;
 use ss_base::{Name, Spelling};
 use ss_names::Meaning;
 use ss_names_meaning::{NamedClass, ResolveError};
@@ -41,6 +43,27 @@ fn count_of(meaning: Option<Meaning>) -> Option<CountedClass>
     }
 }
 
+impl FromTree for CountedClass {
+    type Tree = Name;
+
+    ghost TreeSeen = { NameBytes };
+
+    ghost tree_seen = { λ name. name };
+
+    ghost Seen = { CountedSeen };
+
+    ghost seen = { λ class. class };
+
+    ghost meaning = { counted };
+
+    fn from_tree(resolver: &Resolver<'_>, tree: &Name) -> Result<CountedClass, ResolveError> {
+        let names = resolver.scope.names;
+        count_of(names.meanings.meaning(&Spelling::derived(b'N', tree))).ok_or(
+            ResolveError::Unresolved,
+        )
+    }
+}
+
 impl Resolver<'_> {
     /// The variable that a name means here: of a class its own, which a local one may hide.
     pub(crate) fn variable_named(&self, name: &Name) -> Result<Variable, ResolveError>
@@ -70,26 +93,5 @@ impl Resolver<'_> {
             attributes,
             variable,
         })
-    }
-
-    // A permanent class with its N.
-    fn counted(&self, name: &Name) -> Result<CountedClass, ResolveError>
-        ensures { HasGiven (λ x. x) result (counted (scope_in self.now) name.now) }
-    {
-        let names = self.scope.names;
-        count_of(names.meanings.meaning(&Spelling::derived(b'N', name))).ok_or(
-            ResolveError::Unresolved,
-        )
-    }
-
-    /// The classes of a CREATE EVERY.
-    pub(crate) fn all_counted(&self, trees: &[Name]) -> Result<Vec<CountedClass>, ResolveError>
-        ensures { HasGiven (λ v. v.items) result (each (counted (scope_in self.now)) trees.now) }
-    {
-        let mut resolved = Vec::new(self.alloc);
-        for tree in trees {
-            resolved = followed(resolved, self.counted(tree))?;
-        }
-        Ok(resolved)
     }
 }

@@ -1,34 +1,46 @@
 //! Conditions with their names resolved.
 
-ghost use Rattle.std.specs.Prelude.{map};
+ghost use Rattle.std.specs.Prelude.{List};
+ghost use Rattle.ss_tree.specs.Tree.{TestTree};
 ghost use Rattle.ss_tree.specs.View.{view_condition_tree, view_conjunction_tree, view_test_tree};
+ghost use Rattle.ss_program.specs.Program.{Test as TestSeen};
 ghost use Rattle.ss_program.specs.View.{view_condition as condition_seen, view_conjunction as conjunction_seen, view_test as test_seen};
 ghost use Rattle.ss_names_meaning.specs.Answers.{HasGiven};
 ghost use Rattle.ss_names_meaning.specs.Conditions.{condition, conjunction, one_test};
 ghost use Rattle.ss_check_bodies.specs.Results.{scope_in};
 
+use crate::lists::FromTree;
 use crate::resolver::Resolver;
-use crate::results::{both, followed};
+use crate::results::both;
 use ss_names_meaning::ResolveError;
 use ss_program::condition::{
     Condition as ResolvedCondition, Conjunction as ResolvedConjunction, Test as ResolvedTest,
 };
 use ss_tree::condition::{Condition, Conjunction, Test};
 
-impl Resolver<'_> {
-    // A test.
+impl FromTree for ResolvedTest {
+    type Tree = Test;
+
+    ghost TreeSeen = { TestTree };
+
+    ghost tree_seen = { view_test_tree };
+
+    ghost Seen = { TestSeen };
+
+    ghost seen = { test_seen };
+
+    ghost meaning = { one_test };
+
     #[tactic(auto, unfolding(ss_names_meaning::specs::Conditions::one_test))]
-    fn resolve_test(&self, tree: &Test) -> Result<ResolvedTest, ResolveError>
-        ensures { HasGiven test_seen result (one_test (scope_in self.now) (view_test_tree tree.now)) }
-    {
+    fn from_tree(resolver: &Resolver<'_>, tree: &Test) -> Result<ResolvedTest, ResolveError> {
         match tree {
             Test::Compare {
                 left,
                 relation,
                 right,
             } => {
-                let left = self.resolve_expression(left);
-                let (left, right) = both(left, self.resolve_expression(right))?;
+                let left = resolver.resolve_expression(left);
+                let (left, right) = both(left, resolver.resolve_expression(right))?;
                 Ok(ResolvedTest::Compare {
                     left,
                     relation: *relation,
@@ -36,7 +48,7 @@ impl Resolver<'_> {
                 })
             }
             Test::Empty { set, negated } => {
-                let (set, owner) = self.resolve_set(set)?;
+                let (set, owner) = resolver.resolve_set(set)?;
                 Ok(ResolvedTest::Empty {
                     negated: *negated,
                     set,
@@ -48,8 +60,8 @@ impl Resolver<'_> {
                 set,
                 negated,
             } => {
-                let member = self.resolve_expression(member);
-                let (member, (set, owner)) = both(member, self.resolve_set(set))?;
+                let member = resolver.resolve_expression(member);
+                let (member, (set, owner)) = both(member, resolver.resolve_set(set))?;
                 Ok(ResolvedTest::Member {
                     negated: *negated,
                     set,
@@ -60,40 +72,31 @@ impl Resolver<'_> {
             Test::DataEnded { negated } => Ok(ResolvedTest::DataEnded { negated: *negated }),
         }
     }
+}
 
-    // Tests joined by AND.
-    fn resolve_tests(&self, trees: &[Test]) -> Result<Vec<ResolvedTest>, ResolveError>
-        ensures { HasGiven (λ v. map test_seen v.items) result (conjunction (scope_in self.now) (map view_test_tree trees.now)) }
-    {
-        let mut resolved = Vec::new(self.alloc);
-        for tree in trees {
-            resolved = followed(resolved, self.resolve_test(tree))?;
-        }
-        Ok(resolved)
-    }
+impl FromTree for ResolvedConjunction {
+    type Tree = Conjunction;
 
-    // A conjunction.
-    fn resolve_conjunction(&self, tree: &Conjunction) -> Result<ResolvedConjunction, ResolveError>
-        ensures { HasGiven conjunction_seen result (conjunction (scope_in self.now) (view_conjunction_tree tree.now)) }
-    {
-        let tests = self.resolve_tests(&tree.tests)?;
+    ghost TreeSeen = { List TestTree };
+
+    ghost tree_seen = { view_conjunction_tree };
+
+    ghost Seen = { List TestSeen };
+
+    ghost seen = { conjunction_seen };
+
+    ghost meaning = { conjunction };
+
+    fn from_tree(
+        resolver: &Resolver<'_>,
+        tree: &Conjunction,
+    ) -> Result<ResolvedConjunction, ResolveError> {
+        let tests = resolver.resolve_each::<ResolvedTest>(tree.tests.as_slice())?;
         Ok(ResolvedConjunction { tests })
     }
+}
 
-    // Conjunctions joined by OR.
-    fn resolve_alternatives(
-        &self,
-        trees: &[Conjunction],
-    ) -> Result<Vec<ResolvedConjunction>, ResolveError>
-        ensures { HasGiven (λ v. map conjunction_seen v.items) result (condition (scope_in self.now) (map view_conjunction_tree trees.now)) }
-    {
-        let mut resolved = Vec::new(self.alloc);
-        for tree in trees {
-            resolved = followed(resolved, self.resolve_conjunction(tree))?;
-        }
-        Ok(resolved)
-    }
-
+impl Resolver<'_> {
     /// A condition.
     pub(crate) fn resolve_condition(
         &self,
@@ -101,7 +104,7 @@ impl Resolver<'_> {
     ) -> Result<ResolvedCondition, ResolveError>
         ensures { HasGiven condition_seen result (condition (scope_in self.now) (view_condition_tree tree.now)) }
     {
-        let alternatives = self.resolve_alternatives(&tree.alternatives)?;
+        let alternatives = self.resolve_each::<ResolvedConjunction>(tree.alternatives.as_slice())?;
         Ok(ResolvedCondition { alternatives })
     }
 }

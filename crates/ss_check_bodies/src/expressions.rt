@@ -3,8 +3,8 @@
 ghost use Rattle.std.specs.Prelude.{◌≡◌, map, Some};
 ghost use Rattle.std.specs.List.{fold};
 ghost use Rattle.ss_tree.specs.View.{view_expression_tree, view_term};
-ghost use Rattle.ss_tree.specs.Tree.{call, expression_row, named, term_row};
-ghost use Rattle.ss_program.specs.Program.{Calculate};
+ghost use Rattle.ss_tree.specs.Tree.{ExpressionTree, call, expression_row, named, term_row};
+ghost use Rattle.ss_program.specs.Program.{Calculate, Expression as ExpressionSeen};
 ghost use Rattle.ss_program.specs.View.{view_expression as view_resolved};
 ghost use Rattle.std.specs.Option.{option_map};
 ghost use Rattle.ss_program.specs.Views.{with_operation};
@@ -12,8 +12,9 @@ ghost use Rattle.ss_names_meaning.specs.Answers.{HasGiven, each};
 ghost use Rattle.ss_names_meaning.specs.Expressions.{entity_implied, entity_of, expression, factors, entity_or_implied, of_owner, one, place_named, resolved_operator, resolved_value, subscript, terms, two, value_alone, value_of_entity, meaning_with_entity};
 ghost use Rattle.ss_check_bodies.specs.Results.{operation, scope_in};
 
+use crate::lists::FromTree;
 use crate::resolver::Resolver;
-use crate::results::{followed, unresolved};
+use crate::results::unresolved;
 use ss_base::{Owner, Sign, Value};
 use ss_names::Meaning;
 use ss_names_meaning::ResolveError;
@@ -121,6 +122,24 @@ fn calculate(
         operand: right,
     })?;
     Ok(Resolved::Calculate { first, further })
+}
+
+impl FromTree for Resolved {
+    type Tree = Expression;
+
+    ghost TreeSeen = { ExpressionTree };
+
+    ghost tree_seen = { view_expression_tree };
+
+    ghost Seen = { ExpressionSeen };
+
+    ghost seen = { view_resolved };
+
+    ghost meaning = { expression };
+
+    fn from_tree(resolver: &Resolver<'_>, tree: &Expression) -> Result<Resolved, ResolveError> {
+        resolver.resolve_expression(tree)
+    }
 }
 
 impl Resolver<'_> {
@@ -397,10 +416,6 @@ impl Resolver<'_> {
     pub(crate) fn resolve_all(&self, trees: &[Expression]) -> Result<Vec<Resolved>, ResolveError>
         ensures { HasGiven (λ v. map view_resolved v.items) result (each (expression (scope_in self.now)) (map view_expression_tree trees.now)) }
     {
-        let mut resolved = Vec::new(self.alloc);
-        for tree in trees {
-            resolved = followed(resolved, self.resolve_expression(tree))?;
-        }
-        Ok(resolved)
+        self.resolve_each(trees)
     }
 }

@@ -1,17 +1,20 @@
 //! Heads of loops with their names resolved.
 
 ghost use Rattle.std.specs.Prelude.{◌≡◌, map};
+ghost use Rattle.ss_tree.specs.Tree.{GuardTree, PhraseTree};
 ghost use Rattle.ss_tree.specs.View.{view_expression_tree, view_guard_tree, view_head_tree, view_phrase_tree, view_start_tree};
 ghost use Rattle.std.specs.Option.{option_map};
+ghost use Rattle.ss_program.specs.Program.{Guard as GuardSeen, Phrase as PhraseSeen};
 ghost use Rattle.ss_program.specs.View.{view_expression as view_resolved, view_guard as guard_seen, view_head as head_seen, view_phrase as phrase_seen, view_start as start_seen};
 ghost use Rattle.std.specs.Option.{option_map as option_seen};
-ghost use Rattle.ss_names_meaning.specs.Answers.{HasGiven, each, if_there};
+ghost use Rattle.ss_names_meaning.specs.Answers.{HasGiven, if_there};
 ghost use Rattle.ss_names_meaning.specs.Expressions.{expression};
 ghost use Rattle.ss_names_meaning.specs.Heads.{called_variable, guard, head, phrases_of, resolved_phrase, resolved_start};
 ghost use Rattle.ss_check_bodies.specs.Results.{scope_in};
 
+use crate::lists::FromTree;
 use crate::resolver::Resolver;
-use crate::results::{both, followed};
+use crate::results::both;
 use ss_base::Name;
 use ss_names_meaning::ResolveError;
 use ss_names_uses::ClassNeed;
@@ -32,58 +35,51 @@ pub(crate) fn phrases_of(head: &Head) -> &[Phrase]
     }
 }
 
-impl Resolver<'_> {
-    // ---- conditions of loops
+impl FromTree for ResolvedPhrase {
+    type Tree = Phrase;
 
-    // A phrase.
-    fn resolve_phrase(&self, tree: &Phrase) -> Result<ResolvedPhrase, ResolveError>
-        ensures { HasGiven phrase_seen result (resolved_phrase (scope_in self.now) (view_phrase_tree tree.now)) }
-    {
-        let condition = self.resolve_condition(&tree.condition)?;
+    ghost TreeSeen = { PhraseTree };
+
+    ghost tree_seen = { view_phrase_tree };
+
+    ghost Seen = { PhraseSeen };
+
+    ghost seen = { phrase_seen };
+
+    ghost meaning = { resolved_phrase };
+
+    fn from_tree(resolver: &Resolver<'_>, tree: &Phrase) -> Result<ResolvedPhrase, ResolveError> {
+        let condition = resolver.resolve_condition(&tree.condition)?;
         Ok(ResolvedPhrase {
             kind: tree.kind,
             condition,
         })
     }
+}
 
-    /// Phrases.
-    pub(crate) fn resolve_phrases(
-        &self,
-        trees: &[Phrase],
-    ) -> Result<Vec<ResolvedPhrase>, ResolveError>
-        ensures { HasGiven (λ v. map phrase_seen v.items) result (each (resolved_phrase (scope_in self.now)) (map view_phrase_tree trees.now)) }
-    {
-        let mut resolved = Vec::new(self.alloc);
-        for tree in trees {
-            resolved = followed(resolved, self.resolve_phrase(tree))?;
-        }
-        Ok(resolved)
-    }
+impl FromTree for ResolvedGuard {
+    type Tree = Guard;
 
-    // A condition of a loop that begins with WHILE or UNTIL.
-    fn resolve_guard(&self, tree: &Guard) -> Result<ResolvedGuard, ResolveError>
-        ensures { HasGiven guard_seen result (guard (scope_in self.now) (view_guard_tree tree.now)) }
-    {
-        let condition = self.resolve_condition(&tree.condition)?;
+    ghost TreeSeen = { GuardTree };
+
+    ghost tree_seen = { view_guard_tree };
+
+    ghost Seen = { GuardSeen };
+
+    ghost seen = { guard_seen };
+
+    ghost meaning = { guard };
+
+    fn from_tree(resolver: &Resolver<'_>, tree: &Guard) -> Result<ResolvedGuard, ResolveError> {
+        let condition = resolver.resolve_condition(&tree.condition)?;
         Ok(ResolvedGuard {
             kind: tree.kind,
             condition,
         })
     }
+}
 
-    /// The conditions of a loop that begins with WHILE or UNTIL.
-    pub(crate) fn resolve_guards(&self, trees: &[Guard]) -> Result<Vec<ResolvedGuard>, ResolveError>
-        ensures { HasGiven (λ v. map guard_seen v.items) result (each (guard (scope_in self.now)) (map view_guard_tree trees.now)) }
-    {
-        let mut resolved = Vec::new(self.alloc);
-        for tree in trees {
-            resolved = followed(resolved, self.resolve_guard(tree))?;
-        }
-        Ok(resolved)
-    }
-
-    // ---- what a FOR goes over
-
+impl Resolver<'_> {
     // The variable after CALLED, or else that of the class.
     fn called_variable(
         &self,

@@ -1,9 +1,9 @@
 //! Items of PRINT with their names resolved.
 
 ghost use Rattle.std.specs.Prelude.{map, option_map};
-ghost use Rattle.ss_tree.specs.Tree.{expression_row, named};
+ghost use Rattle.ss_tree.specs.Tree.{ExpressionTree, expression_row, named};
 ghost use Rattle.ss_tree.specs.View.{view_expression_tree};
-ghost use Rattle.ss_program.specs.Program.{AValue};
+ghost use Rattle.ss_program.specs.Program.{AValue, PrintItem as ItemSeen};
 ghost use Rattle.ss_program.specs.View.{view_expression as view_resolved, view_item};
 ghost use Rattle.std.specs.Option.{option_map};
 ghost use Rattle.ss_names_meaning.specs.Answers.{HasGiven, each};
@@ -11,8 +11,8 @@ ghost use Rattle.ss_names_meaning.specs.Expressions.{expression, item, resolved_
 ghost use Rattle.ss_check_bodies.specs.Results.{scope_in};
 
 use crate::expressions::resolved_value;
+use crate::lists::FromTree;
 use crate::resolver::Resolver;
-use crate::results::followed;
 use ss_names::Meaning;
 use ss_names_meaning::ResolveError;
 use ss_program::expression::Expression as Resolved;
@@ -49,6 +49,24 @@ fn resolved_item(
             },
         },
         _ => value_item(alloc, meaning, entity),
+    }
+}
+
+impl FromTree for PrintItem {
+    type Tree = Expression;
+
+    ghost TreeSeen = { ExpressionTree };
+
+    ghost tree_seen = { view_expression_tree };
+
+    ghost Seen = { ItemSeen };
+
+    ghost seen = { view_item };
+
+    ghost meaning = { item };
+
+    fn from_tree(resolver: &Resolver<'_>, tree: &Expression) -> Result<PrintItem, ResolveError> {
+        resolver.resolve_item(tree)
     }
 }
 
@@ -96,10 +114,6 @@ impl Resolver<'_> {
     pub(crate) fn resolve_items(&self, trees: &[Expression]) -> Result<Vec<PrintItem>, ResolveError>
         ensures { HasGiven (λ v. map view_item v.items) result (each (item (scope_in self.now)) (map view_expression_tree trees.now)) }
     {
-        let mut resolved = Vec::new(self.alloc);
-        for tree in trees {
-            resolved = followed(resolved, self.resolve_item(tree))?;
-        }
-        Ok(resolved)
+        self.resolve_each(trees)
     }
 }

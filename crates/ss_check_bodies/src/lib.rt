@@ -7,6 +7,7 @@ mod conditions;
 mod expressions;
 mod heads;
 mod items;
+mod lists;
 mod loops;
 mod notices;
 mod places;

@@ -11,7 +11,7 @@ use crate::resolver::Resolver;
 use crate::results::{beside, both};
 use ss_base::Line;
 use ss_names_meaning::ResolveError;
-use ss_program::head::{Head as ResolvedHead, Phrase};
+use ss_program::head::{Guard, Head as ResolvedHead, Phrase};
 use ss_program::statement::Statement as Resolved;
 use ss_tree::head::{Head, LoopHead};
 
@@ -21,7 +21,7 @@ impl Resolver<'_> {
         ensures { HasGiven over_seen result (resolved_over (scope_in self.now) (view_head_tree head.now)) }
     {
         let over = self.resolve_head(head);
-        both(over, self.resolve_phrases(phrases_of(head)))
+        both(over, self.resolve_each::<Phrase>(phrases_of(head)))
     }
 
     // A FOR with its body.
@@ -54,7 +54,7 @@ impl Resolver<'_> {
         match head {
             LoopHead::For(head) => self.resolve_for(line, head, body),
             LoopHead::Guards(guards) => {
-                let guards = self.resolve_guards(guards)?;
+                let guards = self.resolve_each::<Guard>(guards.as_slice())?;
                 Ok(Resolved::Loop { line, guards, body })
             }
         }

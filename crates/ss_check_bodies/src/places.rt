@@ -1,17 +1,20 @@
 //! Targets, sets and statistics with their names resolved.
 
-ghost use Rattle.std.specs.Prelude.{◌≡◌, map, None};
+ghost use Rattle.std.specs.Prelude.{◌≡◌, None};
+ghost use Rattle.ss_tree.specs.Tree.{NamedTree};
 ghost use Rattle.ss_tree.specs.View.{view_expression_tree, view_named, view_position_tree};
 ghost use Rattle.std.specs.Option.{option_map};
+ghost use Rattle.ss_program.specs.Program.{InputTarget as TargetSeen, Place as PlaceSeen, Restart as RestartSeen};
 ghost use Rattle.ss_program.specs.View.{view_expression as view_resolved, view_owner, view_place, view_position as position_seen, view_restart, view_target};
 ghost use Rattle.std.specs.Option.{option_map as option_seen};
-ghost use Rattle.ss_names_meaning.specs.Answers.{HasGiven, each};
+ghost use Rattle.ss_names_meaning.specs.Answers.{HasGiven};
 ghost use Rattle.ss_names_meaning.specs.Expressions.{set_owner, place_of, set_named, set_number, set_of_name, target};
 ghost use Rattle.ss_names_meaning.specs.Statements.{entity_called, new_place, position, reader, restart};
 ghost use Rattle.ss_check_bodies.specs.Results.{scope_in};
 
+use crate::lists::FromTree;
 use crate::resolver::Resolver;
-use crate::results::{followed, unresolved};
+use crate::results::unresolved;
 use ss_names::Meaning;
 use ss_names_meaning::ResolveError;
 use ss_names_scopes::mode_of;
@@ -67,6 +70,69 @@ fn set_number(meaning: Option<Meaning>) -> Option<usize>
     }
 }
 
+impl FromTree for Place {
+    type Tree = Named;
+
+    ghost TreeSeen = { NamedTree };
+
+    ghost tree_seen = { view_named };
+
+    ghost Seen = { PlaceSeen };
+
+    ghost seen = { view_place };
+
+    ghost meaning = { target };
+
+    fn from_tree(resolver: &Resolver<'_>, tree: &Named) -> Result<Place, ResolveError> {
+        resolver.resolve_target(tree)
+    }
+}
+
+impl FromTree for InputTarget {
+    type Tree = Named;
+
+    ghost TreeSeen = { NamedTree };
+
+    ghost tree_seen = { view_named };
+
+    ghost Seen = { TargetSeen };
+
+    ghost seen = { view_target };
+
+    ghost meaning = { reader };
+
+    fn from_tree(resolver: &Resolver<'_>, tree: &Named) -> Result<InputTarget, ResolveError> {
+        let (meaning, entity) = resolver.resolve_place(tree.designator, &tree.subscripts)?;
+        let place = place_of(meaning, entity)?;
+        match mode_of(meaning) {
+            Some(mode) => Ok(InputTarget { place, mode }),
+            None => Err(unresolved(place)),
+        }
+    }
+}
+
+impl FromTree for Restart {
+    type Tree = Named;
+
+    ghost TreeSeen = { NamedTree };
+
+    ghost tree_seen = { view_named };
+
+    ghost Seen = { RestartSeen };
+
+    ghost seen = { view_restart };
+
+    ghost meaning = { restart };
+
+    fn from_tree(resolver: &Resolver<'_>, tree: &Named) -> Result<Restart, ResolveError> {
+        let Some(statistic) = resolver.scope.history_of(&tree.designator) else {
+            return Err(ResolveError::Unresolved);
+        };
+        let (_, of) = resolver.resolve_place(tree.designator, &tree.subscripts)?;
+        Ok(Restart { statistic, of })
+    }
+}
+
 impl Resolver<'_> {
     /// A target.
     pub(crate) fn resolve_target(&self, tree: &Named) -> Result<Place, ResolveError>
@@ -74,40 +140,6 @@ impl Resolver<'_> {
     {
         let (meaning, entity) = self.resolve_place(tree.designator, &tree.subscripts)?;
         place_of(meaning, entity)
-    }
-
-    /// Targets.
-    pub(crate) fn resolve_targets(&self, trees: &[Named]) -> Result<Vec<Place>, ResolveError>
-        ensures { HasGiven (λ v. map view_place v.items) result (each (target (scope_in self.now)) (map view_named trees.now)) }
-    {
-        let mut resolved = Vec::new(self.alloc);
-        for tree in trees {
-            resolved = followed(resolved, self.resolve_target(tree))?;
-        }
-        Ok(resolved)
-    }
-
-    // A target of READ.
-    fn resolve_reader(&self, tree: &Named) -> Result<InputTarget, ResolveError>
-        ensures { HasGiven view_target result (reader (scope_in self.now) (view_named tree.now)) }
-    {
-        let (meaning, entity) = self.resolve_place(tree.designator, &tree.subscripts)?;
-        let place = place_of(meaning, entity)?;
-        match mode_of(meaning) {
-            Some(mode) => Ok(InputTarget { place, mode }),
-            None => Err(unresolved(place)),
-        }
-    }
-
-    /// The targets of READ.
-    pub(crate) fn resolve_readers(&self, trees: &[Named]) -> Result<Vec<InputTarget>, ResolveError>
-        ensures { HasGiven (λ v. map view_target v.items) result (each (reader (scope_in self.now)) (map view_named trees.now)) }
-    {
-        let mut resolved = Vec::new(self.alloc);
-        for tree in trees {
-            resolved = followed(resolved, self.resolve_reader(tree))?;
-        }
-        Ok(resolved)
     }
 
     /// What takes the number of a new entity: the target after CALLED, or else the variable of the class.
@@ -179,29 +211,5 @@ impl Resolver<'_> {
                 Ok(ResolvedPosition::AfterMember { member })
             }
         }
-    }
-
-    // ---- statistics
-
-    // A statistic that starts afresh, and of which entity.
-    fn resolve_restart(&self, tree: &Named) -> Result<Restart, ResolveError>
-        ensures { HasGiven view_restart result (restart (scope_in self.now) (view_named tree.now)) }
-    {
-        let Some(statistic) = self.scope.history_of(&tree.designator) else {
-            return Err(ResolveError::Unresolved);
-        };
-        let (_, of) = self.resolve_place(tree.designator, &tree.subscripts)?;
-        Ok(Restart { statistic, of })
-    }
-
-    /// The statistics of a RESET.
-    pub(crate) fn resolve_restarts(&self, trees: &[Named]) -> Result<Vec<Restart>, ResolveError>
-        ensures { HasGiven (λ v. map view_restart v.items) result (each (restart (scope_in self.now)) (map view_named trees.now)) }
-    {
-        let mut resolved = Vec::new(self.alloc);
-        for tree in trees {
-            resolved = followed(resolved, self.resolve_restart(tree))?;
-        }
-        Ok(resolved)
     }
 }

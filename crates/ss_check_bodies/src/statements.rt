@@ -17,7 +17,7 @@ use ss_names::{Meaning, RoutineSection};
 use ss_names_declarations::value_at;
 use ss_names_meaning::ResolveError;
 use ss_names_uses::ClassNeed;
-use ss_program::statement::Statement as Resolved;
+use ss_program::statement::{CountedClass, InputTarget, Place, Restart, Statement as Resolved};
 use ss_tree::expression::{Expression, Named};
 use ss_tree::statement::Statement;
 use std::alloc::{AllocError, Global};
@@ -71,7 +71,7 @@ impl Resolver<'_> {
     {
         let (routine, section) = self.routine_named(routine)?;
         let values = self.resolve_all(given);
-        let (given, yielding) = both(values, self.resolve_targets(yielding))?;
+        let (given, yielding) = both(values, self.resolve_each::<Place>(yielding))?;
         if given.len() == section.given && yielding.len() == section.yielding {
             Ok(Resolved::Call {
                 line,
@@ -141,7 +141,7 @@ impl Resolver<'_> {
                 yielding,
             } => self.resolve_call_statement(*line, routine, given, yielding),
             Statement::Read { line, targets } => {
-                let readers = self.resolve_readers(targets)?;
+                let readers = self.resolve_each::<InputTarget>(targets.as_slice())?;
                 Ok(Resolved::Read {
                     line: *line,
                     targets: readers,
@@ -178,7 +178,7 @@ impl Resolver<'_> {
                 })
             }
             Statement::CreateEvery { line, classes } => {
-                let counted = self.all_counted(classes)?;
+                let counted = self.resolve_each::<CountedClass>(classes.as_slice())?;
                 Ok(Resolved::CreateEvery {
                     line: *line,
                     classes: counted,
@@ -268,7 +268,7 @@ impl Resolver<'_> {
                 })
             }
             Statement::Reset { line, targets } => {
-                let restarts = self.resolve_restarts(targets)?;
+                let restarts = self.resolve_each::<Restart>(targets.as_slice())?;
                 Ok(Resolved::Reset {
                     line: *line,
                     restarts,

@@ -100,19 +100,16 @@ text_meaning (Some text) spelling = meanings.Token (kinds.Text text) spelling
 
 -- What a piece means: nothing, a token with the length of its spelling, or a fault.
 abbrev pub piece_meaning : LinePiece → PieceMeaning
-piece_meaning (separator b) = meanings.Nothing
 piece_meaning (word w) = word_meaning (without_end_periods w)
-piece_meaning (comment body) = meanings.Nothing
-piece_meaning (open_comment body) = meanings.Nothing
 piece_meaning (quoted body) = text_meaning (text_of body) (length body + 2)
 piece_meaning (open_quoted body) = meanings.Fault OpenText
 piece_meaning (single b) = meanings.Token (kinds.Symbol (symbol_of b)) 1
+piece_meaning _ = meanings.Nothing
 
 -- the fault of a piece, if it means one
 abbrev pub fault_in : PieceMeaning → Option Fault
-fault_in meanings.Nothing = None
-fault_in (meanings.Token kind spelling) = None
 fault_in (meanings.Fault fault) = Some fault
+fault_in _ = None
 
 -- the first fault of pieces
 abbrev pub first_fault : List LinePiece → Option Fault

@@ -24,9 +24,8 @@ refusal_for None line = None
 refusal_for (Some fault) line = Some (error_of_fault fault line)
 
 abbrev pub means_trigger : PieceMeaning → Bool
-means_trigger meanings.Nothing = false
 means_trigger (meanings.Token kind spelling) = is_trigger kind
-means_trigger (meanings.Fault fault) = false
+means_trigger _ = false
 
 abbrev pub has_trigger : List LinePiece → Bool
 has_trigger [] = false

@@ -18,9 +18,8 @@ token_at kind spelling start line =
 
 -- the token of a meaning, if it is one
 abbrev pub token_in : PieceMeaning → ℕ → ℕ → List Token
-token_in meanings.Nothing start line = []
 token_in (meanings.Token kind spelling) start line = token_at kind spelling start line ∷ []
-token_in (meanings.Fault fault) start line = []
+token_in _ start line = []
 
 -- the tokens of the pieces of a line
 abbrev pub tokens_of : List LinePiece → ℕ → ℕ → List Token
@@ -43,28 +42,16 @@ is_print_word _ = false
 
 abbrev pub is_trigger : TokenKind → Bool
 is_trigger (kinds.Word word) = is_trigger_word word
-is_trigger (kinds.Name name) = false
-is_trigger (kinds.Number number) = false
-is_trigger (kinds.Text text) = false
-is_trigger (kinds.Symbol symbol) = false
-is_trigger (kinds.Picture picture) = false
+is_trigger _ = false
 
 abbrev pub is_print : TokenKind → Bool
 is_print (kinds.Word word) = is_print_word word
-is_print (kinds.Name name) = false
-is_print (kinds.Number number) = false
-is_print (kinds.Text text) = false
-is_print (kinds.Symbol symbol) = false
-is_print (kinds.Picture picture) = false
+is_print _ = false
 
 -- the number that a token is, and 0 where it is another
 abbrev pub number_in_token : TokenKind → ℕ
-number_in_token (kinds.Word word) = 0
-number_in_token (kinds.Name name) = 0
 number_in_token (kinds.Number number) = unsigned_abs number
-number_in_token (kinds.Text text) = 0
-number_in_token (kinds.Symbol symbol) = 0
-number_in_token (kinds.Picture picture) = 0
+number_in_token _ = 0
 
 -- the number that is the first of these tokens, and 0 where it is another
 abbrev pub first_number : List Token → ℕ

@@ -5,7 +5,7 @@ use Rattle.ss_base.specs.declared.value.Value.{Value}
 use Rattle.ss_base.specs.declared.value.Value.TheVariants.{Whole}
 use Rattle.ss_base.specs.declared.layout.Mode.{Mode}
 use Rattle.ss_base.specs.declared.layout.ClassKind.{ClassKind}
-use Rattle.ss_base.specs.declared.layout.ClassKind.TheVariants.{Permanent, Temporary, Notice}
+use Rattle.ss_base.specs.declared.layout.ClassKind.TheVariants.{Permanent}
 use Rattle.ss_base.specs.declared.layout.ClassLayout.{ClassLayout}
 use Rattle.ss_base.specs.declared.layout.Owner.TheVariants.{Class}
 use Rattle.ss_world.specs.State.{State, modes_of, known_in, value_in, time_in, created, created_all, records_in, destroyed}
@@ -45,8 +45,7 @@ time_of x s = if_ok (number_of x) (λ n. turned Whole (due (time_in s.world.heap
 -- whether the entities of a class come and go one by one
 abbrev pub comes_singly : ClassKind → Bool
 comes_singly Permanent = false
-comes_singly Temporary = true
-comes_singly Notice = true
+comes_singly _ = true
 
 abbrev pub is_single : Option ClassLayout → Bool
 is_single None = false

@@ -22,14 +22,9 @@ use Rattle.ss_meaning.specs.Store.{Column, Store, with_histories}
 
 abbrev pub same_subject : Subject → Subject → Bool
 same_subject (OfVariable k) (OfVariable j) = k == j
-same_subject (OfVariable k) (OfAttribute c f) = false
-same_subject (OfVariable k) (OfCount t) = false
-same_subject (OfAttribute c f) (OfVariable j) = false
 same_subject (OfAttribute c f) (OfAttribute d g) = (c == d) && (f == g)
-same_subject (OfAttribute c f) (OfCount t) = false
-same_subject (OfCount s) (OfVariable j) = false
-same_subject (OfCount s) (OfAttribute d g) = false
 same_subject (OfCount s) (OfCount t) = s == t
+same_subject _ _ = false
 
 -- ## How a history starts
 

@@ -35,10 +35,7 @@ go_back first count ls w = outcome_then (needed (yielded first count w.store.loc
 abbrev pub come_back : (first count : ℕ) → List Value → Outcome (Unit {0}) → Outcome (List Value)
 come_back first count ls (WentOn u w) = go_back first count ls w
 come_back first count ls (Left Returned w) = go_back first count ls w
-come_back first count ls (Left Stopped w) = Left Stopped w
-come_back first count ls (Left (Faulted kind line) w) = Left (Faulted kind line) w
-come_back first count ls (Left OutOfTicks w) = Left OutOfTicks w
-come_back first count ls (Left Wrong w) = Left Wrong w
+come_back first count ls (Left e w) = Left e w
 
 -- a body with variables of its own: those that take the values that are given, and others; afterwards the values of the first so
 -- many of the others

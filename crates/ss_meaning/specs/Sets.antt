@@ -1,5 +1,5 @@
 -- Sets: looking at them, filing and removing, and going over their members. An owner is an entity, or none where the system owns the set.
-use Rattle.std.specs.Prelude.{ℕ, zero, suc, nat_lt, Bool, true, false, not, length, ℤ, pos, negsuc, Option, Some, None, is_some, Result, Ok, Err, slice_get, if◌then◌else◌}
+use Rattle.std.specs.Prelude.{ℕ, zero, nat_lt, Bool, true, false, not, length, ℤ, pos, Option, Some, None, is_some, Result, Ok, Err, slice_get, if◌then◌else◌}
 use Rattle.std.specs.List.{list_all}
 use Rattle.ss_base.specs.declared.fault.FaultKind.{FaultKind}
 use Rattle.ss_base.specs.declared.fault.FaultKind.TheVariants.{NotFiled, LoopMemberGone}
@@ -7,7 +7,7 @@ use Rattle.ss_base.specs.declared.value.Value.{Value}
 use Rattle.ss_base.specs.declared.value.Value.TheVariants.{Whole}
 use Rattle.ss_base.specs.declared.layout.RankKey.{RankKey}
 use Rattle.ss_base.specs.declared.layout.Discipline.{Discipline}
-use Rattle.ss_base.specs.declared.layout.Discipline.TheVariants.{Fifo, Lifo, Ranked}
+use Rattle.ss_base.specs.declared.layout.Discipline.TheVariants.{Ranked}
 use Rattle.ss_base.specs.declared.layout.Owner.{Owner}
 use Rattle.ss_base.specs.declared.layout.Owner.TheVariants.{System, Class}
 use Rattle.ss_base.specs.declared.layout.SetLayout.{SetLayout}
@@ -40,9 +40,8 @@ member set x s =
 -- the number of an owner, 0 for the system, by who owns a set
 abbrev pub owner_as : Owner → Option Value → Result ℤ Failure
 owner_as System None = Ok (pos 0)
-owner_as System (Some x) = Err TypeError
-owner_as (Class c) None = Err TypeError
 owner_as (Class c) (Some x) = number_of x
+owner_as _ _ = Err TypeError
 
 abbrev pub owner_by_layout : Option SetLayout → Option Value → Result ℤ Failure
 owner_by_layout None o = Err TypeError
@@ -79,8 +78,7 @@ of_member Membership set x s = if_ok (member set x s) (λ n. turned (λ o. Whole
 -- whether a number is 0, which is no entity
 abbrev pub is_none : ℤ → Bool
 is_none (pos zero) = true
-is_none (pos (suc n)) = false
-is_none (negsuc k) = false
+is_none _ = false
 
 -- whether the set of an owner has no member
 abbrev pub is_empty : (set : ℕ) → Option Value → Store → Result Bool Failure
@@ -101,9 +99,8 @@ is_field l class key = nat_lt key.field (length (modes_of l class))
 
 -- whether the keys of a discipline are attributes of the members of a set
 abbrev pub is_fit : Layout → ℕ → Discipline → Bool
-is_fit l set Fifo = true
-is_fit l set Lifo = true
 is_fit l set (Ranked keys) = list_all (is_field l (member_class l set)) keys
+is_fit l set _ = true
 
 -- where a member is filed: by the discipline of the set, first, last, directly before a member, or directly after it
 pub data Filing : Type 0 where
@@ -172,9 +169,8 @@ begun_at reverse after set x o s =
 
 abbrev pub or_gone : Result Bool Failure → Result Bool Failure
 or_gone (Ok true) = Ok true
-or_gone (Ok false) = Err (Fails LoopMemberGone)
-or_gone (Err (Fails kind)) = Err (Fails LoopMemberGone)
 or_gone (Err TypeError) = Err TypeError
+or_gone _ = Err (Fails LoopMemberGone)
 
 -- whether a loop goes on with the member that was fixed before: not where there was none; one that is gone since is the fault LOOP MEMBER GONE
 abbrev pub goes_on : (set : ℕ) → (x : ℤ) → Option Value → Store → Result Bool Failure

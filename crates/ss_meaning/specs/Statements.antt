@@ -28,9 +28,8 @@ give_to l t source w = outcome_then (look l (spot t) w) (λ p w. outcome_then (s
 -- each place is resolved and takes a value, in turn
 abbrev pub give_each : Line → List Place → List Value → Part (Unit {0})
 give_each l [] [] w = WentOn tt w
-give_each l [] (v ∷ vs) w = Left Wrong w
-give_each l (t ∷ ts) [] w = Left Wrong w
 give_each l (t ∷ ts) (v ∷ vs) w = outcome_then (give_to l t (WentOn v) w) (λ _. give_each l ts vs)
+give_each l _ _ w = Left Wrong w
 
 -- ADD and SUBTRACT: the value, then the place, then what it held
 abbrev pub change_by : Line → Sign → Place → Expression → Part (Unit {0})

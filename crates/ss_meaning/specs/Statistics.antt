@@ -19,10 +19,9 @@ subject_of_statistic j s = turned (λ (t : Statistic). t.subject) (sure (slice_g
 -- the number of the entity that has a subject
 abbrev pub bearer_number : Subject → Option Value → Store → Result ℤ Failure
 bearer_number (OfVariable k) None s = Ok (pos 0)
-bearer_number (OfVariable k) (Some x) s = Err TypeError
-bearer_number (OfAttribute class field) None s = Err TypeError
 bearer_number (OfAttribute class field) (Some x) s = entity class x s
 bearer_number (OfCount set) o s = known_owner set o s
+bearer_number _ _ s = Err TypeError
 
 -- the value that a subject has
 abbrev pub present : Subject → Option Value → Store → Result Value Failure

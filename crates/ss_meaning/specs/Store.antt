@@ -87,9 +87,8 @@ first_values modes = map first_value modes
 -- values that are given to variables of these modes, which are as many
 abbrev pub taken_by_modes : List Mode → List Value → Option (List Value)
 taken_by_modes [] [] = Some []
-taken_by_modes [] (v ∷ vs) = None
-taken_by_modes (m ∷ ms) [] = None
 taken_by_modes (m ∷ ms) (v ∷ vs) = if same_mode (mode_of v) m then prepended v (taken_by_modes ms vs) else None
+taken_by_modes _ _ = None
 
 abbrev pub appended : Option (List Value) → List Value → Option (List Value)
 appended None others = None

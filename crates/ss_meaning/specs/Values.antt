@@ -69,9 +69,8 @@ unless_fault false kind answer = answer
 
 abbrev pub same_mode : Mode → Mode → Bool
 same_mode Integer Integer = true
-same_mode Integer Alpha = false
-same_mode Alpha Integer = false
 same_mode Alpha Alpha = true
+same_mode _ _ = false
 
 -- the number that a value is
 abbrev pub number_of : Value → Result ℤ Failure
@@ -93,9 +92,7 @@ computed Greatest x y = Ok (int_max x y)
 -- an operator applied to two values
 abbrev pub calculated : Operator → Value → Value → Result Value Failure
 calculated op (Whole x) (Whole y) = turned Whole (due (computed op x y))
-calculated op (Whole x) (Text t) = Err TypeError
-calculated op (Text s) (Whole y) = Err TypeError
-calculated op (Text s) (Text t) = Err TypeError
+calculated op _ _ = Err TypeError
 
 abbrev pub operator_of : Sign → Operator
 operator_of Plus = Add
@@ -122,31 +119,22 @@ applied op (Text t) = Err TypeError
 
 -- whether an order is one of those that a relation allows
 abbrev pub allows : Relation → Ordering → Bool
-allows Equal IsLess = false
 allows Equal IsEqual = true
-allows Equal IsGreater = false
 allows NotEqual IsLess = true
-allows NotEqual IsEqual = false
 allows NotEqual IsGreater = true
 allows Less IsLess = true
-allows Less IsEqual = false
-allows Less IsGreater = false
-allows Greater IsLess = false
-allows Greater IsEqual = false
 allows Greater IsGreater = true
 allows LessOrEqual IsLess = true
 allows LessOrEqual IsEqual = true
-allows LessOrEqual IsGreater = false
-allows GreaterOrEqual IsLess = false
 allows GreaterOrEqual IsEqual = true
 allows GreaterOrEqual IsGreater = true
+allows _ _ = false
 
 -- whether a relation holds of two values of one mode: numbers by their size, texts by their bytes
 abbrev pub related : Relation → Value → Value → Option Bool
 related relation (Whole x) (Whole y) = Some (allows relation (value_cmp (Whole x) (Whole y)))
-related relation (Whole x) (Text t) = None
-related relation (Text s) (Whole y) = None
 related relation (Text s) (Text t) = Some (allows relation (value_cmp (Text s) (Text t)))
+related relation _ _ = None
 
 -- ## Lines
 

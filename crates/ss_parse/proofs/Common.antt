@@ -12,7 +12,7 @@ pub use Rattle.ss_parse.specs.SpelledPreambles.{Statistic_is, weighting_word}
 pub use Rattle.ss_parse.specs.SpelledPrograms.{Is_spelling, Program_is}
 pub use Rattle.ss_parse_expressions.proofs.Marks.{token_less}
 pub use Rattle.ss_parse_expressions.proofs.ReaderLaws.{Item, Made, Reads, apply_reads, closed_reads, continues_never, done_reads, either_reads, expect_reads, fewer_reads, following_reads, item_marked, item_of, made_reads, marked_reads, maybe_list_reads, optional_reads, reshaped_reads, seq_reads}
-pub use Rattle.ss_parse_expressions.proofs.Rows.{Loop, breaks, breaks_plain, first_and_reads, grows, grows_plain, is_done, is_done_plain, loop_of, separated_item, with_front}
+pub use Rattle.ss_parse_expressions.proofs.Rows.{Loop, breaks, breaks_plain, first_and_reads, grows, grows_plain, is_done, is_done_plain, loop_of, next_fails, next_read, separated_item, with_front}
 pub use Rattle.ss_parse_expressions.proofs.Tools.{or_false}
 pub use Rattle.ss_parse_expressions.proofs.WordLaws.{fail_reads, item_made, items_reads, name_reads, names_reads, no_word, noisy_mark_reads, optional_class_reads, perhaps_listed_reads, word_in_reads}
 pub use Rattle.ss_parse_expressions.specs.Openers.{openers}

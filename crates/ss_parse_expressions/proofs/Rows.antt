@@ -1,11 +1,13 @@
 -- Rows of what a reader reads.
 use Rattle.std.proofs.Common.{◌≡◌, ℕ, zero, suc, ◌<◌, ◌≤◌, Bool, true, false, ◌||◌, List, [], ◌∷◌, ◌++◌, length, map, drop, Result, Ok, Err, refl, sym, ap, subst, ◌∙◌, append_assoc, arith, inl, inr}
 use Rattle.std.proofs.lemmas.List.{append-nil, map_push}
+use Rattle.std.specs.Global.{Vec}
 use Rattle.ss_parse_expressions.proofs.Common.{Line, openers, ParseFault, Span, Token}
 use Rattle.ss_parse_expressions.specs.declared.failure.ParseFailure.{ParseFailure}
 use Rattle.ss_parse_expressions.specs.declared.failure.ParseFailure.TheVariants as failures
-use Rattle.ss_parse_expressions.specs.Reading.{Reader, ◌>>=◌, HasFailedReading, row, rows, first_and, comma, word, begins, skip, skip_separator, begins_more, list_of, kind_of_mark}
+use Rattle.ss_parse_expressions.specs.Reading.{Reader, ◌>>=◌, HasFailedReading, HasGivenReading, row, rows, first_and, comma, word, begins, skip, skip_separator, begins_more, list_of, kind_of_mark}
 use Rattle.ss_lex.specs.declared.word.Word.TheVariants as words
+use Rattle.ss_parse_expressions.specs.Steps.{AreJoined}
 use Rattle.ss_parse_expressions.specs.Shapes as shapes
 use Rattle.ss_parse_expressions.specs.Shapes.{Shape, ◌▷◌, nothing, never, either_shape, each_in_turn, separated_list, separator}
 use Rattle.ss_parse_expressions.proofs.Tools.{bind_ok, which, chosen, carry, or_false, and_true, ok_or_err}
@@ -250,22 +252,6 @@ pub record Loop {A : Type 0} (starts : List Token → Bool) (item : Reader A) : 
 pub loop_of : {A : Type 0} {k : ℕ} {starts : List Token → Bool} {item item' : Reader A} {S : A → Shape} {c : List Token → Bool} → Item k starts item item' S c → starts [] ≡ false → Loop starts item
 loop_of law at_end = record { at_end = at_end; shrinks = λ ts x rest started e. law.less ts x rest (law.sound ts x rest started e) }
 
-module _ {A V : Type 0} (view : V → A) {starts : List Token → Bool} {item : Reader A} (loop : Loop starts item) where
-  -- an item goes to the end of what was read
-  pub grows : (old new : List V) (x : V) (ts rest : List Token) (total : Result (List A × List Token) ParseFault) → new ≡ old ++ x ∷ [] → starts ts ≡ true → item ts ≡ Ok (view x, rest) → with_front (map view old) (rows starts item ts) ≡ total → with_front (map view new) (rows starts item rest) ≡ total
-  grows old new x ts rest total pushed started e so_far =
-      let all : map view new ≡ map view old ++ view x ∷ [] = rw pushed (map_push view old x) in
-      rw all (with_front_more (map view old) (view x) (rows starts item rest)) ∙ ap (with_front (map view old)) (sym (rows_more starts item loop.at_end loop.shrinks ts rest (view x) started e)) ∙ so_far
-
-  -- no more follows
-  pub is_done : (read : List V) (ts : List Token) (total : Result (List A × List Token) ParseFault) → starts ts ≡ false → with_front (map view read) (rows starts item ts) ≡ total → total ≡ Ok (map view read, ts)
-  is_done read ts total over so_far = sym so_far ∙ ap (with_front (map view read)) (rows_done starts item loop.at_end loop.shrinks ts over) ∙ ap (λ ys. Ok (ys, ts)) (append-nil (map view read))
-
-  -- an item fails
-  pub breaks : (read : List V) (ts : List Token) (e : ParseFailure) (total : Result (List A × List Token) ParseFault) → starts ts ≡ true → HasFailedReading e (item ts) → with_front (map view read) (rows starts item ts) ≡ total → HasFailedReading e total
-  breaks read ts failures.Memory total started f so_far = tt
-  breaks read ts (failures.Refused f left) total started e so_far = sym so_far ∙ ap (with_front (map view read)) (rows_fail starts item loop.at_end loop.shrinks ts f started e)
-
 -- the laws of a loop, where the items need no view
 module _ {A : Type 0} {starts : List Token → Bool} {item : Reader A} (loop : Loop starts item) where
   pub grows_plain : (old new : List A) (x : A) (ts rest : List Token) (total : Result (List A × List Token) ParseFault) → new ≡ old ++ x ∷ [] → starts ts ≡ true → item ts ≡ Ok (x, rest) → with_front old (rows starts item ts) ≡ total → with_front new (rows starts item rest) ≡ total
@@ -278,6 +264,33 @@ module _ {A : Type 0} {starts : List Token → Bool} {item : Reader A} (loop : L
   pub breaks_plain : (read : List A) (ts : List Token) (e : ParseFailure) (total : Result (List A × List Token) ParseFault) → starts ts ≡ true → HasFailedReading e (item ts) → with_front read (rows starts item ts) ≡ total → HasFailedReading e total
   breaks_plain read ts failures.Memory total started f so_far = tt
   breaks_plain read ts (failures.Refused f left) total started e so_far = sym so_far ∙ ap (with_front read) (rows_fail starts item loop.at_end loop.shrinks ts f started e)
+
+-- the laws of a loop, where the items are seen through a view
+module _ {A V : Type 0} (view : V → A) {starts : List Token → Bool} {item : Reader A} (loop : Loop starts item) where
+  -- an item goes to the end of what was read
+  pub grows : (old new : List V) (x : V) (ts rest : List Token) (total : Result (List A × List Token) ParseFault) → new ≡ old ++ x ∷ [] → starts ts ≡ true → item ts ≡ Ok (view x, rest) → with_front (map view old) (rows starts item ts) ≡ total → with_front (map view new) (rows starts item rest) ≡ total
+  grows old new x ts rest total pushed started e so_far =
+      let all : map view new ≡ map view old ++ view x ∷ [] = rw pushed (map_push view old x) in
+      grows_plain loop (map view old) (map view new) (view x) ts rest total all started e so_far
+
+  -- no more follows
+  pub is_done : (read : List V) (ts : List Token) (total : Result (List A × List Token) ParseFault) → starts ts ≡ false → with_front (map view read) (rows starts item ts) ≡ total → total ≡ Ok (map view read, ts)
+  is_done read ts total over so_far = is_done_plain loop (map view read) ts total over so_far
+
+  -- an item fails
+  pub breaks : (read : List V) (ts : List Token) (e : ParseFailure) (total : Result (List A × List Token) ParseFault) → starts ts ≡ true → HasFailedReading e (item ts) → with_front (map view read) (rows starts item ts) ≡ total → HasFailedReading e total
+  breaks read ts e total started f so_far = breaks_plain loop (map view read) ts e total started f so_far
+
+-- ---- what goes to the end of what was read
+
+-- what was read next
+pub next_read : {X Y : Type 0} (view : X → Y) (r : Result X ParseFailure) (read : Result Y ParseFault) (x : X) → HasGivenReading view r read → r ≡ Ok x → read ≡ Ok (view x)
+next_read view r read x h is = subst (λ z. HasGivenReading view z read) is h
+
+-- what was to be read next failed
+pub next_fails : {A B Y : Type 0} (view : A × B → Y) (before : Vec A) (r : Result (A × B) ParseFailure) (read : Result Y ParseFault) (e : ParseFailure) → HasGivenReading view r read → AreJoined before r (Err e) → HasFailedReading e read
+next_fails view before r read e h (inl is) = subst (λ z. HasFailedReading z read) (sym is) tt
+next_fails view before r read e h (inr is) = subst (λ z. HasGivenReading view z read) is h
 
 -- r leaves all tokens but the first, and these are all but the first
 pub first_taken : {A : Type 0} (r : Result (A × List Token) ParseFault) (x : A) (ts rest : List Token) → r ≡ Ok (x, drop 1 ts) → rest ≡ drop 1 ts → r ≡ Ok (x, rest)

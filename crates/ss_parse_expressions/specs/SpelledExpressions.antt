@@ -56,18 +56,17 @@ abbrev mutual
   Spelled (named d no_expression) place levels = Designated d
   Spelled (named d (and_expression e es)) place levels =
       Designated d ▷ Symbol_is OpenParenthesis ▷ nested_shape (λ l. Spelled e sum_place l ▷ Further_arguments es l) levels ▷ Symbol_is CloseParenthesis
-  Spelled (call f no_expression) place levels = never
   Spelled (call f (and_expression e es)) place levels =
       Word_for function_of f ▷ Symbol_is OpenParenthesis ▷ nested_shape (λ l. Spelled e sum_place l ▷ Further_arguments es l) levels ▷ Symbol_is CloseParenthesis
   Spelled (parenthesised e) place levels =
       Symbol_is OpenParenthesis ▷ nested_shape (λ l. Spelled e sum_place l) levels ▷ Symbol_is CloseParenthesis
-  Spelled (product e no_expression) place levels = never
   Spelled (product e (and_expression f fs)) place levels =
       provided (Can_take_product place) (Spelled e factor_place levels ▷ Symbol_is Star ▷ Spelled f factor_place levels ▷ Further_factors fs levels)
   Spelled (signed sign e) place levels = provided (Can_take_sign place) (Sign_is sign ▷ Spelled e term_place levels)
-  Spelled (sum e no_term) place levels = never
   Spelled (sum e (and_term sign f fs)) place levels =
       provided (Can_take_sum place) (Spelled e first_place levels ▷ Sign_is sign ▷ Spelled f term_place levels ▷ Further_terms fs levels)
+  -- a call without an argument, a product of one factor, a sum of one term
+  Spelled _ place levels = never
 
   pub Further_arguments : ExpressionRow → ℕ → Shape
   Further_arguments no_expression levels = nothing

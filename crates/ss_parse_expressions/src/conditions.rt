@@ -11,7 +11,7 @@ ghost use Rattle.ss_parse_expressions.specs.ReadConditions.{relation_symbol, tes
 use crate::expressions::sum;
 use crate::failure::ParseFailure;
 use crate::places::reference;
-use crate::steps::{alone, beside};
+use crate::steps::{alone, beside, joined};
 use crate::tables::{WordTable, take_word_of};
 use crate::tokens::{begins_word, expect_word, skip_word, syntax, too_deep};
 use crate::words::relation_of;
@@ -263,8 +263,8 @@ fn conjunction(
     let (first, mut rest) = test(alloc, tokens, room)?;
     let mut all = alone(alloc, first)?;
     'more: while begins_word(rest, Word::And) {
-        let (next, after) = test(alloc, skip_word(rest, Word::And), room)?;
-        all.push(next)?;
+        let (longer, after) = joined(all, test(alloc, skip_word(rest, Word::And), room))?;
+        all = longer;
         rest = after;
     }
     Ok((Conjunction { tests: all }, rest))
@@ -281,8 +281,8 @@ pub fn condition(
     let (first, mut rest) = conjunction(alloc, tokens, room)?;
     let mut all = alone(alloc, first)?;
     'more: while begins_word(rest, Word::Or) {
-        let (next, after) = conjunction(alloc, skip_word(rest, Word::Or), room)?;
-        all.push(next)?;
+        let (longer, after) = joined(all, conjunction(alloc, skip_word(rest, Word::Or), room))?;
+        all = longer;
         rest = after;
     }
     Ok((Condition { alternatives: all }, rest))

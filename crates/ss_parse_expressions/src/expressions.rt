@@ -8,7 +8,7 @@ ghost use Rattle.ss_parse_expressions.specs.Reading.{HasGivenReading, word, begi
 ghost use Rattle.ss_parse_expressions.specs.ReadExpressions.{sum_of_terms, product_of, sign_of_token, begins_sign, designator_of_word, begins_sum, arguments_with, enclosed_with, subscripts_with, named_with, call_with, parenthesised_with, factor_in_words, factor_with, further_factors_with, term_with, signed_term_with, first_term_with, further_terms_with, sum_with, sum_in};
 
 use crate::failure::ParseFailure;
-use crate::steps::{alone, beside};
+use crate::steps::{alone, beside, joined};
 use crate::tokens::{
     begins_symbol, begins_word, expect_symbol, skip_separator, skip_symbol, syntax, too_deep,
 };
@@ -174,8 +174,8 @@ fn further_terms(
     let mut all = Vec::new(alloc);
     let mut rest = tokens;
     'more: while begins_sign(rest) {
-        let (next, after) = signed_term(alloc, rest, room)?;
-        all.push(next)?;
+        let (longer, after) = joined(all, signed_term(alloc, rest, room))?;
+        all = longer;
         rest = after;
     }
     Ok((all, rest))
@@ -204,8 +204,8 @@ fn further_factors(
     let mut all = Vec::new(alloc);
     let mut rest = tokens;
     'more: while begins_symbol(rest, Symbol::Star) {
-        let (next, after) = factor(alloc, skip_symbol(rest, Symbol::Star), room)?;
-        all.push(next)?;
+        let (longer, after) = joined(all, factor(alloc, skip_symbol(rest, Symbol::Star), room))?;
+        all = longer;
         rest = after;
     }
     Ok((all, rest))
@@ -348,8 +348,8 @@ pub fn sums(
     let (first, mut rest) = sum(alloc, tokens, room)?;
     let mut all = alone(alloc, first)?;
     'more: while begins_more_sums(rest) {
-        let (next, after) = sum(alloc, skip_separator(rest), room)?;
-        all.push(next)?;
+        let (longer, after) = joined(all, sum(alloc, skip_separator(rest), room))?;
+        all = longer;
         rest = after;
     }
     Ok((all, rest))

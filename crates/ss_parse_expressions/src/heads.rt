@@ -12,7 +12,7 @@ use crate::expressions::sum;
 use crate::failure::ParseFailure;
 use crate::names::name;
 use crate::places::reference;
-use crate::steps::{alone, beside};
+use crate::steps::{alone, beside, joined};
 use crate::tables::{begins_word_of, take_word_of};
 use crate::tokens::{after_first, begins_word, expect_symbol, expect_word, skip_symbol, skip_word};
 use crate::words::{GuardWords, PhraseWords};
@@ -50,8 +50,8 @@ fn phrases(
     let mut all = Vec::new(alloc);
     let mut rest = tokens;
     'more: while begins_phrase(rest) {
-        let (next, after) = phrase(alloc, skip_symbol(rest, Symbol::Comma), room)?;
-        all.push(next)?;
+        let (longer, after) = joined(all, phrase(alloc, skip_symbol(rest, Symbol::Comma), room))?;
+        all = longer;
         rest = after;
     }
     Ok((all, rest))
@@ -93,8 +93,8 @@ fn guards(
     let mut all = alone(alloc, first)?;
     let mut rest = tokens;
     'more: while begins_next_guard(rest) {
-        let (next, after) = guard(alloc, skip_symbol(rest, Symbol::Comma), room)?;
-        all.push(next)?;
+        let (longer, after) = joined(all, guard(alloc, skip_symbol(rest, Symbol::Comma), room))?;
+        all = longer;
         rest = after;
     }
     Ok((all, rest))

@@ -39,7 +39,7 @@ pub fn name(tokens: &[Token]) -> Result<Name, ParseFailure>
 }
 
 /// Whether a separator and then a name follow.
-fn begins_more_names(tokens: &[Token]) -> bool
+pub fn begins_more_names(tokens: &[Token]) -> bool
     ensures { result ≡ begins_more begins_name tokens.now }
 {
     (begins_symbol(tokens, Symbol::Comma) || begins_word(tokens, Word::And))

@@ -10,7 +10,7 @@ ghost use Rattle.ss_parse_expressions.specs.ReadPlaces.{subscript_row, subscript
 
 use crate::expressions::{designator_of_word, sum};
 use crate::failure::ParseFailure;
-use crate::steps::{alone, beside};
+use crate::steps::{alone, beside, joined};
 use crate::tokens::{
     after_first, begins_symbol, begins_word, expect_symbol, skip_separator, skip_symbol, syntax,
     too_deep,
@@ -151,8 +151,8 @@ pub fn targets(
     let (first, mut rest) = target(alloc, tokens, room)?;
     let mut all = alone(alloc, first)?;
     'more: while begins_more_targets(rest) {
-        let (next, after) = target(alloc, skip_separator(rest), room)?;
-        all.push(next)?;
+        let (longer, after) = joined(all, target(alloc, skip_separator(rest), room))?;
+        all = longer;
         rest = after;
     }
     Ok((all, rest))

@@ -1,7 +1,7 @@
 //! Steps of a reading, one after the other.
 
 ghost use Rattle.std.specs.Prelude.{◌≡◌, IfOk, [], ◌∷◌};
-ghost use Rattle.ss_parse_expressions.specs.Steps.{ArePaired};
+ghost use Rattle.ss_parse_expressions.specs.Steps.{AreJoined, ArePaired};
 
 use crate::failure::ParseFailure;
 use std::alloc::{AllocError, Global};
@@ -14,6 +14,18 @@ pub fn beside<A: Drop, B>(first: A, next: Result<B, ParseFailure>) -> Result<(A,
         Ok(next) => Ok((first, next)),
         Err(e) => Err(e),
     }
+}
+
+/// What was read before with what was read next at its end, and what follows that, unless it failed.
+pub fn joined<T: Drop, R: Drop>(
+    mut before: Vec<T>,
+    next: Result<(T, R), ParseFailure>,
+) -> Result<(Vec<T>, R), ParseFailure>
+    ensures { AreJoined before next result }
+{
+    let (item, rest) = next?;
+    before.push(item)?;
+    Ok((before, rest))
 }
 
 /// A list with this one element.

@@ -137,9 +137,8 @@ abbrev mutual
 
   -- the one statement that a loop governs without DO
   pub Governed : StatementRow → ℕ → Shape
-  Governed no_statement levels = never
   Governed (and_statement s no_statement) levels = provided (May_be_governed s) (noise ▷ Begun s (Statement_rest s levels))
-  Governed (and_statement s (and_statement t ts)) levels = never
+  Governed _ levels = never
 
 -- the tokens from its first word on
 abbrev pub Statement_from : StatementTree → ℕ → Shape

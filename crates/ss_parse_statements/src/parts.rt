@@ -15,7 +15,7 @@ use ss_parse_expressions::classes::{WordClass, begins_class, skip_class};
 use ss_parse_expressions::expressions::{sum, sums};
 use ss_parse_expressions::failure::ParseFailure;
 use ss_parse_expressions::places::{reference, target, targets};
-use ss_parse_expressions::steps::beside;
+use ss_parse_expressions::steps::{beside, joined};
 use ss_parse_expressions::tables::WordTable;
 use ss_parse_expressions::tokens::{begins_word, expect_symbol, expect_word, skip_word, syntax};
 use ss_tree::expression::{Expression, Named};
@@ -111,8 +111,8 @@ pub fn pictures(
     let mut all = Vec::new(alloc);
     let mut rest = tokens;
     'more: for _ in 0..count {
-        let (next, after) = picture(alloc, rest)?;
-        all.push(next)?;
+        let (longer, after) = joined(all, picture(alloc, rest))?;
+        all = longer;
         rest = after;
     }
     Ok((all, rest))

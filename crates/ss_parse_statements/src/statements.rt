@@ -15,7 +15,7 @@ use ss_lex::{Symbol, Token, TokenKind, Word};
 use ss_parse_expressions::conditions::condition;
 use ss_parse_expressions::failure::ParseFailure;
 use ss_parse_expressions::heads::{begins_guard, for_head, guarded_head};
-use ss_parse_expressions::steps::{alone, beside};
+use ss_parse_expressions::steps::{alone, beside, joined};
 use ss_parse_expressions::tables::{begins_word_of, take_word_of};
 use ss_parse_expressions::tokens::{
     begins_word, expect_word, skip_symbol, skip_word, syntax, too_deep,
@@ -126,8 +126,9 @@ pub fn statements(
     let mut all = Vec::new(alloc);
     let mut rest = tokens;
     'more: while begins_statement(rest) {
-        let (next, after) = statement(alloc, skip_symbol(rest, Symbol::Comma), room)?;
-        all.push(next)?;
+        let next = statement(alloc, skip_symbol(rest, Symbol::Comma), room);
+        let (longer, after) = joined(all, next)?;
+        all = longer;
         rest = after;
     }
     Ok((all, rest))

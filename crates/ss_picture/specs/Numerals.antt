@@ -68,9 +68,8 @@ with_sign (negsuc _) units = neg_ℤ (pos units)
 -- a sum divided by a number and rounded to decimals, halves away from zero, in units of the last decimal; zero where the
 -- number is 0 (one below 0 is no number of values)
 abbrev pub mean_units : ℕ → ℤ → ℤ → ℤ
-mean_units decimals sum (pos zero) = pos 0
 mean_units decimals sum (pos (suc others)) = with_sign sum (nearest decimals (unsigned_abs sum) (suc others))
-mean_units decimals sum (negsuc _) = pos 0
+mean_units decimals sum _ = pos 0
 
 -- how the mean of a sum and a number is written with so many decimals
 abbrev pub mean_text : ℕ → ℤ → ℤ → List ℕ

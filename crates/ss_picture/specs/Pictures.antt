@@ -54,9 +54,8 @@ pub data Piece : Type 0 where
 
 -- a byte of no field before these pieces: it joins the bytes that they begin with, or is a piece by itself
 abbrev pub byte_before : ℕ → List Piece → List Piece
-byte_before byte [] = Literal (byte ∷ []) ∷ []
 byte_before byte (Literal bytes ∷ rest) = Literal (byte ∷ bytes) ∷ rest
-byte_before byte (Slot field ∷ rest) = Literal (byte ∷ []) ∷ Slot field ∷ rest
+byte_before byte pieces = Literal (byte ∷ []) ∷ pieces
 
 -- the pieces of bytes of which so many still belong to the field before them: an asterisk after these begins a field
 abbrev pub pieces_after : ℕ → List ℕ → List Piece

@@ -477,8 +477,7 @@ impl Heap {
         ensures done { MatchResult result (λ _. filed_first self.old.state set o x ≡ Ok self.new.state) (λ e. (filed_first self.old.state set o x ≡ Err e) × (self.new.state ≡ self.old.state)) }
         ensures touches { (self.new.touches ≤ 12) × (IsOk result → 4 ≤ self.new.touches) × (self.new.total ≡ self.old.total + self.new.touches) }
     {
-        self.records.start();
-        self.records.file_first(set, o, x)
+        self.records.file_end(set, o, x, false)
     }
 
     /// Files x as the last member of the set of an owner. Faults: those of x (1 to 5), then those of the owner,
@@ -489,7 +488,7 @@ impl Heap {
         ensures done { MatchResult result (λ _. filed_last self.old.state set o x ≡ Ok self.new.state) (λ e. (filed_last self.old.state set o x ≡ Err e) × (self.new.state ≡ self.old.state)) }
         ensures touches { (self.new.touches ≤ 12) × (IsOk result → 4 ≤ self.new.touches) × (self.new.total ≡ self.old.total + self.new.touches) }
     {
-        self.records.file_last(set, o, x)
+        self.records.file_end(set, o, x, true)
     }
 
     /// Files x directly before y in the set of an owner. Faults: those of x (1 to 5), of y, of the owner, then 6
@@ -533,7 +532,7 @@ impl Heap {
         ensures done { MatchResult result (λ x. first_removed self.old.state set o ≡ Ok (x, self.new.state)) (λ e. (first_removed self.old.state set o ≡ Err e) × (self.new.state ≡ self.old.state)) }
         ensures touches { (self.new.touches ≤ 12) × (self.new.total ≡ self.old.total + self.new.touches) }
     {
-        self.records.remove_first(set, o)
+        self.records.remove_end(set, o, false)
     }
 
     /// Takes the last member out of the set of an owner, and answers it: a `last` and a `remove` with one look for the
@@ -543,8 +542,7 @@ impl Heap {
         ensures done { MatchResult result (λ x. last_removed self.old.state set o ≡ Ok (x, self.new.state)) (λ e. (last_removed self.old.state set o ≡ Err e) × (self.new.state ≡ self.old.state)) }
         ensures touches { (self.new.touches ≤ 12) × (self.new.total ≡ self.old.total + self.new.touches) }
     {
-        self.records.start();
-        self.records.remove_last(set, o)
+        self.records.remove_end(set, o, true)
     }
 
     /// Whether x is in the set of an owner. Faults: those of x (1 to 5), then those of the owner.

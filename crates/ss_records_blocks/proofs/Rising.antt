@@ -1,6 +1,6 @@
 -- Lists in rising order of their numbers: what is at a place, where a search ends, and what a new number, a write and a
 -- removal leave.
-use Rattle.std.proofs.Common.{◌≡◌, ℕ, zero, suc, ◌-◌, ◌<◌, ◌≤◌, Bool, true, false, cond, List, [], ◌∷◌, ◌++◌, length, get_or, slice_get, slice_set, Some, None, Result, Ok, Err, MatchResult, IsSome, refl, sym, ap, subst, ◌∙◌, arith}
+use Rattle.std.proofs.Common.{◌≡◌, ℕ, zero, suc, ◌-◌, ◌<◌, ◌≤◌, Bool, true, false, cond, List, [], ◌∷◌, ◌++◌, length, get_or, slice_get, slice_set, Some, None, Result, Ok, Err, MatchResult, refl, sym, ap, subst, ◌∙◌, arith}
 use Rattle.std.specs.Ordering.{nat_cmp, eq_by_cmp, ordering_index}
 use Rattle.std.specs.Cmp.{nat_cmp_is}
 use Rattle.std.specs.declared.cmp.Ordering.TheVariants.{Less, Equal, Greater}
@@ -123,9 +123,6 @@ module _ {A : Type 0} (ps : List (ℕ × A)) (r : AreRising ps) (k q : ℕ) (p :
 
   pub rises_written : AreRising (slice_set ps k (q, w))
   rises_written = subst (IsStrictlySortedBy nat_cmp) (sym (ap keys_of written ∙ keys-set_value (is_at (nat_cmp q)) ps w)) r
-
-  there : IsSome (under ps q)
-  there = subst IsSome (sym (held_at ps r k q p g)) refl
 
 -- ## A removal
 

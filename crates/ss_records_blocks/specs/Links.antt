@@ -20,16 +20,19 @@ slots_at m o = record { next = m; prev = m + 1; owner = m + 2; first = o; last =
 abbrev pub hooked : Bool → Cells → Ptr → ℕ → Ptr → ℕ → Ptr → Cells
 hooked ends cs o k a j x = cond ends (put_word cs o k (link x)) (put_word cs a j (link x))
 
--- the blocks once x is linked in between a and b in the list of o, which had n members. A neighbour that is no member is
--- at the end
+-- the blocks once the next, previous and owner of x lead to nx, px and ox, the next of a and the previous of b in the list of o to na and
+-- pb, and o counts n members. A neighbour that is no member is at the end
+abbrev pub rewired : Slots → Cells → Ptr → Ptr → Bool → Ptr → Ptr → Bool → (nx px ox na pb : Ptr) → ℕ → Cells
+rewired w cs o a a_ends x b b_ends nx px ox na pb n =
+    put_word (hooked b_ends (hooked a_ends (put_word (put_word (put_word cs x w.next (link nx)) x w.prev (link px)) x w.owner (link ox)) o w.first a w.next na) o w.last b w.prev pb) o w.count (counter n)
+
+-- the blocks once x is linked in between a and b in the list of o, which had n members
 abbrev pub linked_in : Slots → Cells → Ptr → Ptr → Bool → Ptr → Ptr → Bool → ℕ → Cells
-linked_in w cs o a a_ends x b b_ends n =
-    put_word (hooked b_ends (hooked a_ends (put_word (put_word (put_word cs x w.next (link b)) x w.prev (link a)) x w.owner (link o)) o w.first a w.next x) o w.last b w.prev x) o w.count (counter (n + 1))
+linked_in w cs o a a_ends x b b_ends n = rewired w cs o a a_ends x b b_ends b a o x x (n + 1)
 
 -- the blocks once x is taken out from between a and b in the list of o, which had n members
 abbrev pub unlinked_in : Slots → Cells → Ptr → Ptr → Bool → Ptr → Ptr → Bool → ℕ → Cells
-unlinked_in w cs o a a_ends x b b_ends n =
-    put_word (put_word (put_word (put_word (hooked b_ends (hooked a_ends cs o w.first a w.next b) o w.last b w.prev a) x w.next (link x)) x w.prev (link x)) x w.owner (link x)) o w.count (counter (n - 1))
+unlinked_in w cs o a a_ends x b b_ends n = rewired w cs o a a_ends x b b_ends x x x b a (n - 1)
 
 -- the word k of the block at p leads to the block at `to`, which has the number n
 pub record HasLink (cs : Cells) (p : Ptr) (k : ℕ) : Type 0 where

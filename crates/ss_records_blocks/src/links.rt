@@ -158,13 +158,13 @@ impl Blocks {
             count,
         } = *position;
         self.expect(6);
+        self.relink(x, member, x);
+        self.relink(x, member + 1, x);
+        self.relink(x, member + 2, x);
         let next = LinkWord(before, member);
         let previous = LinkWord(after, member + 1);
         self.hook(is_first, LinkWord(owner, set), next, after);
         self.hook(is_last, LinkWord(owner, set + 1), previous, before);
-        self.relink(x, member, x);
-        self.relink(x, member + 1, x);
-        self.relink(x, member + 2, x);
         self.set_count(owner, set + 2, count - 1);
     }
 }

@@ -1,7 +1,7 @@
 -- The class of an entity that is known by its creation number.
-use Rattle.std.proofs.Common.{◌≡◌, ℕ, ◌<◌, length, Ok, inl, refl, ap, subst, ◌∙◌}
-use Rattle.ss_records_entities.proofs.Common.{BlockPlace, class_at_place, ClassKind, IsKept, IsPermanent, Notice, number, numbered_place, Permanent, places, plain, record_of, Records, state, Temporary, word_at, words_at, ℤ}
-use Rattle.ss_world.specs.State.{and_then, entity_of_kind, kind_of, no_value, numbered_record, of_class, State, known_in}
+use Rattle.std.proofs.Common.{◌≡◌, ℕ, ◌<◌, length, Ok, inl, ap, subst, ◌∙◌}
+use Rattle.ss_records_entities.proofs.Common.{BlockPlace, class_at_place, IsKept, IsPermanent, number, numbered_place, places, plain, record_of, Records, state, word_at, words_at, ℤ}
+use Rattle.ss_world.specs.State.{kind_of}
 use Rattle.ss_records_entities.specs.Classed.{HasClass}
 use Rattle.ss_records_entities.proofs.Keeps.{read_place, numbered_is, there}
 
@@ -17,14 +17,3 @@ class_there r K x p c h w =
       inside = subst (λ n. n < length r.layout.classes) is (K.classes t.0 p (inl t.2));
       kind = subst (λ n. IsPermanent (kind_of r.layout n) → ⊥) is (K.kinds t.0 p t.2);
     }
-
--- ## What is known of such an entity
-
-module _ (s : State) (x : ℤ) (c : ℕ) (h : HasClass s x c) where
-  by_kind : (k : ClassKind) → (IsPermanent k → ⊥) → (d : ℕ) → entity_of_kind s k d x ≡ and_then (numbered_record s x) (of_class d)
-  by_kind Permanent n d = absurd (n tt)
-  by_kind Temporary n d = refl
-  by_kind Notice n d = refl
-
-  looked : (d : ℕ) → (IsPermanent (kind_of s.layout d) → ⊥) → known_in s d x ≡ no_value (of_class d h.seen)
-  looked d k = ap no_value (by_kind (kind_of s.layout d) k d ∙ ap (λ r. and_then r (of_class d)) h.found)

@@ -117,9 +117,6 @@ module _ (l : Layout) (cs : Cells) (sys : Ptr) (d : Directory) (ms : List Member
     by_entry i p e k (inr (b, ps, m, x)) = let y = K.made b ps m in kind (subst (λ a. IsPermanent (kind_of l a)) (sym (y.class i p x) ∙ k) y.permanent)
 
   module _ (q : BlockPlace) (fresh : words_at cs q.at ≡ []) (w c : ℕ) (size : w ≡ block_words l (Class c)) (ds : Cells) (laid : IsLaid l ((q.at, blanks w) ∷ cs) ds sys q.at c (length d.numbers + 1)) (kind : IsPermanent (kind_of l c) → ⊥) (inside : c < length l.classes) (room : length d.numbers < LAST_NUMBER) where
-    abbrev bs : Cells
-    bs = (q.at, blanks w) ∷ cs
-
     abbrev e : Directory
     e = lying (d.numbers ++ Some q ∷ []) d.classes
 

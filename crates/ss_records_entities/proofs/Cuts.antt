@@ -2,12 +2,19 @@
 use Rattle.std.proofs.Common.{◌≡◌, ℕ, ◌+◌, ◌<◌, Bool, true, false, List, [], ◌∷◌, ◌++◌, length, slice_get, Some, Ok, Err, refl, sym, ap, subst, ◌∙◌, append_assoc, append-nil}
 use Rattle.std.specs.Prelude.{ℤ, if◌then◌else◌, Result, MatchResult}
 use denote.RawPtr.{Ptr}
-use Rattle.ss_records_entities.proofs.Common.{and_then, AreAllDistinct, AreNeighbours, CanJoin, contains, contains_in, entity_at, EntityBlock, FaultKind, get_there, HasLink, HasNeighbours, head0, is_filed, IsInList, IsInPlace, IsKept, IsNotInList, IsOwnerBlock, last_or, link, member_base, members_of, number, owner_base, places, pred_from, Records, SetLayout, State, succ, word_at}
-use Rattle.ss_records_words.proofs.Splice.{distinct_less, succ_cut, cut, pred_cut, last_splice}
-use Rattle.ss_world.specs.Sets.{joiner, less, owner, put_before, put_in, with_list_of, put_after, put_beside, filed_before, filed_after, taken_out}
+use Rattle.ss_records_entities.specs.Parts.{before_end, after_end}
+use Rattle.ss_records_entities.proofs.Common.{after_in, and_then, AreAllDistinct, AreNeighbours, before_in, CanJoin, contains, contains_in, entity_at, EntityBlock, FaultKind, get_there, HasLink, HasNeighbours, head0, is_filed, IsInList, IsInPlace, IsKept, IsNotInList, IsOwnerBlock, last_or, link, member_base, members_of, number, owner_base, places, pred_from, Records, SetLayout, State, succ, word_at}
+use Rattle.ss_records_words.proofs.Splice.{distinct_less, succ_cut, succ_last, cut, pred_cut, pred_head, last_splice}
+use Rattle.ss_world.specs.Sets.{joiner, less, owner, put_before, put_in, with_list_of, put_after, put_beside, filed_first, filed_last, filed_before, filed_after, taken_out}
 use Rattle.ss_base.specs.declared.fault.FaultKind.TheVariants.{FiledTwice, NotFiled}
 use Rattle.ss_records_entities.proofs.Listed.{put_before_cut, put_after_cut, less_cut, not_in_front}
 use Rattle.ss_records_entities.proofs.Leading.{To, leads, at_target, its_number, its_members, positive, first_to, last_to, next_to, prev_to}
+
+-- q is the last member of the set s of o, or the first
+pub record IsAtEnd (r : Records) (s o : ℕ) (last : Bool) (q : EntityBlock) : Type 0 where
+  pub lies : IsInPlace r s q
+  pub is : q.number ≡ (if last then last_or 0 (members_of r.notes.lists s o) else head0 (members_of r.notes.lists s o))
+  pub inn : IsInList q.number (members_of r.notes.lists s o)
 
 -- the list with one more directly before another, or after it
 abbrev pub put_by : Bool → ℕ → ℕ → List ℕ → List ℕ
@@ -29,15 +36,21 @@ module _ (r : Records) (K : IsKept r) (s : ℕ) (inside : s < length r.layout.se
 
   -- at the ends of a set
   module _ (e : EntityBlock) (h : IsOwnerBlock r s e) (b : ℕ) (base : (u : SetLayout) → slice_get r.layout.sets s ≡ Some u → b ≡ owner_base r.layout s u) (q : EntityBlock) where
-    pub at_first : word_at r.blocks.cells e.place.at b ≡ link q.place.at → word_at r.blocks.cells q.place.at 1 ≡ number q.number → AreNeighbours r s e.number end q [] (f e.number)
-    at_first w v =
+    pub at_end : (last : Bool) → word_at r.blocks.cells e.place.at (if last then b + 1 else b) ≡ link q.place.at → word_at r.blocks.cells q.place.at 1 ≡ number q.number
+        → AreNeighbours r s e.number (if last then q else end) (if last then end else q) (before_end last (f e.number)) (after_end last (f e.number))
+    at_end false w v =
         let l = lies_there e.place.at b _ (first_to r.layout r.blocks.cells r.system.at (places r) r.notes.lists K s inside e.place.at e.number h.lies h.may b base) q w v in
         record { list = refl; before = refl; last = refl; after = l.0; first = l.1 }
-
-    pub at_last : word_at r.blocks.cells e.place.at (b + 1) ≡ link q.place.at → word_at r.blocks.cells q.place.at 1 ≡ number q.number → AreNeighbours r s e.number q end (f e.number) []
-    at_last w v =
+    at_end true w v =
         let l = lies_there e.place.at (b + 1) _ (last_to r.layout r.blocks.cells r.system.at (places r) r.notes.lists K s inside e.place.at e.number h.lies h.may b base) q w v in
         record { list = sym (append-nil (f e.number)); before = l.0; last = l.1; after = refl; first = refl }
+
+    -- the member there, if there is one
+    pub end_is : (last : Bool) → word_at r.blocks.cells e.place.at (if last then b + 1 else b) ≡ link q.place.at → word_at r.blocks.cells q.place.at 1 ≡ number q.number → (q.number ≡ 0 → ⊥) → IsAtEnd r s e.number last q
+    end_is false w v some = let a = at_end false w v in
+        record { lies = a.after; is = a.first; inn = after_in q.number [] (f e.number) (sym a.first) (λ i. some (sym i)) }
+    end_is true w v some = let a = at_end true w v in
+        record { lies = a.before; is = a.last; inn = subst (IsInList q.number) (append-nil (f e.number)) (before_in q.number (f e.number) [] (sym a.last) (λ i. some (sym i))) }
 
   -- beside a member y
   module _ (y : EntityBlock) (j : CanJoin r s y) (b : ℕ) (base : (u : SetLayout) → slice_get r.layout.sets s ≡ Some u → b ≡ member_base r.layout s u) (o : ℕ) (there : contains (f o) y.number ≡ true) where
@@ -56,51 +69,29 @@ module _ (r : Records) (K : IsKept r) (s : ℕ) (inside : s < length r.layout.se
     some : 0 ≡ y.number → ⊥
     some = positive r.layout r.blocks.cells r.system.at (places r) r.notes.lists K s inside y.place.at y.number j.lies j.is b base
 
+    distinct : AreAllDistinct (f o)
+    distinct = let k = get_there r.layout.sets s inside in (K.names s k.0 k.1).distinct o
+
     apart : AreAllDistinct (xs ++ y.number ∷ ys)
-    apart = let k = get_there r.layout.sets s inside in subst AreAllDistinct parts.2 ((K.names s k.0 k.1).distinct o)
+    apart = subst AreAllDistinct parts.2 distinct
 
     not_before : IsNotInList y.number xs
     not_before = not_in_front y.number xs ys (distinct_less xs y.number ys apart).1
 
-    next_there : To r.blocks.cells at y.place.at b (succ y.number (f o))
-    next_there = next_to r.layout r.blocks.cells r.system.at (places r) r.notes.lists K s inside y.place.at y.number j.lies j.is b base o here
+    -- on one side of it: before it, or after it
+    abbrev Read : Bool → EntityBlock → Type 0
+    Read before q = word_at r.blocks.cells y.place.at (if before then b + 1 else b) ≡ link q.place.at
 
-    prev_there : To r.blocks.cells at y.place.at (b + 1) (pred_from 0 y.number (f o))
-    prev_there = prev_to r.layout r.blocks.cells r.system.at (places r) r.notes.lists K s inside y.place.at y.number j.lies j.is b base o here
+    there_beside : (before : Bool) → To r.blocks.cells at y.place.at (if before then b + 1 else b) (if before then pred_from 0 y.number (f o) else succ y.number (f o))
+    there_beside true = prev_to r.layout r.blocks.cells r.system.at (places r) r.notes.lists K s inside y.place.at y.number j.lies j.is b base o here
+    there_beside false = next_to r.layout r.blocks.cells r.system.at (places r) r.notes.lists K s inside y.place.at y.number j.lies j.is b base o here
 
-    pub next_found : HasLink r.blocks.cells y.place.at b
-    next_found = leads r.blocks.cells at y.place.at b _ next_there
-
-    pub prev_found : HasLink r.blocks.cells y.place.at (b + 1)
-    prev_found = leads r.blocks.cells at y.place.at (b + 1) _ prev_there
-
-    module _ (q : EntityBlock) (w : word_at r.blocks.cells y.place.at b ≡ link q.place.at) (v : word_at r.blocks.cells q.place.at 1 ≡ number q.number) where
-      next_is : (IsInPlace r s q) × (q.number ≡ head0 ys)
-      next_is = let l = lies_there y.place.at b _ next_there q w v in (l.0, l.1 ∙ ap (succ y.number) parts.2 ∙ succ_cut xs y.number ys some apart)
-
-      after_it : AreNeighbours r s o y q (xs ++ y.number ∷ []) ys
-      after_it = record { list = parts.2 ∙ sym (append_assoc xs (y.number ∷ []) ys); before = j.lies; last = sym (last_splice 0 xs y.number []); after = next_is.0; first = next_is.1 }
-
-    module _ (q : EntityBlock) (w : word_at r.blocks.cells y.place.at (b + 1) ≡ link q.place.at) (v : word_at r.blocks.cells q.place.at 1 ≡ number q.number) where
-      prev_is : (IsInPlace r s q) × (q.number ≡ last_or 0 xs)
-      prev_is = let l = lies_there y.place.at (b + 1) _ prev_there q w v in (l.0, l.1 ∙ ap (pred_from 0 y.number) parts.2 ∙ pred_cut xs y.number ys some apart)
-
-      before_it : AreNeighbours r s o q y xs (y.number ∷ ys)
-      before_it = record { list = parts.2; before = prev_is.0; last = prev_is.1; after = j.lies; first = refl }
-
-      pub around_it : (z : EntityBlock) → word_at r.blocks.cells y.place.at b ≡ link z.place.at → word_at r.blocks.cells z.place.at 1 ≡ number z.number → HasNeighbours r s o y.number q z xs ys
-      around_it z wz vz = let n = next_is z wz vz in record { list = parts.2; before = prev_is.0; last = prev_is.1; after = n.0; first = n.1 }
-
-    list_before : (x : ℕ) → xs ++ x ∷ y.number ∷ ys ≡ put_before y.number x (f o)
-    list_before x = sym (ap (put_before y.number x) parts.2 ∙ put_before_cut xs y.number x ys not_before)
-
-    list_after : (x : ℕ) → (xs ++ y.number ∷ []) ++ x ∷ ys ≡ put_after y.number x (f o)
-    list_after x = append_assoc xs (y.number ∷ []) (x ∷ ys) ∙ sym (ap (put_after y.number x) parts.2 ∙ put_after_cut xs y.number x ys not_before)
-
-    -- on either side of it
     pub beside_found : (before : Bool) → HasLink r.blocks.cells y.place.at (if before then b + 1 else b)
-    beside_found true = prev_found
-    beside_found false = next_found
+    beside_found before = leads r.blocks.cells at y.place.at (if before then b + 1 else b) _ (there_beside before)
+
+    is_beside : (before : Bool) (q : EntityBlock) → Read before q → word_at r.blocks.cells q.place.at 1 ≡ number q.number → (IsInPlace r s q) × (q.number ≡ (if before then last_or 0 xs else head0 ys))
+    is_beside true q w v = let l = lies_there y.place.at (b + 1) _ (there_beside true) q w v in (l.0, l.1 ∙ ap (pred_from 0 y.number) parts.2 ∙ pred_cut xs y.number ys some apart)
+    is_beside false q w v = let l = lies_there y.place.at b _ (there_beside false) q w v in (l.0, l.1 ∙ ap (succ y.number) parts.2 ∙ succ_cut xs y.number ys some apart)
 
     abbrev pub front : Bool → List ℕ
     front true = xs
@@ -110,33 +101,58 @@ module _ (r : Records) (K : IsKept r) (s : ℕ) (inside : s < length r.layout.se
     back true = y.number ∷ ys
     back false = ys
 
-    pub beside_it : (before : Bool) (q : EntityBlock) → word_at r.blocks.cells y.place.at (if before then b + 1 else b) ≡ link q.place.at → word_at r.blocks.cells q.place.at 1 ≡ number q.number → AreNeighbours r s o (if before then q else y) (if before then y else q) (front before) (back before)
-    beside_it true q w v = before_it q w v
-    beside_it false q w v = after_it q w v
+    pub beside_it : (before : Bool) (q : EntityBlock) → Read before q → word_at r.blocks.cells q.place.at 1 ≡ number q.number → AreNeighbours r s o (if before then q else y) (if before then y else q) (front before) (back before)
+    beside_it true q w v = let n = is_beside true q w v in
+        record { list = parts.2; before = n.0; last = n.1; after = j.lies; first = refl }
+    beside_it false q w v = let n = is_beside false q w v in
+        record { list = parts.2 ∙ sym (append_assoc xs (y.number ∷ []) ys); before = j.lies; last = sym (last_splice 0 xs y.number []); after = n.0; first = n.1 }
 
     pub list_beside : (before : Bool) (x : ℕ) → front before ++ x ∷ back before ≡ put_by before y.number x (f o)
-    list_beside true x = list_before x
-    list_beside false x = list_after x
+    list_beside true x = sym (ap (put_before y.number x) parts.2 ∙ put_before_cut xs y.number x ys not_before)
+    list_beside false x = append_assoc xs (y.number ∷ []) (x ∷ ys) ∙ sym (ap (put_after y.number x) parts.2 ∙ put_after_cut xs y.number x ys not_before)
+
+    -- on both sides
+    pub around_it : (q : EntityBlock) → Read true q → word_at r.blocks.cells q.place.at 1 ≡ number q.number → (z : EntityBlock) → Read false z → word_at r.blocks.cells z.place.at 1 ≡ number z.number → HasNeighbours r s o y.number q z xs ys
+    around_it q w v z wz vz = let p = is_beside true q w v in let n = is_beside false z wz vz in
+        record { list = parts.2; before = p.0; last = p.1; after = n.0; first = n.1 }
 
     pub list_less : xs ++ ys ≡ less y.number (f o)
     list_less = sym (ap (less y.number) parts.2 ∙ less_cut xs y.number ys not_before)
+
+    -- where it is at an end, by the neighbour on the other side
+    pub around_end : (last : Bool) → y.number ≡ (if last then last_or 0 (f o) else head0 (f o)) → (z : EntityBlock) → Read last z → word_at r.blocks.cells z.place.at 1 ≡ number z.number → HasNeighbours r s o y.number (if last then z else end) (if last then end else z) xs ys
+    around_end false is z w v =
+        let n = is_beside false z w v in
+        let none : pred_from 0 y.number (f o) ≡ 0 = pred_head 0 y.number [] (f o) (sym is) some distinct in
+        record { list = parts.2; before = refl; last = sym none ∙ ap (pred_from 0 y.number) parts.2 ∙ pred_cut xs y.number ys some apart; after = n.0; first = n.1 }
+    around_end true is z w v =
+        let p = is_beside true z w v in
+        let none : succ y.number (f o ++ []) ≡ 0 = succ_last y.number (f o) [] (sym is) some (subst AreAllDistinct (sym (append-nil (f o))) distinct) in
+        record { list = parts.2; before = p.0; last = p.1; after = refl; first = sym none ∙ ap (succ y.number) (append-nil (f o)) ∙ ap (succ y.number) parts.2 ∙ succ_cut xs y.number ys some apart }
 
 -- what was done, as the definitions say
 module _ (st : State) (s : ℕ) (o x : ℤ) (m n : ℕ) (jn : joiner st s x ≡ Ok n) (om : owner st s o ≡ Ok m) where
   at_both : (g : ℕ → ℕ → Result State FaultKind) → and_then (joiner st s x) (λ i. and_then (owner st s o) (g i)) ≡ g n m
   at_both g = ap (λ z. and_then z (λ i. and_then (owner st s o) (g i))) jn ∙ ap (λ z. and_then z (g n)) om
 
-  pub put_twice : (put : ℕ → List ℕ → List ℕ) → is_filed st.lists s n ≡ true → and_then (joiner st s x) (λ i. and_then (owner st s o) (λ k. put_in put st s k i)) ≡ Err FiledTwice
+  put_twice : (put : ℕ → List ℕ → List ℕ) → is_filed st.lists s n ≡ true → and_then (joiner st s x) (λ i. and_then (owner st s o) (λ k. put_in put st s k i)) ≡ Err FiledTwice
   put_twice put h = at_both (λ i k. put_in put st s k i) ∙ rw h refl
 
-  pub put_done : (put : ℕ → List ℕ → List ℕ) (new : State) → is_filed st.lists s n ≡ false → new ≡ with_list_of st s m (put n (members_of st.lists s m)) → and_then (joiner st s x) (λ i. and_then (owner st s o) (λ k. put_in put st s k i)) ≡ Ok new
+  put_done : (put : ℕ → List ℕ → List ℕ) (new : State) → is_filed st.lists s n ≡ false → new ≡ with_list_of st s m (put n (members_of st.lists s m)) → and_then (joiner st s x) (λ i. and_then (owner st s o) (λ k. put_in put st s k i)) ≡ Ok new
   put_done put new h e = at_both (λ i k. put_in put st s k i) ∙ rw h (ap Ok (sym e))
 
-  pub put_tried : (put : ℕ → List ℕ → List ℕ) (new : State) (r : Result (Unit {0}) FaultKind)
+  put_tried : (put : ℕ → List ℕ → List ℕ) (new : State) (r : Result (Unit {0}) FaultKind)
       → MatchResult r (λ _. (is_filed st.lists s n ≡ false) × (new ≡ with_list_of st s m (put n (members_of st.lists s m)))) (λ e. (e ≡ FiledTwice) × (is_filed st.lists s n ≡ true) × (new ≡ st))
       → MatchResult r (λ _. and_then (joiner st s x) (λ i. and_then (owner st s o) (λ k. put_in put st s k i)) ≡ Ok new) (λ e. (and_then (joiner st s x) (λ i. and_then (owner st s o) (λ k. put_in put st s k i)) ≡ Err e) × (new ≡ st))
   put_tried put new (Ok u) h = put_done put new h.0 h.1
   put_tried put new (Err e) h = (put_twice put h.1 ∙ ap Err (sym h.0), h.2)
+
+  -- at an end
+  pub end_tried : (last : Bool) (new : State) (r : Result (Unit {0}) FaultKind)
+      → MatchResult r (λ _. (is_filed st.lists s n ≡ false) × (new ≡ with_list_of st s m (before_end last (members_of st.lists s m) ++ n ∷ after_end last (members_of st.lists s m)))) (λ e. (e ≡ FiledTwice) × (is_filed st.lists s n ≡ true) × (new ≡ st))
+      → MatchResult r (λ _. (if last then filed_last else filed_first) st s o x ≡ Ok new) (λ e. ((if last then filed_last else filed_first) st s o x ≡ Err e) × (new ≡ st))
+  end_tried true new r h = put_tried (λ y l. l ++ y ∷ []) new r h
+  end_tried false new r h = put_tried (λ y l. y ∷ l) new r h
 
   pub not_out : contains (members_of st.lists s m) n ≡ false → and_then (joiner st s x) (λ i. and_then (owner st s o) (λ k. taken_out st s k i)) ≡ Err NotFiled
   not_out h = at_both (λ i k. taken_out st s k i) ∙ rw h refl
@@ -165,7 +181,12 @@ module _ (st : State) (s : ℕ) (o x : ℤ) (m n : ℕ) (jn : joiner st s x ≡ 
       pub beside_done : (new : State) → is_filed st.lists s n ≡ false → contains (members_of st.lists s m) k ≡ true → new ≡ with_list_of st s m (put_by before k n (members_of st.lists s m)) → whole ≡ Ok new
       beside_done new h i e = side before ∙ rw (h, i) (ap Ok (sym e))
 
--- where one of the three references is to none, so does filing fail
+-- where one of the references is to none, so does filing fail
+pub end_failed : (last : Bool) (st : State) (s : ℕ) (o x : ℤ) (f : FaultKind) → ((g : ℕ → ℕ → Result State FaultKind) → and_then (joiner st s x) (λ n. and_then (owner st s o) (g n)) ≡ Err f)
+    → (if last then filed_last else filed_first) st s o x ≡ Err f
+end_failed true st s o x f h = h (λ n m. put_in (λ y l. l ++ y ∷ []) st s m n)
+end_failed false st s o x f h = h (λ n m. put_in (λ y l. y ∷ l) st s m n)
+
 pub beside_failed : (before : Bool) (st : State) (s : ℕ) (o x y : ℤ) (f : FaultKind)
     → ((g : ℕ → ℕ → ℕ → Result State FaultKind) → and_then (joiner st s x) (λ n. and_then (joiner st s y) (λ k. and_then (owner st s o) (g n k))) ≡ Err f)
     → (if before then filed_before else filed_after) st s o x y ≡ Err f

@@ -1,6 +1,7 @@
 -- Taking the first or the last member out of a set, and the test of membership.
-use Rattle.std.proofs.Common.{◌≡◌, ℕ, zero, suc, Bool, true, ◌+◌, ◌≤◌, ◌<◌, ◌^◌, List, [], length, Ok, Err, refl, sym, ap, subst, ◌∙◌, arith}
-use Rattle.ss_records_entities.proofs.Common.{after_in, and_then, AreNeighbours, before_in, CanJoin, contains, EntityBlock, FaultKind, get_there, head0, in_contains, IsEntityOf, IsInList, IsInPlace, IsKept, last_or, MatchResult, members_of, places, pos, Records, Result, State, state, ℤ}
+use Rattle.std.proofs.Common.{◌≡◌, ℕ, zero, suc, Bool, true, false, ◌+◌, ◌≤◌, ◌<◌, length, Ok, Err, refl, sym, ap, subst, ◌∙◌, arith}
+use Rattle.std.specs.Prelude.{if◌then◌else◌}
+use Rattle.ss_records_entities.proofs.Common.{and_then, CanJoin, contains, EntityBlock, FaultKind, first_in, get_there, head0, in_contains, IsEntityOf, IsInList, IsInPlace, IsKept, last_in, last_or, MatchResult, members_of, places, pos, Records, Result, State, state, ℤ}
 use Rattle.ss_world.specs.Sets.{joiner, less, member_in, owner, with_list_of, removed}
 use Rattle.ss_base.specs.declared.fault.FaultKind.TheVariants.{EmptySet}
 use Rattle.ss_world.specs.Disciplines.{take, first_removed, last_removed, member_test}
@@ -27,36 +28,35 @@ module _ (r : Records) (K : IsKept r) (s : ℕ) (inside : s < length r.layout.se
   took zero x new h e = absurd (h refl)
   took (suc n) x new h e = ap (λ z. and_then z (λ t. Ok (pos (suc n), t))) e
 
-  pub taken : (x y : ℤ) (new : State) (look : Result ℤ FaultKind) → owner (state r) s x ≡ Ok o → look ≡ Ok y → y ≡ pos q.number → new ≡ with_list_of (state r) s o (less q.number (members_of r.notes.lists s o)) → and_then look (take (state r) s x) ≡ Ok (y, new)
+  taken : (x y : ℤ) (new : State) (look : Result ℤ FaultKind) → owner (state r) s x ≡ Ok o → look ≡ Ok y → y ≡ pos q.number → new ≡ with_list_of (state r) s o (less q.number (members_of r.notes.lists s o)) → and_then look (take (state r) s x) ≡ Ok (y, new)
   taken x y new look om found is e =
       ap (λ z. and_then z (take (state r) s x)) (found ∙ ap (λ z. Ok z) is)
       ∙ took q.number x new some_it (out_done (state r) s x (pos q.number) o q.number joined_it om new has_it e)
       ∙ ap (λ z. Ok (z, new)) (sym is)
 
--- at the ends
-module _ (r : Records) (s o : ℕ) (a z : EntityBlock) where
-  pub first_in_it : (ys : List ℕ) → AreNeighbours r s o a z [] ys → (z.number ≡ 0 → ⊥) → IsInList z.number (members_of r.notes.lists s o)
-  first_in_it ys w n = subst (IsInList z.number) (sym w.list) (after_in z.number [] ys (sym w.first) (λ i. n (sym i)))
-
-  pub last_in_it : (xs : List ℕ) → AreNeighbours r s o a z xs [] → (a.number ≡ 0 → ⊥) → IsInList a.number (members_of r.notes.lists s o)
-  last_in_it xs w n = subst (IsInList a.number) (sym w.list) (before_in a.number xs [] (sym w.last) (λ i. n (sym i)))
+  pub end_taken : (last : Bool) (x y : ℤ) (new : State) → owner (state r) s x ≡ Ok o → (if last then last_in (state r) s x else first_in (state r) s x) ≡ Ok y → y ≡ pos q.number → new ≡ with_list_of (state r) s o (less q.number (members_of r.notes.lists s o))
+      → (if last then last_removed else first_removed) (state r) s x ≡ Ok (y, new)
+  end_taken false x y new om found is e = taken x y new (first_in (state r) s x) om found is e
+  end_taken true x y new om found is e = taken x y new (last_in (state r) s x) om found is e
 
 -- none to take
-pub none_taken : (st : State) (s n : ℕ) (x y : ℤ) (look : Result ℤ FaultKind) → look ≡ Ok y → y ≡ pos n → n ≡ 0 → and_then look (take st s x) ≡ Err EmptySet
+none_taken : (st : State) (s n : ℕ) (x y : ℤ) (look : Result ℤ FaultKind) → look ≡ Ok y → y ≡ pos n → n ≡ 0 → and_then look (take st s x) ≡ Err EmptySet
 none_taken st s n x y look found is none = ap (λ z. and_then z (take st s x)) (found ∙ ap (λ z. Ok z) (is ∙ ap pos none))
 
-pub first_refused : (st : State) (s : ℕ) (x : ℤ) (e : FaultKind) → owner st s x ≡ Err e → first_removed st s x ≡ Err e
-first_refused st s x e h = ap (λ z. and_then (and_then z (λ n. Ok (pos (head0 (members_of st.lists s n))))) (take st s x)) h
+pub none_at_end : (last : Bool) (st : State) (s n : ℕ) (x y : ℤ) → (if last then last_in st s x else first_in st s x) ≡ Ok y → y ≡ pos n → n ≡ 0 → (if last then last_removed else first_removed) st s x ≡ Err EmptySet
+none_at_end false st s n x y found is none = none_taken st s n x y (first_in st s x) found is none
+none_at_end true st s n x y found is none = none_taken st s n x y (last_in st s x) found is none
 
--- the first one is taken, or there is none, for every reference to the owner
-pub drawn : (st new : State) (s m : ℕ) (x : ℤ) → owner st s x ≡ Ok m → (r : Result ℤ FaultKind)
-    → MatchResult r (λ y. (z : ℤ) → owner st s z ≡ Ok m → first_removed st s z ≡ Ok (y, new)) (λ e. ((z : ℤ) → owner st s z ≡ Ok m → first_removed st s z ≡ Err e) × (new ≡ st))
-    → MatchResult r (λ y. first_removed st s x ≡ Ok (y, new)) (λ e. (first_removed st s x ≡ Err e) × (new ≡ st))
-drawn st new s m x om (Ok y) h = h x om
-drawn st new s m x om (Err e) h = (h.0 x om, h.1)
+pub end_refused : (last : Bool) (st : State) (s : ℕ) (x : ℤ) (e : FaultKind) → owner st s x ≡ Err e → (if last then last_removed else first_removed) st s x ≡ Err e
+end_refused false st s x e h = ap (λ z. and_then (and_then z (λ n. Ok (pos (head0 (members_of st.lists s n))))) (take st s x)) h
+end_refused true st s x e h = ap (λ z. and_then (and_then z (λ n. Ok (pos (last_or 0 (members_of st.lists s n))))) (take st s x)) h
 
-pub last_refused : (st : State) (s : ℕ) (x : ℤ) (e : FaultKind) → owner st s x ≡ Err e → last_removed st s x ≡ Err e
-last_refused st s x e h = ap (λ z. and_then (and_then z (λ n. Ok (pos (last_or 0 (members_of st.lists s n))))) (take st s x)) h
+-- one at an end is taken, or there is none, for every reference to the owner
+pub drawn : (last : Bool) (st new : State) (s m : ℕ) (x : ℤ) → owner st s x ≡ Ok m → (r : Result ℤ FaultKind)
+    → MatchResult r (λ y. (z : ℤ) → owner st s z ≡ Ok m → (if last then last_removed else first_removed) st s z ≡ Ok (y, new)) (λ e. ((z : ℤ) → owner st s z ≡ Ok m → (if last then last_removed else first_removed) st s z ≡ Err e) × (new ≡ st))
+    → MatchResult r (λ y. (if last then last_removed else first_removed) st s x ≡ Ok (y, new)) (λ e. ((if last then last_removed else first_removed) st s x ≡ Err e) × (new ≡ st))
+drawn last st new s m x om (Ok y) h = h x om
+drawn last st new s m x om (Err e) h = (h.0 x om, h.1)
 
 -- ## The test of membership
 
@@ -81,25 +81,3 @@ module _ (a A : ℕ) (none : a ≡ 0) where
   module _ (b B : ℕ) where
     pub two_at_most : (b ≤ a + 2) × (B + a ≡ A + b) → (b ≤ 2) × (B ≡ A + b)
     two_at_most more = (omega (arith, none, more.0), omega (arith, none, more.1))
-
-    module _ (one : (b ≡ a + 1) × (B ≡ A + 1)) where
-      pub one_at_most : (b ≤ 12) × (B ≡ A + b)
-      one_at_most = (omega (arith, none, one.0), omega (arith, none, one.0, one.1))
-
-      pub one_and_nine : (d D : ℕ) → (d ≡ b + 9) × (D ≡ B + 9) → (d ≤ 12) × (D ≡ A + d)
-      one_and_nine d D nine = (omega (arith, none, one.0, nine.0), omega (arith, none, one.0, one.1, nine.0, nine.1))
-
--- of two looks and a link out
-module _ (a A b B d D : ℕ) (few : a ≤ 8) (first : (b ≡ a + 1) × (B ≡ A + 1)) where
-  pub room_at_first : a + 1 < 2 ^ 64
-  room_at_first = omega (arith, few)
-
-  pub room_at_second : b + 1 < 2 ^ 64
-  room_at_second = omega (arith, few, first.0)
-
-  module _ (second : (d ≡ b + 1) × (D ≡ B + 1)) where
-    pub few_then : d ≤ 16
-    few_then = omega (arith, few, first.0, second.0)
-
-    pub nine_touches : (f F : ℕ) → (f ≡ d + 7) × (F ≡ D + 7) → (f ≡ a + 9) × (F ≡ A + 9)
-    nine_touches f F link = (omega (arith, first.0, second.0, link.0), omega (arith, first.1, second.1, link.1))

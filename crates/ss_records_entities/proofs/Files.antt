@@ -12,17 +12,11 @@ use Rattle.ss_records_entities.proofs.Relinked.{kept_linked, state_linked, kept_
 pub looked : (r p : Records) (b : Memory) → p ≡ record r { blocks = p.blocks } → p.blocks.cells ≡ r.blocks.cells → b.cells ≡ p.blocks.cells → uncounted (record p { blocks = b }) ≡ uncounted r
 looked r p b h e k = reads_only p b k ∙ unmoved r p h e
 
--- what lies between two neighbours, and around a member, still does
+-- what lies between two neighbours still does
 pub still_between : (r q : Records) (s o : ℕ) (a b : EntityBlock) (xs ys : List ℕ) → uncounted q ≡ uncounted r → AreNeighbours r s o a b xs ys → AreNeighbours q s o a b xs ys
 still_between r q s o a b xs ys h w =
     let v : AreNeighbours (uncounted r) s o a b xs ys = record { list = w.list; before = w.before; last = w.last; after = w.after; first = w.first } in
     let u : AreNeighbours (uncounted q) s o a b xs ys = subst (λ (z : Records). AreNeighbours z s o a b xs ys) (sym h) v in
-    record { list = u.list; before = u.before; last = u.last; after = u.after; first = u.first }
-
-pub still_around : (r q : Records) (s o x : ℕ) (a b : EntityBlock) (xs ys : List ℕ) → uncounted q ≡ uncounted r → HasNeighbours r s o x a b xs ys → HasNeighbours q s o x a b xs ys
-still_around r q s o x a b xs ys h w =
-    let v : HasNeighbours (uncounted r) s o x a b xs ys = record { list = w.list; before = w.before; last = w.last; after = w.after; first = w.first } in
-    let u : HasNeighbours (uncounted q) s o x a b xs ys = subst (λ (z : Records). HasNeighbours z s o x a b xs ys) (sym h) v in
     record { list = u.list; before = u.before; last = u.last; after = u.after; first = u.first }
 
 pub is_not_zero : (n : ℕ) → (n == 0) ≡ false → n ≡ 0 → ⊥

@@ -6,7 +6,6 @@ pub mod Classed
 pub mod Creates
 pub mod Cuts
 pub mod Destroys
-pub mod Drawn
 pub mod Ends
 pub mod Files
 pub mod Frees
@@ -39,4 +38,3 @@ pub mod Setless
 pub mod Skims
 pub mod Spared
 pub mod Still
-pub mod UnlinkWrites

@@ -161,6 +161,12 @@ module _ (m m' : Words) (at home : ℕ → Ptr) (alive owns : ℕ → Type 0) (f
     apart : AreAllDistinct (xs ++ ys) × IsNotInList x (xs ++ ys)
     apart = distinct_less xs x ys (subst AreAllDistinct was (s.distinct o))
 
+    c_is_not_x : c ≡ x → ⊥
+    c_is_not_x e = not_and_in x (xs ++ ys) apart.1 (before_in x xs ys e its.1)
+
+    d_is_not_x : d ≡ x → ⊥
+    d_is_not_x e = not_and_in x (xs ++ ys) apart.1 (after_in x xs ys e its.1)
+
     -- a member of a list of h was one of f, and is not x
     was_in' : (p y : ℕ) → IsInList y (h p) → IsInList y (f p) × (x ≡ y → ⊥)
     was_in' p y j = by_same o p
@@ -212,7 +218,7 @@ module _ (m m' : Words) (at home : ℕ → Ptr) (alive owns : ℕ → Type 0) (f
 
     unfiled' : (y : ℕ) → alive y → (0 ≡ y → ⊥) → ((p : ℕ) → IsNotInList y (h p)) → (m'.next y ≡ link (at y)) × (m'.prev y ≡ link (at y)) × (m'.owner y ≡ link (at y))
     unfiled' y al pos out = by_same x y
-        (λ e q. rw (k.next y al pos, k.prev y al pos, k.owner y al, e) (ap (λ z. link (at z)) q, ap (λ z. link (at z)) q, ap (λ z. link (at z)) q))
+        (λ e q. rw (k.next y al pos, k.prev y al pos, k.owner y al, differs c y (λ i. c_is_not_x (i ∙ sym q)), differs d y (λ i. d_is_not_x (i ∙ sym q)), e) (ap (λ z. link (at z)) q, ap (λ z. link (at z)) q, ap (λ z. link (at z)) q))
         (λ e n.
         let here : IsNotInList y (xs ++ ys) = subst (λ t. IsNotInList y (cond t (xs ++ ys) (f o))) (same o) (out o) in
         let old : (p : ℕ) → IsNotInList y (f p) = λ p. by_same o p

@@ -1,5 +1,5 @@
 -- What the functions that look at a set read.
-use Rattle.std.proofs.Common.{◌≡◌, ℕ, ◌+◌, ◌^◌, ◌<◌, Bool, true, false, List, length, slice_get, Some, None, Ok, Err, refl, sym, ap, subst, ◌∙◌, arith}
+use Rattle.std.proofs.Common.{◌≡◌, ℕ, ◌+◌, ◌^◌, ◌<◌, Bool, true, false, length, slice_get, Some, None, Ok, Err, refl, sym, ap, subst, ◌∙◌, arith}
 use Rattle.std.specs.Prelude.{ℤ, pos, not, nat_eq, if◌then◌else◌}
 use Rattle.ss_records_entities.proofs.Common.{and_then, by_same, CanJoin, cast_signed, counter, differs, entity_at, EntityBlock, FaultKind, get_there, HasLink, head0, ints, is_filed, IsCounter, IsInList, IsKept, IsOwnerBlock, last_or, link, member_base, members_of, number, owner_at, owner_base, owner_of, places, pred_from, Records, SetLayout, State, state, succ, word_at}
 use mir.Syntax.{w64}
@@ -29,55 +29,28 @@ module _ (r : Records) (K : IsKept r) (s : ℕ) (inside : s < length r.layout.se
 
   -- the words of an owner
   module _ (e : EntityBlock) (h : IsOwnerBlock r s e) (b : ℕ) (base : (u : SetLayout) → slice_get r.layout.sets s ≡ Some u → b ≡ owner_base r.layout s u) where
-    first_there : To r.blocks.cells at e.place.at b (head0 (members_of r.notes.lists s e.number))
-    first_there = first_to r.layout r.blocks.cells r.system.at (places r) r.notes.lists K s inside e.place.at e.number h.lies h.may b base
+    there : (last : Bool) → To r.blocks.cells at e.place.at (if last then b + 1 else b) (if last then last_or 0 (members_of r.notes.lists s e.number) else head0 (members_of r.notes.lists s e.number))
+    there false = first_to r.layout r.blocks.cells r.system.at (places r) r.notes.lists K s inside e.place.at e.number h.lies h.may b base
+    there true = last_to r.layout r.blocks.cells r.system.at (places r) r.notes.lists K s inside e.place.at e.number h.lies h.may b base
 
-    last_there : To r.blocks.cells at e.place.at (b + 1) (last_or 0 (members_of r.notes.lists s e.number))
-    last_there = last_to r.layout r.blocks.cells r.system.at (places r) r.notes.lists K s inside e.place.at e.number h.lies h.may b base
-
-    pub first_leads : HasLink r.blocks.cells e.place.at b
-    first_leads = leads r.blocks.cells at e.place.at b _ first_there
-
-    pub last_leads : HasLink r.blocks.cells e.place.at (b + 1)
-    last_leads = leads r.blocks.cells at e.place.at (b + 1) _ last_there
+    -- at either end
+    pub end_leads : (last : Bool) → HasLink r.blocks.cells e.place.at (if last then b + 1 else b)
+    end_leads last = leads r.blocks.cells at e.place.at (if last then b + 1 else b) _ (there last)
 
     pub counts : IsCounter (word_at r.blocks.cells e.place.at (b + 2))
     counts = is_counter r.layout r.blocks.cells r.system.at (places r) r.notes.lists K s inside e.place.at e.number h.lies h.may b base
 
-    module _ (q : EntityBlock) (w : word_at r.blocks.cells e.place.at b ≡ link q.place.at) (v : word_at r.blocks.cells q.place.at 1 ≡ number q.number) where
-      pub first_number : q.number ≡ head0 (members_of r.notes.lists s e.number)
-      first_number = its_number r.blocks.cells at e.place.at b _ first_there q.place.at w q.number v
-
-      pub first_small : q.number < 2 ^ 62
-      first_small = subst (λ n. n < 4611686018427387904) (sym first_number) first_there.small
-
-      pub first_value : (x : ℤ) → owner (state r) s x ≡ Ok e.number → Ok (cast_signed w64 q.number) ≡ first_in (state r) s x
-      first_value x o = ap Ok (as_whole q.number _ first_number first_there.small) ∙ sym (ap (λ z. and_then z (λ n. Ok (pos (head0 (members_of r.notes.lists s n))))) o)
-
-    module _ (q : EntityBlock) (w : word_at r.blocks.cells e.place.at (b + 1) ≡ link q.place.at) (v : word_at r.blocks.cells q.place.at 1 ≡ number q.number) where
-      pub last_number : q.number ≡ last_or 0 (members_of r.notes.lists s e.number)
-      last_number = its_number r.blocks.cells at e.place.at (b + 1) _ last_there q.place.at w q.number v
-
-      pub last_small : q.number < 2 ^ 62
-      last_small = subst (λ n. n < 4611686018427387904) (sym last_number) last_there.small
-
-      pub last_value : (x : ℤ) → owner (state r) s x ≡ Ok e.number → Ok (cast_signed w64 q.number) ≡ last_in (state r) s x
-      last_value x o = ap Ok (as_whole q.number _ last_number last_there.small) ∙ sym (ap (λ z. and_then z (λ n. Ok (pos (last_or 0 (members_of r.notes.lists s n))))) o)
-
-    -- at either end
-    pub end_leads : (last : Bool) → HasLink r.blocks.cells e.place.at (if last then b + 1 else b)
-    end_leads false = first_leads
-    end_leads true = last_leads
-
     module _ (q : EntityBlock) (v : word_at r.blocks.cells q.place.at 1 ≡ number q.number) where
+      end_number : (last : Bool) → word_at r.blocks.cells e.place.at (if last then b + 1 else b) ≡ link q.place.at → q.number ≡ (if last then last_or 0 (members_of r.notes.lists s e.number) else head0 (members_of r.notes.lists s e.number))
+      end_number last w = its_number r.blocks.cells at e.place.at (if last then b + 1 else b) _ (there last) q.place.at w q.number v
+
       pub end_small : (last : Bool) → word_at r.blocks.cells e.place.at (if last then b + 1 else b) ≡ link q.place.at → q.number < 2 ^ 62
-      end_small false w = first_small q w v
-      end_small true w = last_small q w v
+      end_small last w = subst (λ n. n < 4611686018427387904) (sym (end_number last w)) (there last).small
 
       pub end_value : (last : Bool) → word_at r.blocks.cells e.place.at (if last then b + 1 else b) ≡ link q.place.at → (x : ℤ) → owner (state r) s x ≡ Ok e.number
           → Ok (cast_signed w64 q.number) ≡ (if last then last_in (state r) s x else first_in (state r) s x)
-      end_value false w = first_value q w v
-      end_value true w = last_value q w v
+      end_value false w x o = ap Ok (as_whole q.number _ (end_number false w) (there false).small) ∙ sym (ap (λ z. and_then z (λ n. Ok (pos (head0 (members_of r.notes.lists s n))))) o)
+      end_value true w x o = ap Ok (as_whole q.number _ (end_number true w) (there true).small) ∙ sym (ap (λ z. and_then z (λ n. Ok (pos (last_or 0 (members_of r.notes.lists s n))))) o)
 
     module _ (v : ℕ) (w : word_at r.blocks.cells e.place.at (b + 2) ≡ counter v) where
       pub how_many : v ≡ length (members_of r.notes.lists s e.number)
@@ -94,55 +67,55 @@ module _ (r : Records) (K : IsKept r) (s : ℕ) (inside : s < length r.layout.se
 
   -- the words of a member
   module _ (e : EntityBlock) (h : CanJoin r s e) (b : ℕ) (base : (u : SetLayout) → slice_get r.layout.sets s ≡ Some u → b ≡ member_base r.layout s u) where
-    abbrev Near : ℕ → (List ℕ → ℕ) → Type 0
-    Near k of = Beside r.layout r.blocks.cells r.system.at (places r) r.notes.lists K s inside e.place.at e.number h.lies h.is b base k of
+    -- the next link, or in reverse the previous one
+    abbrev Near : Bool → Type 0
+    Near reverse = Beside r.layout r.blocks.cells r.system.at (places r) r.notes.lists K s inside e.place.at e.number h.lies h.is b base (if reverse then b + 1 else b) (if reverse then pred_from 0 e.number else succ e.number)
 
-    next_near : Near b (succ e.number)
-    next_near = next_beside r.layout r.blocks.cells r.system.at (places r) r.notes.lists K s inside e.place.at e.number h.lies h.is b base
+    near : (reverse : Bool) → Near reverse
+    near false = next_beside r.layout r.blocks.cells r.system.at (places r) r.notes.lists K s inside e.place.at e.number h.lies h.is b base
+    near true = prev_beside r.layout r.blocks.cells r.system.at (places r) r.notes.lists K s inside e.place.at e.number h.lies h.is b base
 
-    prev_near : Near (b + 1) (pred_from 0 e.number)
-    prev_near = prev_beside r.layout r.blocks.cells r.system.at (places r) r.notes.lists K s inside e.place.at e.number h.lies h.is b base
+    pub beside_leads : (reverse : Bool) → HasLink r.blocks.cells e.place.at (if reverse then b + 1 else b)
+    beside_leads reverse = leads r.blocks.cells at e.place.at (if reverse then b + 1 else b) _ (near reverse).leads_to
 
-    pub next_leads : HasLink r.blocks.cells e.place.at b
-    next_leads = leads r.blocks.cells at e.place.at b _ next_near.leads_to
+    -- the neighbour that was read
+    module _ (q : EntityBlock) (v : word_at r.blocks.cells q.place.at 1 ≡ number q.number) where
+      abbrev Read : Bool → Type 0
+      Read reverse = word_at r.blocks.cells e.place.at (if reverse then b + 1 else b) ≡ link q.place.at
 
-    pub prev_leads : HasLink r.blocks.cells e.place.at (b + 1)
-    prev_leads = leads r.blocks.cells at e.place.at (b + 1) _ prev_near.leads_to
+      beside_number : (reverse : Bool) → Read reverse → q.number ≡ (near reverse).to
+      beside_number reverse w = its_number r.blocks.cells at e.place.at (if reverse then b + 1 else b) _ (near reverse).leads_to q.place.at w q.number v
 
-    module _ (q : EntityBlock) (w : word_at r.blocks.cells e.place.at b ≡ link q.place.at) (v : word_at r.blocks.cells q.place.at 1 ≡ number q.number) where
-      next_number : q.number ≡ next_near.to
-      next_number = its_number r.blocks.cells at e.place.at b _ next_near.leads_to q.place.at w q.number v
+      pub beside_small : (reverse : Bool) → Read reverse → q.number < 2 ^ 62
+      beside_small reverse w = subst (λ n. n < 4611686018427387904) (sym (beside_number reverse w)) (near reverse).leads_to.small
 
-      pub next_small : q.number < 2 ^ 62
-      next_small = subst (λ n. n < 4611686018427387904) (sym next_number) next_near.leads_to.small
-
-      pub is_filed_value : not (nat_eq q.number e.number) ≡ is_filed r.notes.lists s e.number
-      is_filed_value = filed_is r.layout r.blocks.cells r.system.at (places r) r.notes.lists K s inside e.place.at e.number h.lies h.is b base b (succ e.number) next_near q.number next_number (not (nat_eq q.number e.number))
+      pub is_filed_value : (reverse : Bool) → Read reverse → not (nat_eq q.number e.number) ≡ is_filed r.notes.lists s e.number
+      is_filed_value reverse w = filed_is r.layout r.blocks.cells r.system.at (places r) r.notes.lists K s inside e.place.at e.number h.lies h.is b base (if reverse then b + 1 else b) (if reverse then pred_from 0 e.number else succ e.number) (near reverse) q.number (beside_number reverse w) (not (nat_eq q.number e.number))
           (λ i. by_same q.number e.number (λ z n. rw z refl) (λ z n. absurd (n i)))
           (λ i. rw (differs q.number e.number i) refl)
 
-      pub next_fits : (y : ℕ) → (q.number ≡ e.number → y ≡ 0) → ((q.number ≡ e.number → ⊥) → y ≡ q.number) → y < 2 ^ 62
-      next_fits y same other = by_same q.number e.number (λ z i. omega (arith, same i)) (λ z i. subst (λ n. n < 4611686018427387904) (sym (other i)) next_small)
+      pub beside_fits : (reverse : Bool) → Read reverse → (y : ℕ) → (q.number ≡ e.number → y ≡ 0) → ((q.number ≡ e.number → ⊥) → y ≡ q.number) → y < 2 ^ 62
+      beside_fits reverse w y same other = by_same q.number e.number (λ z i. omega (arith, same i)) (λ z i. subst (λ n. n < 4611686018427387904) (sym (other i)) (beside_small reverse w))
 
-      pub next_is : (x : ℤ) (y : ℕ) → joiner (state r) s x ≡ Ok e.number → (q.number ≡ e.number → y ≡ 0) → ((q.number ≡ e.number → ⊥) → y ≡ q.number) → Ok (cast_signed w64 y) ≡ next_in (state r) s x
-      next_is x y o same other =
-          let f = next_value r.layout r.blocks.cells r.system.at (places r) r.notes.lists K s inside e.place.at e.number h.lies h.is b base next_near q.number next_number in
-          ap Ok (as_whole y y refl (next_fits y same other) ∙ ap pos (by_same q.number e.number (λ z i. same i ∙ sym (f.0 i)) (λ z i. other i ∙ sym (f.1 i)))) ∙ sym (ap (λ z. and_then z (λ n. Ok (pos (follower n (companions r.notes.lists s n))))) o)
+      pub beside_is : (reverse : Bool) → Read reverse → (x : ℤ) (y : ℕ) → joiner (state r) s x ≡ Ok e.number → (q.number ≡ e.number → y ≡ 0) → ((q.number ≡ e.number → ⊥) → y ≡ q.number) → Ok (cast_signed w64 y) ≡ (if reverse then previous_in (state r) s x else next_in (state r) s x)
+      beside_is false w x y o same other =
+          let f = next_value r.layout r.blocks.cells r.system.at (places r) r.notes.lists K s inside e.place.at e.number h.lies h.is b base (near false) q.number (beside_number false w) in
+          ap Ok (as_whole y y refl (beside_fits false w y same other) ∙ ap pos (by_same q.number e.number (λ z i. same i ∙ sym (f.0 i)) (λ z i. other i ∙ sym (f.1 i)))) ∙ sym (ap (λ z. and_then z (λ n. Ok (pos (follower n (companions r.notes.lists s n))))) o)
+      beside_is true w x y o same other =
+          let f = prev_value r.layout r.blocks.cells r.system.at (places r) r.notes.lists K s inside e.place.at e.number h.lies h.is b base (near true) q.number (beside_number true w) in
+          ap Ok (as_whole y y refl (beside_fits true w y same other) ∙ ap pos (by_same q.number e.number (λ z i. same i ∙ sym (f.0 i)) (λ z i. other i ∙ sym (f.1 i)))) ∙ sym (ap (λ z. and_then z (λ n. Ok (pos (precursor 0 n (companions r.notes.lists s n))))) o)
 
-    module _ (q : EntityBlock) (w : word_at r.blocks.cells e.place.at (b + 1) ≡ link q.place.at) (v : word_at r.blocks.cells q.place.at 1 ≡ number q.number) where
-      prev_number : q.number ≡ prev_near.to
-      prev_number = its_number r.blocks.cells at e.place.at (b + 1) _ prev_near.leads_to q.place.at w q.number v
+      -- it is itself
+      pub beside_free : (reverse : Bool) → Read reverse → q.number ≡ e.number → is_filed r.notes.lists s e.number ≡ false
+      beside_free reverse w n = sym (is_filed_value reverse w) ∙ by_same q.number e.number (λ z i. rw z refl) (λ z i. absurd (i n))
 
-      pub prev_small : q.number < 2 ^ 62
-      prev_small = subst (λ n. n < 4611686018427387904) (sym prev_number) prev_near.leads_to.small
+      -- it is another one
+      module _ (n : q.number ≡ e.number → ⊥) where
+        pub beside_filed : (reverse : Bool) → Read reverse → is_filed r.notes.lists s e.number ≡ true
+        beside_filed reverse w = sym (is_filed_value reverse w) ∙ rw (differs q.number e.number n) refl
 
-      pub prev_fits : (y : ℕ) → (q.number ≡ e.number → y ≡ 0) → ((q.number ≡ e.number → ⊥) → y ≡ q.number) → y < 2 ^ 62
-      prev_fits y same other = by_same q.number e.number (λ z i. omega (arith, same i)) (λ z i. subst (λ n. n < 4611686018427387904) (sym (other i)) prev_small)
-
-      pub prev_is : (x : ℤ) (y : ℕ) → joiner (state r) s x ≡ Ok e.number → (q.number ≡ e.number → y ≡ 0) → ((q.number ≡ e.number → ⊥) → y ≡ q.number) → Ok (cast_signed w64 y) ≡ previous_in (state r) s x
-      prev_is x y o same other =
-          let f = prev_value r.layout r.blocks.cells r.system.at (places r) r.notes.lists K s inside e.place.at e.number h.lies h.is b base prev_near q.number prev_number in
-          ap Ok (as_whole y y refl (prev_fits y same other) ∙ ap pos (by_same q.number e.number (λ z i. same i ∙ sym (f.0 i)) (λ z i. other i ∙ sym (f.1 i)))) ∙ sym (ap (λ z. and_then z (λ n. Ok (pos (precursor 0 n (companions r.notes.lists s n))))) o)
+        pub beside_value : (reverse : Bool) → Read reverse → (x : ℤ) → joiner (state r) s x ≡ Ok e.number → (if reverse then previous_in (state r) s x else next_in (state r) s x) ≡ Ok (cast_signed w64 q.number)
+        beside_value reverse w x j = sym (beside_is reverse w x q.number j (λ i. absurd (n i)) (λ _. refl))
 
     pub none_is : (x : ℤ) → joiner (state r) s x ≡ Ok e.number → owner_of r.notes.lists s e.number ≡ None → Ok None ≡ owner_of_member (state r) s x
     none_is x o none = sym (ap (λ z. and_then z (λ n. Ok (as_number (owner_of r.notes.lists s n)))) o ∙ ap (λ z. Ok (as_number z)) none)

@@ -1,10 +1,9 @@
 -- The member that comes next to another one in the set of an owner.
-use Rattle.std.proofs.Common.{◌≡◌, ℕ, ◌+◌, ◌^◌, ◌<◌, Bool, true, false, length, slice_get, Some, None, Ok, Err, refl, sym, ap, ◌∙◌}
-use Rattle.std.specs.Prelude.{ℤ, pos, negsuc, if◌then◌else◌, is_some, Result}
-use Rattle.ss_records_entities.proofs.Common.{and_then, CanJoin, cast_signed, Class, ClassKind, contains, contains_in, differs, entity_at, entity_of_kind, EntityBlock, false_is_not_true, FaultKind, get_there, HasLink, in_contains, is_filed, IsInList, IsKept, joiner, kind_of, link, MayOwn, member_base, member_test, members_of, next_in, Notice, number, number_in, Owner, owner, owner_by, owner_in, owner_kind, owner_of, Permanent, places, previous_in, Record, Records, SetLayout, State, state, System, Temporary, word_at}
+use Rattle.std.proofs.Common.{◌≡◌, ℕ, ◌+◌, ◌<◌, Bool, true, false, length, slice_get, Some, Ok, Err, refl, sym, ap, ◌∙◌}
+use Rattle.std.specs.Prelude.{ℤ, pos, negsuc, is_some, Result}
+use Rattle.ss_records_entities.proofs.Common.{and_then, CanJoin, cast_signed, Class, ClassKind, contains, contains_in, entity_of_kind, EntityBlock, false_is_not_true, FaultKind, get_there, in_contains, is_filed, IsInList, IsKept, joiner, kind_of, link, MayOwn, member_base, member_test, members_of, Notice, number, number_in, Owner, owner, owner_by, owner_in, owner_kind, owner_of, Permanent, places, Record, Records, SetLayout, State, state, System, Temporary, word_at}
 use mir.Syntax.{w64}
-use Rattle.ss_records_entities.proofs.Leading.{its_number, next_beside, prev_beside}
-use Rattle.ss_records_entities.proofs.Looks.{next_leads, prev_leads, next_small, prev_small, next_fits, prev_fits, is_filed_value, next_is, prev_is, as_whole, owner_has, owner_small}
+use Rattle.ss_records_entities.proofs.Looks.{as_whole, owner_has, owner_small}
 use Rattle.ss_records_entities.proofs.Ends.{tested}
 use Rattle.ss_records_entities.proofs.Apart.{is_entity, sets_apart}
 
@@ -68,49 +67,6 @@ module _ (r : Records) (K : IsKept r) (s : ℕ) (inside : s < length r.layout.se
   in_none o x n free j t = let a = sole_owner o x n j t in false_is_not_true (sym free ∙ ap is_some a.2)
 
   module _ (e : EntityBlock) (h : CanJoin r s e) (b : ℕ) (base : (u : SetLayout) → slice_get r.layout.sets s ≡ Some u → b ≡ member_base r.layout s u) where
-    pub beside_leads : (reverse : Bool) → HasLink r.blocks.cells e.place.at (if reverse then b + 1 else b)
-    beside_leads false = next_leads r K s inside e h b base
-    beside_leads true = prev_leads r K s inside e h b base
-
-    free_by : (to : ℕ) → (to ≡ e.number → owner_of r.notes.lists s e.number ≡ None) → (n : ℕ) → n ≡ to → n ≡ e.number → is_filed r.notes.lists s e.number ≡ false
-    free_by to out n i same = ap is_some (out (sym i ∙ same))
-
-    -- the neighbour that was read
-    module _ (q : EntityBlock) (v : word_at r.blocks.cells q.place.at 1 ≡ number q.number) where
-      pub beside_small : (reverse : Bool) → word_at r.blocks.cells e.place.at (if reverse then b + 1 else b) ≡ link q.place.at → q.number < 2 ^ 62
-      beside_small false w = next_small r K s inside e h b base q w v
-      beside_small true w = prev_small r K s inside e h b base q w v
-
-      pub beside_fits : (reverse : Bool) → word_at r.blocks.cells e.place.at (if reverse then b + 1 else b) ≡ link q.place.at
-          → (y : ℕ) → (q.number ≡ e.number → y ≡ 0) → ((q.number ≡ e.number → ⊥) → y ≡ q.number) → y < 2 ^ 62
-      beside_fits false w = next_fits r K s inside e h b base q w v
-      beside_fits true w = prev_fits r K s inside e h b base q w v
-
-      pub beside_is : (reverse : Bool) → word_at r.blocks.cells e.place.at (if reverse then b + 1 else b) ≡ link q.place.at
-          → (x : ℤ) (y : ℕ) → joiner (state r) s x ≡ Ok e.number → (q.number ≡ e.number → y ≡ 0) → ((q.number ≡ e.number → ⊥) → y ≡ q.number) → Ok (cast_signed w64 y) ≡ (if reverse then previous_in (state r) s x else next_in (state r) s x)
-      beside_is false w = next_is r K s inside e h b base q w v
-      beside_is true w = prev_is r K s inside e h b base q w v
-
-      -- it is itself
-      pub beside_free : (reverse : Bool) → word_at r.blocks.cells e.place.at (if reverse then b + 1 else b) ≡ link q.place.at → q.number ≡ e.number → is_filed r.notes.lists s e.number ≡ false
-      beside_free false w n = let k = next_beside r.layout r.blocks.cells r.system.at (places r) r.notes.lists K s inside e.place.at e.number h.lies h.is b base in
-          free_by k.to k.out q.number (its_number r.blocks.cells (entity_at r.system.at (places r) (get_there r.layout.sets s inside).0.member) e.place.at b _ k.leads_to q.place.at w q.number v) n
-      beside_free true w n = let k = prev_beside r.layout r.blocks.cells r.system.at (places r) r.notes.lists K s inside e.place.at e.number h.lies h.is b base in
-          free_by k.to k.out q.number (its_number r.blocks.cells (entity_at r.system.at (places r) (get_there r.layout.sets s inside).0.member) e.place.at (b + 1) _ k.leads_to q.place.at w q.number v) n
-
-      -- it is another one
-      module _ (n : q.number ≡ e.number → ⊥) where
-        pub beside_filed : (reverse : Bool) → word_at r.blocks.cells e.place.at (if reverse then b + 1 else b) ≡ link q.place.at → is_filed r.notes.lists s e.number ≡ true
-        beside_filed false w = sym (is_filed_value r K s inside e h b base q w v) ∙ rw (differs q.number e.number n) refl
-        beside_filed true w =
-            let near = prev_beside r.layout r.blocks.cells r.system.at (places r) r.notes.lists K s inside e.place.at e.number h.lies h.is b base in
-            let to : q.number ≡ near.to = its_number r.blocks.cells (entity_at r.system.at (places r) (get_there r.layout.sets s inside).0.member) e.place.at (b + 1) _ near.leads_to q.place.at w q.number v in
-            ap is_some (near.in_one (λ i. n (to ∙ i))).1
-
-        pub beside_value : (reverse : Bool) → word_at r.blocks.cells e.place.at (if reverse then b + 1 else b) ≡ link q.place.at → (x : ℤ) → joiner (state r) s x ≡ Ok e.number
-            → (if reverse then previous_in (state r) s x else next_in (state r) s x) ≡ Ok (cast_signed w64 q.number)
-        beside_value reverse w x j = sym (beside_is reverse w x q.number j (λ i. absurd (n i)) (λ _. refl))
-
     -- the owner that was read, where it is in a set
     module _ (filed : is_filed r.notes.lists s e.number ≡ true) (q : EntityBlock) (w : word_at r.blocks.cells e.place.at (b + 2) ≡ link q.place.at) (v : word_at r.blocks.cells q.place.at 1 ≡ number q.number) where
       pub in_its : (o x : ℤ) → joiner (state r) s x ≡ Ok e.number → cast_signed w64 q.number ≡ o → member_test (state r) s o x ≡ Ok true

@@ -98,9 +98,6 @@ module _ (r : Records) (K : IsKept r) (s : ℕ) (inside : s < length r.layout.se
     pub none_past : first_where t f ≡ 0
     none_past = sym S.found ∙ ap (first_where t) empty
 
-    pub all_passed : touches ≤ 1 + before_where t f
-    all_passed = omega (arith, S.touched, S.passed)
-
   -- at a member
   module _ (one : q.number ≡ 0 → ⊥) where
     shape : (zs : List ℕ) × (S.ys ≡ q.number ∷ zs)

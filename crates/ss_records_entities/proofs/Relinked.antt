@@ -1,12 +1,11 @@
 -- What holds once an entity is linked into a set, or out of it.
 use Rattle.std.proofs.Common.{◌≡◌, ℕ, ◌+◌, ◌-◌, ◌==◌, List, ◌∷◌, ◌++◌, length, slice_get, Some, ◌⊎◌, inl, inr, refl, sym, subst}
 use denote.RawPtr.{Ptr}
-use Rattle.ss_records_entities.proofs.Common.{after_in, ArePartsKept, AreShowing, AreSpared, before_in, by_same, Cells, counter, Directory, entity_at, head0, hooked, in_left, in_mid, IsEntityOf, IsInList, IsNotInList, IsOfName, last_or, Layout, link, linked_in, MayOwn, Members, members_of, owner_at, put_word, SetLayout, Slots, slots_of, state_of, unlinked_in, with_list, with_list_of, with_members, words_of}
+use Rattle.ss_records_entities.proofs.Common.{after_in, ArePartsKept, AreShowing, AreSpared, before_in, by_same, Cells, counter, Directory, entity_at, head0, hooked, in_left, in_mid, IsEntityOf, IsInList, IsNotInList, IsOfName, IsRewired, last_or, Layout, link, linked_in, MayOwn, Members, members_of, owner_at, put_word, rewired, SetLayout, Slots, slots_of, state_of, unlinked_in, with_list, with_list_of, with_members, words_of}
 use Rattle.ss_records_entities.proofs.Listed.{members_with, members_other}
 use Rattle.ss_records_words.proofs.Disjoint.{grounds, spares_none, spares_put}
 use Rattle.ss_records_entities.proofs.Linking.{any_linked, any_unlinked}
-use Rattle.ss_records_entities.proofs.LinkWrites.{any_linked_is}
-use Rattle.ss_records_entities.proofs.UnlinkWrites.{any_unlinked_is}
+use Rattle.ss_records_entities.proofs.LinkWrites.{any_rewired_is}
 use Rattle.ss_records_entities.proofs.Spared.{with_classes, kept_spared, records_spared, permanents_spared}
 
 module _ (l : Layout) (cs : Cells) (sys : Ptr) (d : Directory) (ms : List Members) (K : ArePartsKept l cs sys d ms) (s : ℕ) (t : SetLayout) (g : slice_get l.sets s ≡ Some t) (o x : ℕ) (xs ys : List ℕ) (lo : MayOwn cs d t.owner o) where
@@ -55,6 +54,25 @@ module _ (l : Layout) (cs : Cells) (sys : Ptr) (d : Directory) (ms : List Member
       let one = records_spared l cs sys d ms K s t g ds h in let two = permanents_spared l cs sys d ms K s t g ds h in
       λ i. record (state_of l cs d ms) { records = one i; permanents = two i; lists = with_members ms s o us }
 
+  -- what is written of x and its neighbours
+  module _ (lx : IsEntityOf cs d t.member x) (la : (a ≡ 0 → ⊥) → IsEntityOf cs d t.member a) (lb : (b ≡ 0 → ⊥) → IsEntityOf cs d t.member b) (nx px ox na pb : Ptr) (n : ℕ) where
+    spares : AreSpared Of cs (rewired w cs (home o) (at a) (a == 0) (at x) (at b) (b == 0) nx px ox na pb n)
+    spares =
+        let s1 = spares_put Of cs cs (at x) w.next (link nx) (spares_none Of cs) (at_member x w.next lx (inl refl)) in
+        let c1 = put_word cs (at x) w.next (link nx) in
+        let s2 = spares_put Of cs c1 (at x) w.prev (link px) s1 (at_member x w.prev lx (inr (inl refl))) in
+        let c2 = put_word c1 (at x) w.prev (link px) in
+        let s3 = spares_put Of cs c2 (at x) w.owner (link ox) s2 (at_member x w.owner lx (inr (inr refl))) in
+        let c3 = put_word c2 (at x) w.owner (link ox) in
+        let s4 = hook c3 a w.first w.next na s3 (at_owner w.first (inl refl)) (λ e. at_member a w.next (la e) (inl refl)) in
+        let c4 = hooked (a == 0) c3 (home o) w.first (at a) w.next na in
+        let s5 = hook c4 b w.last w.prev pb s4 (at_owner w.last (inr (inl refl))) (λ e. at_member b w.prev (lb e) (inr (inl refl))) in
+        let c5 = hooked (b == 0) c4 (home o) w.last (at b) w.prev pb in
+        spares_put Of cs c5 (home o) w.count (counter n) s5 (at_owner w.count (inr (inr refl)))
+
+    written : IsRewired (words_of w cs at home) (words_of w (rewired w cs (home o) (at a) (a == 0) (at x) (at b) (b == 0) nx px ox na pb n) at home) at home (IsEntityOf cs d t.member) (MayOwn cs d t.owner) o a x b nx px ox na pb n
+    written = any_rewired_is w cs at home (IsEntityOf cs d t.member) (MayOwn cs d t.owner) (grounds l cs sys d ms K s t g) o a x b nx px ox na pb n lo lx la lb
+
   -- linked in between xs and ys
   module _ (lx : IsEntityOf cs d t.member x) (some : 0 ≡ x → ⊥) (was : f o ≡ xs ++ ys) (free : (p : ℕ) → IsNotInList x (f p)) where
     abbrev ds : Cells
@@ -69,27 +87,13 @@ module _ (l : Layout) (cs : Cells) (sys : Ptr) (d : Directory) (ms : List Member
     pub lb : (b ≡ 0 → ⊥) → IsEntityOf cs d t.member b
     lb n = near b n (after_in b xs ys refl (λ e. n (sym e)))
 
-    spares : AreSpared Of cs ds
-    spares =
-        let s1 = spares_put Of cs cs (at x) w.next (link (at b)) (spares_none Of cs) (at_member x w.next lx (inl refl)) in
-        let c1 = put_word cs (at x) w.next (link (at b)) in
-        let s2 = spares_put Of cs c1 (at x) w.prev (link (at a)) s1 (at_member x w.prev lx (inr (inl refl))) in
-        let c2 = put_word c1 (at x) w.prev (link (at a)) in
-        let s3 = spares_put Of cs c2 (at x) w.owner (link (home o)) s2 (at_member x w.owner lx (inr (inr refl))) in
-        let c3 = put_word c2 (at x) w.owner (link (home o)) in
-        let s4 = hook c3 a w.first w.next (at x) s3 (at_owner w.first (inl refl)) (λ n. at_member a w.next (la n) (inl refl)) in
-        let c4 = hooked (a == 0) c3 (home o) w.first (at a) w.next (at x) in
-        let s5 = hook c4 b w.last w.prev (at x) s4 (at_owner w.last (inr (inl refl))) (λ n. at_member b w.prev (lb n) (inr (inl refl))) in
-        let c5 = hooked (b == 0) c4 (home o) w.last (at b) w.prev (at x) in
-        spares_put Of cs c5 (home o) w.count (counter (length (f o) + 1)) s5 (at_owner w.count (inr (inr refl)))
-
     pub kept_linked : ArePartsKept l ds sys d (with_members ms s o (xs ++ x ∷ ys))
-    kept_linked = shown ds (xs ++ x ∷ ys) spares
+    kept_linked = shown ds (xs ++ x ∷ ys) (spares lx la lb (at b) (at a) (home o) (at x) (at x) (length (f o) + 1))
         (any_linked (words_of w cs at home) (words_of w ds at home) at home (IsEntityOf cs d t.member) (MayOwn cs d t.owner) f o x xs ys (K.names s t g) was lx some lo free
-        (any_linked_is w cs at home (IsEntityOf cs d t.member) (MayOwn cs d t.owner) (grounds l cs sys d ms K s t g) o a x b (length (f o)) lo lx la lb))
+        (written lx la lb (at b) (at a) (home o) (at x) (at x) (length (f o) + 1)))
 
     pub state_linked : state_of l ds d (with_members ms s o (xs ++ x ∷ ys)) ≡ with_list_of (state_of l cs d ms) s o (xs ++ x ∷ ys)
-    state_linked = relisted ds (xs ++ x ∷ ys) spares
+    state_linked = relisted ds (xs ++ x ∷ ys) (spares lx la lb (at b) (at a) (home o) (at x) (at x) (length (f o) + 1))
 
   -- linked out from between xs and ys
   module _ (was : f o ≡ xs ++ x ∷ ys) where
@@ -108,24 +112,10 @@ module _ (l : Layout) (cs : Cells) (sys : Ptr) (d : Directory) (ms : List Member
     pub lb' : (b ≡ 0 → ⊥) → IsEntityOf cs d t.member b
     lb' n = its b (in_left b xs x ys (after_in b xs ys refl (λ e. n (sym e))))
 
-    spares' : AreSpared Of cs es
-    spares' =
-        let s1 = hook cs a w.first w.next (at b) (spares_none Of cs) (at_owner w.first (inl refl)) (λ n. at_member a w.next (la' n) (inl refl)) in
-        let c1 = hooked (a == 0) cs (home o) w.first (at a) w.next (at b) in
-        let s2 = hook c1 b w.last w.prev (at a) s1 (at_owner w.last (inr (inl refl))) (λ n. at_member b w.prev (lb' n) (inr (inl refl))) in
-        let c2 = hooked (b == 0) c1 (home o) w.last (at b) w.prev (at a) in
-        let s3 = spares_put Of cs c2 (at x) w.next (link (at x)) s2 (at_member x w.next lx' (inl refl)) in
-        let c3 = put_word c2 (at x) w.next (link (at x)) in
-        let s4 = spares_put Of cs c3 (at x) w.prev (link (at x)) s3 (at_member x w.prev lx' (inr (inl refl))) in
-        let c4 = put_word c3 (at x) w.prev (link (at x)) in
-        let s5 = spares_put Of cs c4 (at x) w.owner (link (at x)) s4 (at_member x w.owner lx' (inr (inr refl))) in
-        let c5 = put_word c4 (at x) w.owner (link (at x)) in
-        spares_put Of cs c5 (home o) w.count (counter (length (f o) - 1)) s5 (at_owner w.count (inr (inr refl)))
-
     pub kept_unlinked : ArePartsKept l es sys d (with_members ms s o (xs ++ ys))
-    kept_unlinked = shown es (xs ++ ys) spares'
+    kept_unlinked = shown es (xs ++ ys) (spares lx' la' lb' (at x) (at x) (at x) (at b) (at a) (length (f o) - 1))
         (any_unlinked (words_of w cs at home) (words_of w es at home) at home (IsEntityOf cs d t.member) (MayOwn cs d t.owner) f o x xs ys (K.names s t g) was
-        (any_unlinked_is w cs at home (IsEntityOf cs d t.member) (MayOwn cs d t.owner) (grounds l cs sys d ms K s t g) o a x b (length (f o)) lo lx' la' lb'))
+        (written lx' la' lb' (at x) (at x) (at x) (at b) (at a) (length (f o) - 1)))
 
     pub state_unlinked : state_of l es d (with_members ms s o (xs ++ ys)) ≡ with_list_of (state_of l cs d ms) s o (xs ++ ys)
-    state_unlinked = relisted es (xs ++ ys) spares'
+    state_unlinked = relisted es (xs ++ ys) (spares lx' la' lb' (at x) (at x) (at x) (at b) (at a) (length (f o) - 1))

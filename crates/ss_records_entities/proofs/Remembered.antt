@@ -31,10 +31,6 @@ comes_and_goes Notice e p = p
 same_place : (p q : BlockPlace) → p.at ≡ q.at → p ≡ q
 same_place p q e = λ i. record { at = e i }
 
--- one that may be in a set has a number
-pub some_number : (r : Records) (s : ℕ) (e : EntityBlock) → CanJoin r s e → e.number ≡ 0 → ⊥
-some_number r s e h z = let a = entry_of r.blocks.cells (places r) (member_class r.layout s) e.number h.is in absurd (omega (arith, z, a.2))
-
 -- where its class isn't permanent, one that may be in a set is found by its creation number
 pub numbered_entry : (r : Records) (K : IsKept r) (s : ℕ) (e : EntityBlock) → CanJoin r s e → (IsPermanent (kind_of r.layout (member_class r.layout s)) → ⊥) → slice_get r.directory.places (e.number - 1) ≡ Some (Some e.place)
 numbered_entry r K s e h kind =

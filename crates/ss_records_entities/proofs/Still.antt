@@ -39,14 +39,8 @@ module _ (r q : Records) (h : uncounted q ≡ uncounted r) where
 pub few_fields : (l : Layout) (c f : ℕ) (m : Mode) → IsSmall l → slice_get (modes_of l c) f ≡ Some m → f < 1048576
 few_fields l c f m h g = omega (arith, h.fields c, slice_get_within (modes_of l c) f m g)
 
-pub base_room : (n : ℕ) → n ≤ 5242883 → Fits w64 (n + 1)
-base_room n h = omega (arith, h)
-
 pub base_room2 : (n : ℕ) → n ≤ 5242883 → Fits w64 (n + 2)
 base_room2 n h = omega (arith, h)
-
-pub owner_room : (n : ℕ) → n ≤ 8388614 → Fits w64 (n + 1)
-owner_room n h = omega (arith, h)
 
 -- ## Touches, by this call and by all calls
 
@@ -83,12 +77,6 @@ module _ (a A b B : ℕ) (none : a ≡ 0) where
 
     pub one_refused : (b ≤ 12) × (false ≡ true → 4 ≤ b) × (B ≡ A + b)
     one_refused = (omega (arith, none, one.0), λ z. absurd (false_is_not_true z), omega (arith, none, one.0, one.1))
-
-    pub one_then_few : (d D : ℕ) → (d ≡ b + 1) × (D ≡ B + 1) → d ≤ 16
-    one_then_few d D two = omega (arith, none, one.0, two.0)
-
-    pub one_then_linked : (d D f F : ℕ) → (d ≡ b + 1) × (D ≡ B + 1) → (f ≡ d + 7) × (F ≡ D + 7) → {Q : Type 0} → (f ≤ 12) × (Q → 4 ≤ f) × (F ≡ A + f)
-    one_then_linked d D f F two link = (omega (arith, none, one.0, two.0, link.0), λ z. omega (arith, two.0, link.0), omega (arith, none, one.0, one.1, two.0, two.1, link.0, link.1))
 
     pub two_touches : (d D : ℕ) → (d ≡ b + 1) × (D ≡ B + 1) → {Q : Type 0} → (d ≤ 2) × (Q → 1 ≤ d) × (D ≡ A + d)
     two_touches d D two = (omega (arith, none, one.0, two.0), λ z. omega (arith, none, one.0, two.0), omega (arith, none, one.0, one.1, two.0, two.1))

@@ -1,5 +1,5 @@
 -- The parts of a heap, and what its contracts see of them.
-use Rattle.std.specs.Prelude.{◌≡◌, ℕ, suc, ℤ, pos, List, ◌∷◌, ◌++◌, length, slice_get, Some, Ok}
+use Rattle.std.specs.Prelude.{◌≡◌, ℕ, suc, ℤ, pos, Bool, true, false, List, [], ◌∷◌, ◌++◌, length, slice_get, Some, Ok}
 use Rattle.ss_records_blocks.specs.declared.store.BlockPlace.{BlockPlace}
 use Rattle.ss_records_entities.specs.declared.records.Records.{Records}
 use Rattle.ss_records_blocks.specs.declared.links.EntityBlock.{EntityBlock}
@@ -69,6 +69,15 @@ pub record HasNeighbours (r : Records) (s o x : ℕ) (a b : EntityBlock) (xs ys 
   pub last : a.number ≡ last_or 0 xs
   pub after : IsInPlace r s b
   pub first : b.number ≡ head0 ys
+
+-- the members of a list before an end of it, the last or the first, and those after it
+abbrev pub before_end : Bool → List ℕ → List ℕ
+before_end true l = l
+before_end false l = []
+
+abbrev pub after_end : Bool → List ℕ → List ℕ
+after_end true l = []
+after_end false l = l
 
 -- what a call that only looks leaves: all but the counts of touches
 abbrev pub uncounted : Records → Records

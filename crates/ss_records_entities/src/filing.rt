@@ -1,9 +1,9 @@
 // Filing and removing.
-ghost use Rattle.std.specs.Prelude.{◌≡◌, ℕ, ◌+◌, ◌<◌, ◌≤◌, ℤ, List, [], ◌∷◌, ◌++◌, length, false, true, if◌then◌else◌, Result, MatchResult, IsOk, Ok, Err};
+ghost use Rattle.std.specs.Prelude.{◌≡◌, ℕ, ◌+◌, ◌<◌, ◌≤◌, ℤ, List, ◌∷◌, ◌++◌, length, false, true, if◌then◌else◌, Result, MatchResult, IsOk, Ok, Err};
 ghost use Rattle.ss_world.specs.State.{State, and_then, is_filed, contains, members_of};
 ghost use Rattle.ss_world.specs.Disciplines.{first_removed, last_removed, member_test};
 ghost use Rattle.ss_world.specs.Sets.{joiner, owner, less, with_list_of, put_in, put_beside, taken_out, filed_first, filed_last, filed_before, filed_after, removed};
-ghost use Rattle.ss_records_entities.specs.Parts.{IsKept, state, uncounted, IsOwnerBlock, CanJoin, AreNeighbours, HasNeighbours};
+ghost use Rattle.ss_records_entities.specs.Parts.{IsKept, state, uncounted, IsOwnerBlock, CanJoin, AreNeighbours, before_end, after_end};
 
 use crate::records::Records;
 use crate::sets;
@@ -32,7 +32,7 @@ struct Neighbours {
     after: EntityBlock,
 }
 
-// The gap before a member, or after it, by the neighbour on that side.
+// The gap before a member, or after it, by the neighbour on that side. Either of the two may be the end of the set.
 #[inline(always)]
 fn gap_beside(member: EntityBlock, neighbour: EntityBlock, is_before: bool) -> Neighbours
     ensures before { result.before ≡ (if is_before then neighbour else member) }
@@ -142,78 +142,17 @@ impl Records {
             .put_before(s, owner.number, x.number, after.number);
     }
 
-    // Unlinks x from the set of an owner, from between its neighbours: seven touches.
-    fn link_out(
-        &mut self,
-        s: usize,
-        owner: EntityBlock,
-        before: EntityBlock,
-        x: EntityBlock,
-        after: EntityBlock,
-    )
-        requires kept { IsKept self.old }
-        requires set { s < length self.old.layout.sets }
-        requires owns { IsOwnerBlock self.old s owner }
-        requires joins { CanJoin self.old s x }
-        requires around { (xs : List ℕ) × (ys : List ℕ) × HasNeighbours self.old s owner.number x.number before after xs ys }
-        requires touches { self.old.blocks.touches ≤ 16 }
-        ensures kept { IsKept self.new }
-        ensures done { (xs : List ℕ) (ys : List ℕ) → HasNeighbours self.old s owner.number x.number before after xs ys → state self.new ≡ with_list_of (state self.old) s owner.number (xs ++ ys) }
-        ensures touches { (self.new.blocks.touches ≡ self.old.blocks.touches + 7) × (self.new.blocks.total ≡ self.old.blocks.total + 7) }
-    {
-        let member = self.layout.member_base(s);
-        let set = self.layout.owner_base(s);
-        let count = self.blocks.count(owner.place, set + 2);
-        let position = LinkPosition {
-            owner: owner.place,
-            before: before.place,
-            is_first: before.number == 0,
-            after: after.place,
-            is_last: after.number == 0,
-            count,
-        };
-        self.blocks.unlink(member, set, x.place, &position);
-        self.notes.take_out(s, owner.number, x.number);
-    }
-
-    /// Files x first.
-    pub fn file_first(&mut self, s: usize, o: i64, x: i64) -> Result<(), FaultKind>
-        requires kept { IsKept self.old }
-        requires set { s < length self.old.layout.sets }
-        requires touches { self.old.blocks.touches ≡ 0 }
-        ensures kept { IsKept self.new }
-        ensures done { MatchResult result (λ _. filed_first (state self.old) s o x ≡ Ok (state self.new)) (λ e. (filed_first (state self.old) s o x ≡ Err e) × (state self.new ≡ state self.old)) }
-        ensures touches { (self.new.blocks.touches ≤ 12) × (IsOk result → 4 ≤ self.new.blocks.touches) × (self.new.blocks.total ≡ self.old.blocks.total + self.new.blocks.touches) }
-    {
-        match self.pair(s, o, x) {
-            Ok(pair) => {
-                let base = self.layout.owner_base(s);
-                let end = EntityBlock {
-                    place: self.system,
-                    number: 0,
-                };
-                if self.is_filed(s, pair.x) {
-                    return Err(FaultKind::FiledTwice);
-                }
-                let first = self.blocks.follow(pair.owner.place, base);
-                self.link_in(s, pair.owner, end, pair.x, first);
-                Ok(())
-            }
-            Err(fault) => Err(fault),
-        }
-    }
-
-    /// Files x last.
+    /// Files x last, or first.
     #[inline(always)]
-    pub fn file_last(&mut self, s: usize, o: i64, x: i64) -> Result<(), FaultKind>
+    pub fn file_end(&mut self, s: usize, o: i64, x: i64, is_last: bool) -> Result<(), FaultKind>
         requires kept { IsKept self.old }
         requires set { s < length self.old.layout.sets }
         ensures kept { IsKept self.new }
-        ensures done { MatchResult result (λ _. filed_last (state self.old) s o x ≡ Ok (state self.new)) (λ e. (filed_last (state self.old) s o x ≡ Err e) × (state self.new ≡ state self.old)) }
+        ensures done { MatchResult result (λ _. (if is_last then filed_last else filed_first) (state self.old) s o x ≡ Ok (state self.new)) (λ e. ((if is_last then filed_last else filed_first) (state self.old) s o x ≡ Err e) × (state self.new ≡ state self.old)) }
         ensures touches { (self.new.blocks.touches ≤ 12) × (IsOk result → 4 ≤ self.new.blocks.touches) × (self.new.blocks.total ≡ self.old.blocks.total + self.new.blocks.touches) }
     {
         match self.pair(s, o, x) {
-            Ok(both) => self.put_last(s, both.owner, both.x),
+            Ok(both) => self.put_end(s, both.owner, both.x, is_last),
             Err(fault) => {
                 self.blocks.start();
                 Err(fault)
@@ -289,23 +228,34 @@ impl Records {
         ensures done { state self.new ≡ with_list_of (state self.old) s owner.number (less x.number (members_of self.old.notes.lists s owner.number)) }
         ensures touches { (self.new.blocks.touches ≡ self.old.blocks.touches + 9) × (self.new.blocks.total ≡ self.old.blocks.total + 9) }
     {
-        let base = self.layout.member_base(s);
-        let before = self.blocks.follow(x.place, base + 1);
-        let after = self.blocks.follow(x.place, base);
-        self.link_out(s, owner, before, x, after);
+        let member = self.layout.member_base(s);
+        let set = self.layout.owner_base(s);
+        let before = self.blocks.follow(x.place, member + 1);
+        let after = self.blocks.follow(x.place, member);
+        let count = self.blocks.count(owner.place, set + 2);
+        let position = LinkPosition {
+            owner: owner.place,
+            before: before.place,
+            is_first: before.number == 0,
+            after: after.place,
+            is_last: after.number == 0,
+            count,
+        };
+        self.blocks.unlink(member, set, x.place, &position);
+        self.notes.take_out(s, owner.number, x.number);
     }
 
-    /// Takes the first member out of a set, and answers it.
+    /// Takes the last member out of a set, or the first, and answers it.
     #[inline(always)]
-    pub fn remove_first(&mut self, s: usize, o: i64) -> Result<i64, FaultKind>
+    pub fn remove_end(&mut self, s: usize, o: i64, is_last: bool) -> Result<i64, FaultKind>
         requires kept { IsKept self.old }
         requires set { s < length self.old.layout.sets }
         ensures kept { IsKept self.new }
-        ensures done { MatchResult result (λ x. first_removed (state self.old) s o ≡ Ok (x, state self.new)) (λ e. (first_removed (state self.old) s o ≡ Err e) × (state self.new ≡ state self.old)) }
+        ensures done { MatchResult result (λ x. (if is_last then last_removed else first_removed) (state self.old) s o ≡ Ok (x, state self.new)) (λ e. ((if is_last then last_removed else first_removed) (state self.old) s o ≡ Err e) × (state self.new ≡ state self.old)) }
         ensures touches { (self.new.blocks.touches ≤ 12) × (self.new.blocks.total ≡ self.old.blocks.total + self.new.blocks.touches) }
     {
         match self.owner(s, o) {
-            Ok(owner) => self.draw_first(s, owner),
+            Ok(owner) => self.draw_end(s, owner, is_last),
             Err(fault) => {
                 self.blocks.start();
                 Err(fault)
@@ -313,40 +263,22 @@ impl Records {
         }
     }
 
-    /// Takes the last member out of a set, and answers it.
-    pub fn remove_last(&mut self, s: usize, o: i64) -> Result<i64, FaultKind>
-        requires kept { IsKept self.old }
-        requires set { s < length self.old.layout.sets }
-        requires touches { self.old.blocks.touches ≡ 0 }
-        ensures kept { IsKept self.new }
-        ensures done { MatchResult result (λ x. last_removed (state self.old) s o ≡ Ok (x, state self.new)) (λ e. (last_removed (state self.old) s o ≡ Err e) × (state self.new ≡ state self.old)) }
-        ensures touches { (self.new.blocks.touches ≤ 12) × (self.new.blocks.total ≡ self.old.blocks.total + self.new.blocks.touches) }
-    {
-        match self.owner(s, o) {
-            Ok(owner) => {
-                let base = self.layout.owner_base(s);
-                let last = self.blocks.follow(owner.place, base + 1);
-                if last.number == 0 {
-                    return Err(FaultKind::EmptySet);
-                }
-                self.remember(s, last);
-                self.cut_out(s, owner, last);
-                Ok(last.number as i64)
-            }
-            Err(fault) => Err(fault),
-        }
-    }
-
-    // Links x in after the last member of the set of an owner. Faults: 6 where it is in some set of the name.
-    // The touches are counted at once.
+    // Links x in at an end of the set of an owner: after the last member, or before the first. Faults: 6 where it is in some set of the
+    // name. The touches are counted at once.
     #[inline(always)]
-    fn put_last(&mut self, s: usize, owner: EntityBlock, x: EntityBlock) -> Result<(), FaultKind>
+    fn put_end(
+        &mut self,
+        s: usize,
+        owner: EntityBlock,
+        x: EntityBlock,
+        is_last: bool,
+    ) -> Result<(), FaultKind>
         requires kept { IsKept self.old }
         requires set { s < length self.old.layout.sets }
         requires owns { IsOwnerBlock self.old s owner }
         requires joins { CanJoin self.old s x }
         ensures kept { IsKept self.new }
-        ensures done { MatchResult result (λ _. (is_filed self.old.notes.lists s x.number ≡ false) × (state self.new ≡ with_list_of (state self.old) s owner.number (members_of self.old.notes.lists s owner.number ++ x.number ∷ []))) (λ e. (e ≡ FaultKind.FiledTwice) × (is_filed self.old.notes.lists s x.number ≡ true) × (state self.new ≡ state self.old)) }
+        ensures done { MatchResult result (λ _. (is_filed self.old.notes.lists s x.number ≡ false) × (state self.new ≡ with_list_of (state self.old) s owner.number (before_end is_last (members_of self.old.notes.lists s owner.number) ++ x.number ∷ after_end is_last (members_of self.old.notes.lists s owner.number)))) (λ e. (e ≡ FaultKind.FiledTwice) × (is_filed self.old.notes.lists s x.number ≡ true) × (state self.new ≡ state self.old)) }
         ensures touches { (self.new.blocks.touches ≤ 12) × (IsOk result → 4 ≤ self.new.blocks.touches) × (self.new.blocks.total ≡ self.old.blocks.total + self.new.blocks.touches) }
     {
         let member = self.layout.member_base(s);
@@ -356,55 +288,69 @@ impl Records {
             self.blocks.start_at(1);
             return Err(FaultKind::FiledTwice);
         }
-        let last = self.blocks.look(owner.place, set + 1);
+        let word = sets::beside(set, is_last);
+        let end = self.blocks.look(owner.place, word);
         let count = self.blocks.peek_count(owner.place, set + 2);
+        let none = EntityBlock {
+            place: self.system,
+            number: 0,
+        };
+        let gap = gap_beside(none, end, is_last);
         let position = LinkPosition {
             owner: owner.place,
-            before: last.place,
-            is_first: last.number == 0,
-            after: self.system,
-            is_last: true,
+            before: gap.before.place,
+            is_first: gap.before.number == 0,
+            after: gap.after.place,
+            is_last: gap.after.number == 0,
             count,
         };
         self.blocks.start_at(3);
         self.blocks.link_between(member, set, x.place, &position);
-        self.notes.put_before(s, owner.number, x.number, 0);
+        self.notes
+            .put_before(s, owner.number, x.number, gap.after.number);
         Ok(())
     }
 
-    // Takes the first member out of the set of an owner, remembers it and answers it. Faults: 8 where there is none. The touches are
+    // Takes the member at an end out of the set of an owner, remembers it and answers it. Faults: 8 where there is none. The touches are
     // counted at once.
     #[inline(always)]
-    fn draw_first(&mut self, s: usize, home: EntityBlock) -> Result<i64, FaultKind>
+    fn draw_end(&mut self, s: usize, home: EntityBlock, is_last: bool) -> Result<i64, FaultKind>
         requires kept { IsKept self.old }
         requires set { s < length self.old.layout.sets }
         requires owns { IsOwnerBlock self.old s home }
         ensures kept { IsKept self.new }
-        ensures done { MatchResult result (λ x. (o : ℤ) → owner (state self.old) s o ≡ Ok home.number → first_removed (state self.old) s o ≡ Ok (x, state self.new)) (λ e. ((o : ℤ) → owner (state self.old) s o ≡ Ok home.number → first_removed (state self.old) s o ≡ Err e) × (state self.new ≡ state self.old)) }
+        ensures done { MatchResult result (λ x. (o : ℤ) → owner (state self.old) s o ≡ Ok home.number → (if is_last then last_removed else first_removed) (state self.old) s o ≡ Ok (x, state self.new)) (λ e. ((o : ℤ) → owner (state self.old) s o ≡ Ok home.number → (if is_last then last_removed else first_removed) (state self.old) s o ≡ Err e) × (state self.new ≡ state self.old)) }
         ensures touches { (self.new.blocks.touches ≤ 12) × (self.new.blocks.total ≡ self.old.blocks.total + self.new.blocks.touches) }
     {
         let set = self.layout.owner_base(s);
         let member = self.layout.member_base(s);
-        let first = self.blocks.look(home.place, set);
-        if first.number == 0 {
+        let word = sets::beside(set, is_last);
+        let end = self.blocks.look(home.place, word);
+        if end.number == 0 {
             self.blocks.start_at(1);
             return Err(FaultKind::EmptySet);
         }
-        sets::keep(&mut self.directory, &self.layout, s, first);
-        let after = self.blocks.look(first.place, member);
+        sets::keep(&mut self.directory, &self.layout, s, end);
+        let link = sets::beside(member, is_last);
+        let next = self.blocks.look(end.place, link);
         let count = self.blocks.peek_count(home.place, set + 2);
+        let none = EntityBlock {
+            place: self.system,
+            number: 0,
+        };
+        let gap = gap_beside(none, next, is_last);
         let position = LinkPosition {
             owner: home.place,
-            before: self.system,
-            is_first: true,
-            after: after.place,
-            is_last: after.number == 0,
+            before: gap.before.place,
+            is_first: gap.before.number == 0,
+            after: gap.after.place,
+            is_last: gap.after.number == 0,
             count,
         };
         self.blocks.start_at(3);
-        self.blocks.unlink(member, set, first.place, &position);
-        self.notes.take_out(s, home.number, first.number);
-        Ok(first.number as i64)
+        self.blocks.unlink(member, set, end.place, &position);
+        self.notes.take_out(s, home.number, end.number);
+        Ok(end.number as i64)
     }
 
     /// Whether x is in the set of an owner: at most two touches.

@@ -430,17 +430,6 @@ impl Records {
         }
     }
 
-    /// Remembers a member of a set, where its class is not permanent.
-    #[inline(always)]
-    pub fn remember(&mut self, s: usize, member: EntityBlock)
-        requires kept { IsKept self.old }
-        requires set { s < length self.old.layout.sets }
-        requires joins { CanJoin self.old s member }
-        ensures { self.new ≡ self.old }
-    {
-        keep(&mut self.directory, &self.layout, s, member);
-    }
-
     /// Whose set x is in: at most two touches.
     pub fn owner_in(&mut self, s: usize, x: i64) -> Result<Option<i64>, FaultKind>
         requires kept { IsKept self.old }

@@ -125,10 +125,6 @@ drop_at [] s t g = cc
 drop_at (x ∷ xs) zero t g = let e : x ≡ t = cc in ap (λ y. y ∷ xs) e
 drop_at (x ∷ xs) (suc s) t g = let q : suc s + 1 ≡ suc (s + 1) = omega arith in rw q (drop_at xs s t g)
 
-or_true : (b : Bool) → (b || true) ≡ true
-or_true true = refl
-or_true false = refl
-
 -- the sets from s on, by what the set s says
 pub in_step : (ts : List SetLayout) (s c x : ℕ) (t : SetLayout) (ms : List Members) → slice_get ts s ≡ Some t → in_a_set (drop s ts) s ms c x ≡ (((t.member == c) && is_filed ms s x) || in_a_set (drop (s + 1) ts) (s + 1) ms c x)
 in_step ts s c x t ms g = ap (λ us. in_a_set us s ms c x) (drop_at ts s t g)

@@ -10,21 +10,13 @@ use Rattle.ss_base.specs.declared.layout.Owner.TheVariants.{System, Class}
 use Rattle.ss_base.specs.Layout.{is_sound}
 use Rattle.ss_records_blocks.specs.declared.store.BlockPlace.{BlockPlace}
 use Rattle.ss_records_blocks.specs.Cells.{Word, number, Cells, IsNumber, words_at, word_of}
-use Rattle.ss_world.specs.State.{Record, State, Members, entity_in, kind_of, modes_of}
+use Rattle.ss_world.specs.State.{State, Members, kind_of, modes_of}
 use Rattle.ss_records_words.specs.Shape.{links_start, block_words}
 use Rattle.ss_records_words.specs.Reading.{record_at, records_at}
 use Rattle.ss_records_blocks.specs.Places.{Numbers, living_count}
 use Rattle.ss_records_words.specs.Places.{Made, Directory, IsMade, IsListedAt, class_at_place, permanent_count}
 use Rattle.ss_records_words.specs.Slotted.{IsNameKept}
 use Rattle.ss_base.specs.declared.layout.SetLayout.{SetLayout}
-
-abbrev pub is_here : Result Record FaultKind → Type 0
-is_here (Ok r) = Unit {0}
-is_here (Err e) = ⊥
-
--- whether there is an entity n of a class
-abbrev pub IsLivingEntity : State → ℕ → ℕ → Type 0
-IsLivingEntity st c n = is_here (entity_in st c (pos n))
 
 abbrev pub IsPermanent : ClassKind → Type 0
 IsPermanent Permanent = Unit {0}

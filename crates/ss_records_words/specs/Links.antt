@@ -36,23 +36,23 @@ pub record AreShowing (m : Words) (at home : ℕ → Ptr) (alive owns : ℕ → 
   pub distinct : (o : ℕ) → AreAllDistinct (f o)
   pub sole : (o p y : ℕ) → IsInList y (f o) → IsInList y (f p) → o ≡ p
 
+-- m' is m once the next, previous and owner of x lead to nx, px and ox, the next of a and the previous of b in the list of o to na and pb,
+-- and o counts n members
+pub record IsRewired (m m' : Words) (at home : ℕ → Ptr) (alive owns : ℕ → Type 0) (o a x b : ℕ) (nx px ox na pb : Ptr) (n : ℕ) : Type 0 where
+  pub next : (y : ℕ) → alive y → (0 ≡ y → ⊥) → m'.next y ≡ cond (a == y) (link na) (cond (x == y) (link nx) (m.next y))
+  pub prev : (y : ℕ) → alive y → (0 ≡ y → ⊥) → m'.prev y ≡ cond (b == y) (link pb) (cond (x == y) (link px) (m.prev y))
+  pub owner : (y : ℕ) → alive y → m'.owner y ≡ cond (x == y) (link ox) (m.owner y)
+  pub first : (p : ℕ) → owns p → m'.first p ≡ cond (a == 0) (cond (o == p) (link na) (m.first p)) (m.first p)
+  pub last : (p : ℕ) → owns p → m'.last p ≡ cond (b == 0) (cond (o == p) (link pb) (m.last p)) (m.last p)
+  pub count : (p : ℕ) → owns p → m'.count p ≡ cond (o == p) (counter n) (m.count p)
+
 -- m' is m once x is linked in between a and b in the list of o, which had n members
-pub record IsLinkedIn (m m' : Words) (at home : ℕ → Ptr) (alive owns : ℕ → Type 0) (o a x b n : ℕ) : Type 0 where
-  pub next : (y : ℕ) → alive y → (0 ≡ y → ⊥) → m'.next y ≡ cond (a == y) (link (at x)) (cond (x == y) (link (at b)) (m.next y))
-  pub prev : (y : ℕ) → alive y → (0 ≡ y → ⊥) → m'.prev y ≡ cond (b == y) (link (at x)) (cond (x == y) (link (at a)) (m.prev y))
-  pub owner : (y : ℕ) → alive y → m'.owner y ≡ cond (x == y) (link (home o)) (m.owner y)
-  pub first : (p : ℕ) → owns p → m'.first p ≡ cond (a == 0) (cond (o == p) (link (at x)) (m.first p)) (m.first p)
-  pub last : (p : ℕ) → owns p → m'.last p ≡ cond (b == 0) (cond (o == p) (link (at x)) (m.last p)) (m.last p)
-  pub count : (p : ℕ) → owns p → m'.count p ≡ cond (o == p) (counter (n + 1)) (m.count p)
+abbrev pub IsLinkedIn : (m m' : Words) (at home : ℕ → Ptr) (alive owns : ℕ → Type 0) (o a x b n : ℕ) → Type 0
+IsLinkedIn m m' at home alive owns o a x b n = IsRewired m m' at home alive owns o a x b (at b) (at a) (home o) (at x) (at x) (n + 1)
 
 -- m' is m once x is taken out from between a and b
-pub record IsUnlinked (m m' : Words) (at home : ℕ → Ptr) (alive owns : ℕ → Type 0) (o a x b n : ℕ) : Type 0 where
-  pub next : (y : ℕ) → alive y → (0 ≡ y → ⊥) → m'.next y ≡ cond (x == y) (link (at x)) (cond (a == y) (link (at b)) (m.next y))
-  pub prev : (y : ℕ) → alive y → (0 ≡ y → ⊥) → m'.prev y ≡ cond (x == y) (link (at x)) (cond (b == y) (link (at a)) (m.prev y))
-  pub owner : (y : ℕ) → alive y → m'.owner y ≡ cond (x == y) (link (at x)) (m.owner y)
-  pub first : (p : ℕ) → owns p → m'.first p ≡ cond (a == 0) (cond (o == p) (link (at b)) (m.first p)) (m.first p)
-  pub last : (p : ℕ) → owns p → m'.last p ≡ cond (b == 0) (cond (o == p) (link (at a)) (m.last p)) (m.last p)
-  pub count : (p : ℕ) → owns p → m'.count p ≡ cond (o == p) (counter (n - 1)) (m.count p)
+abbrev pub IsUnlinked : (m m' : Words) (at home : ℕ → Ptr) (alive owns : ℕ → Type 0) (o a x b n : ℕ) → Type 0
+IsUnlinked m m' at home alive owns o a x b n = IsRewired m m' at home alive owns o a x b (at x) (at x) (at x) (at b) (at a) (n - 1)
 
 -- k is one of the name's words in a member's block, and j one in an owner's
 abbrev pub IsOfMember : Slots → ℕ → Type 0

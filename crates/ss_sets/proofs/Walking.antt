@@ -64,11 +64,6 @@ onward_follower l z [] d h = refl
 onward_follower l z (w ∷ ws) d h = from_follower l z w ws d h
 
 module _ (st : State) (A : AreMembersApart st) (s : ℕ) (inside : s < length st.layout.sets) where
-  -- a member's set is the owner's
-  own_list : (r : Result ℕ FaultKind) (z : ℕ) → IsInList z (members_owned_by st s r) → (m : ℕ) × (members_owned_by st s r ≡ members_of st.lists s m)
-  own_list (Ok m) z h = (m, refl)
-  own_list (Err e) z h = absurd h
-
   distinct_by : (r : Result ℕ FaultKind) → AreAllDistinct (members_owned_by st s r)
   distinct_by (Ok m) = A.distinct s m inside
   distinct_by (Err e) = tt

@@ -1,5 +1,5 @@
 -- Where a discipline puts a member, and taking out the first or the last.
-use Rattle.std.specs.Prelude.{ℕ, zero, suc, ◌<◌, Bool, false, not, cond, List, [], ◌∷◌, length, ℤ, pos, negsuc, Result, Ok, Err, All}
+use Rattle.std.specs.Prelude.{ℕ, zero, suc, ◌<◌, Bool, false, not, cond, List, [], ◌∷◌, length, ℤ, pos, Result, Ok, Err, All}
 use Rattle.std.specs.Ordering.{match_ordering}
 use Rattle.ss_base.specs.Order.{value_cmp}
 use Rattle.ss_base.specs.declared.value.Value.{Value}
@@ -18,8 +18,7 @@ use Rattle.ss_world.specs.Sets.{joiner, owner, member_class, put_in, first_in, l
 -- the state without x in a set, and x; 0 is none
 abbrev pub take : State → ℕ → ℤ → ℤ → Result (ℤ × State) FaultKind
 take st s o (pos zero) = Err EmptySet
-take st s o (pos (suc n)) = and_then (removed st s o (pos (suc n))) (λ t. Ok (pos (suc n), t))
-take st s o (negsuc k) = and_then (removed st s o (negsuc k)) (λ t. Ok (negsuc k, t))
+take st s o x = and_then (removed st s o x) (λ t. Ok (x, t))
 
 -- the first member of a set, and the state once it is removed
 abbrev pub first_removed : State → ℕ → ℤ → Result (ℤ × State) FaultKind

@@ -83,31 +83,27 @@ indexed_record None = Err Index
 indexed_record (Some r) = Ok r
 
 abbrev pub records_in : Option (Option (List Record)) → List Record
-records_in None = []
-records_in (Some None) = []
 records_in (Some (Some rs)) = rs
+records_in _ = []
 
 -- the record of an index of a permanent class, from 1 on
 abbrev pub indexed : State → ℕ → ℤ → Result Record FaultKind
-indexed s c (pos zero) = Err Index
 indexed s c (pos (suc i)) = indexed_record (slice_get (records_in (slice_get s.permanents c)) i)
-indexed s c (negsuc k) = Err Index
+indexed s c _ = Err Index
 
 abbrev pub of_class : ℕ → Record → Result Record FaultKind
 of_class c r = if r.class == c then Ok r else Err WrongClass
 
 abbrev pub is_notice : ClassKind → Bool
-is_notice Permanent = false
-is_notice Temporary = false
 is_notice Notice = true
+is_notice _ = false
 
 abbrev pub of_notice : Layout → Record → Result Record FaultKind
 of_notice l r = if is_notice (kind_of l r.class) then Ok r else Err WrongClass
 
 abbrev pub entity_of_kind : State → ClassKind → ℕ → ℤ → Result Record FaultKind
 entity_of_kind s Permanent c x = indexed s c x
-entity_of_kind s Temporary c x = and_then (numbered_record s x) (of_class c)
-entity_of_kind s Notice c x = and_then (numbered_record s x) (of_class c)
+entity_of_kind s _ c x = and_then (numbered_record s x) (of_class c)
 
 -- what a number means as an entity of a class
 abbrev pub entity_in : State → ℕ → ℤ → Result Record FaultKind
@@ -135,14 +131,12 @@ abbrev pub with_time : Record → ℤ → Record
 with_time r t = record { class = r.class; values = r.values; time = t }
 
 abbrev pub with_indexed : Option (Option (List Record)) → ℕ → Record → Option (List Record)
-with_indexed None i r = None
-with_indexed (Some None) i r = None
 with_indexed (Some (Some rs)) i r = Some (slice_set rs (i - 1) r)
+with_indexed _ i r = None
 
 abbrev pub with_entity_of_kind : State → ClassKind → ℕ → ℕ → Record → State
 with_entity_of_kind s Permanent c n r = record s { permanents = slice_set s.permanents c (with_indexed (slice_get s.permanents c) n r) }
-with_entity_of_kind s Temporary c n r = record s { records = slice_set s.records (n - 1) (Some r) }
-with_entity_of_kind s Notice c n r = record s { records = slice_set s.records (n - 1) (Some r) }
+with_entity_of_kind s _ c n r = record s { records = slice_set s.records (n - 1) (Some r) }
 
 -- the state with r as the record of the entity n of the class c
 abbrev pub with_entity : State → ℕ → ℕ → Record → State
@@ -187,9 +181,8 @@ abbrev pub MOST_ENTITIES : ℕ
 MOST_ENTITIES = 1048576
 
 abbrev pub is_made_in : Option (Option (List Record)) → Bool
-is_made_in None = false
-is_made_in (Some None) = false
 is_made_in (Some (Some rs)) = true
+is_made_in _ = false
 
 -- whether the entities of a permanent class are made
 abbrev pub is_made : State → ℕ → Bool

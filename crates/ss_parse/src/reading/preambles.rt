@@ -3,18 +3,18 @@
 ghost use Rattle.std.specs.Prelude.{◌≡◌, None, map};
 ghost use Rattle.ss_tree.specs.View.{view_clause, view_order, view_preamble};
 ghost use Rattle.ss_parse_expressions.specs.Reading.{HasGivenReading, word, begins, expect, after_dropped, closed, maybe_list, begins_more, taken, in_table};
-ghost use Rattle.ss_lex.specs.declared.word.Word.TheVariants.{Include, Variable};
-ghost use Rattle.ss_parse_expressions.specs.ReadWords.{begins_name, names};
+ghost use Rattle.ss_lex.specs.declared.word.Word.TheVariants.{Variable};
+ghost use Rattle.ss_parse_expressions.specs.ReadWords.{names};
 ghost use Rattle.ss_parse.specs.SpelledPreambles.{group_after};
-ghost use Rattle.ss_parse_expressions.specs.WordTables.{mode_of_word, rank_of};
+ghost use Rattle.ss_parse_expressions.specs.WordTables.{mode_of_word};
 ghost use Rattle.ss_parse.specs.ReadPreambles.{then_rank, keys, statistic_kind, found, clause, begins_clause, clause_list, clauses, ranking, order, permanent_at, temporary_at, notices_at, every_at, normally_at, system_at, define_end, define_at, priority_at, break_at, statistics_at, preamble_at, begins_preamble, preamble_in, preambles, whole_preamble};
 
 use ss_base::{Line, Name};
 use ss_lex::{Symbol, Token, TokenKind, Word};
 use ss_parse_expressions::classes::{WordClass, skip_class};
 use ss_parse_expressions::failure::ParseFailure;
-use ss_parse_expressions::names::{begins_name, items, name, names};
-use ss_parse_expressions::steps::{alone, beside};
+use ss_parse_expressions::names::{begins_more_names, items, name, names};
+use ss_parse_expressions::steps::{alone, beside, joined};
 use ss_parse_expressions::tables::{begins_word_of, take_word_of};
 use ss_parse_expressions::tokens::{
     after_first, begins_symbol, begins_word, expect_word, skip_separator, skip_word, syntax,
@@ -27,27 +27,13 @@ use ss_tree::preamble::{
 };
 use std::alloc::Global;
 
-/// A mode.
-fn mode(tokens: &[Token]) -> Result<(ModeWord, &[Token]), ParseFailure>
-    ensures { HasGivenReading (λ x. (x.0, x.1.now)) result (taken (in_table mode_of_word) tokens.now) }
-{
-    take_word_of::<ModeWords>(tokens)
-}
-
 /// The end of a DEFINE of variables: a mode.
 pub fn variable_mode(tokens: &[Token]) -> Result<(ModeWord, &[Token]), ParseFailure>
     ensures { HasGivenReading (λ x. (x.0, x.1.now)) result (closed (taken (in_table mode_of_word)) (expect (word Variable)) tokens.now) }
 {
-    let (mode, rest) = mode(tokens)?;
+    let (mode, rest) = take_word_of::<ModeWords>(tokens)?;
     let rest = expect_word(rest, Word::Variable)?;
     Ok((mode, rest))
-}
-
-/// HIGH or LOW.
-fn rank(tokens: &[Token]) -> Result<(bool, &[Token]), ParseFailure>
-    ensures { HasGivenReading (λ x. (x.0, x.1.now)) result (taken (in_table rank_of) tokens.now) }
-{
-    take_word_of::<RankWords>(tokens)
 }
 
 /// A clause of an EVERY.
@@ -76,7 +62,7 @@ fn then_rank(tokens: &[Token]) -> Result<(bool, &[Token]), ParseFailure>
 {
     let rest = expect_noisy(tokens, Word::Then)?;
     let rest = expect_word(rest, Word::By)?;
-    rank(rest)
+    take_word_of::<RankWords>(rest)
 }
 
 /// Keys, the further ones after THEN BY.
@@ -84,7 +70,7 @@ fn then_rank(tokens: &[Token]) -> Result<(bool, &[Token]), ParseFailure>
 fn keys(alloc: Global, tokens: &[Token]) -> Result<(Vec<NamedKey>, &[Token]), ParseFailure>
     ensures { HasGivenReading (λ x. (x.0.items, x.1.now)) result (keys tokens.now) }
 {
-    let (high, from) = rank(tokens)?;
+    let (high, from) = take_word_of::<RankWords>(tokens)?;
     let first = name(from)?;
     let mut all = alone(alloc, NamedKey { high, name: first })?;
     let mut rest = after_first(from);
@@ -108,14 +94,6 @@ fn statistic_kind(tokens: &[Token]) -> Result<(StatisticKind, &[Token]), ParseFa
     take_word_of::<StatisticWords>(skip_word(rest, Word::The))
 }
 
-/// Whether a separator and then a name follow.
-fn begins_more_statistics(tokens: &[Token]) -> bool
-    ensures { result ≡ begins_more begins_name tokens.now }
-{
-    (begins_symbol(tokens, Symbol::Comma) || begins_word(tokens, Word::And))
-        && begins_name(skip_separator(tokens))
-}
-
 /// Statistics with separators between.
 #[tactic(auto, unfolding(crate::specs::ReadPreambles::statistic))]
 fn found(alloc: Global, tokens: &[Token]) -> Result<(Vec<NamedStatistic>, &[Token]), ParseFailure>
@@ -124,7 +102,7 @@ fn found(alloc: Global, tokens: &[Token]) -> Result<(Vec<NamedStatistic>, &[Toke
     let first = name(tokens)?;
     let (kind, mut rest) = statistic_kind(after_first(tokens))?;
     let mut all = alone(alloc, NamedStatistic { name: first, kind })?;
-    'more: while begins_more_statistics(rest) {
+    'more: while begins_more_names(rest) {
         let from = skip_separator(rest);
         let next = name(from)?;
         let (measure, after) = statistic_kind(after_first(from))?;
@@ -165,8 +143,8 @@ fn clause_list(alloc: Global, tokens: &[Token]) -> Result<(Vec<Clause>, &[Token]
     let (first, mut rest) = clause(alloc, tokens)?;
     let mut all = alone(alloc, first)?;
     'more: while begins_more_clauses(rest) {
-        let (next, after) = clause(alloc, skip_separator(rest))?;
-        all.push(next)?;
+        let (longer, after) = joined(all, clause(alloc, skip_separator(rest)))?;
+        all = longer;
         rest = after;
     }
     Ok((all, rest))
@@ -230,14 +208,18 @@ fn temporary(line: Line, tokens: &[Token]) -> Result<(PreambleStatement, &[Token
     Ok((PreambleStatement::TemporaryEntities { line }, rest))
 }
 
-/// The classes that EVENT NOTICES includes, if there are any.
-fn included(alloc: Global, tokens: &[Token]) -> Result<(Vec<Name>, &[Token]), ParseFailure>
-    ensures { HasGivenReading (λ x. (x.0.items, x.1.now)) result (maybe_list (begins (word Include)) (after_dropped (expect (word Include)) names) tokens.now) }
+/// The names after this word, if it is there.
+pub fn names_after(
+    alloc: Global,
+    tokens: &[Token],
+    wanted: Word,
+) -> Result<(Vec<Name>, &[Token]), ParseFailure>
+    ensures { HasGivenReading (λ x. (x.0.items, x.1.now)) result (maybe_list (begins (word wanted)) (after_dropped (expect (word wanted)) names) tokens.now) }
 {
-    if !begins_word(tokens, Word::Include) {
+    if !begins_word(tokens, wanted) {
         return Ok((Vec::new(alloc), tokens));
     }
-    names(alloc, skip_word(tokens, Word::Include))
+    names(alloc, skip_word(tokens, wanted))
 }
 
 /// The rest of EVENT NOTICES, after its first word.
@@ -250,7 +232,7 @@ fn notices(
     ensures { HasGivenReading (λ x. (view_preamble x.0, x.1.now)) result (notices_at line tokens.now) }
 {
     let rest = expect_word(tokens, Word::Notices)?;
-    let (included, rest) = included(alloc, rest)?;
+    let (included, rest) = names_after(alloc, rest, Word::Include)?;
     Ok((PreambleStatement::EventNotices { line, included }, rest))
 }
 
@@ -287,7 +269,7 @@ fn normally(line: Line, tokens: &[Token]) -> Result<(PreambleStatement, &[Token]
 {
     let rest = expect_noisy(tokens, Word::Mode)?;
     let rest = expect_word(rest, Word::Is)?;
-    let (mode, rest) = mode(rest)?;
+    let (mode, rest) = take_word_of::<ModeWords>(rest)?;
     Ok((PreambleStatement::Normally { line, mode }, rest))
 }
 

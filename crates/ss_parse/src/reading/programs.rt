@@ -4,18 +4,17 @@ ghost use Rattle.std.specs.Prelude.{◌≡◌, map};
 ghost use Rattle.ss_parse_expressions.specs.Openers.{nesting_limit};
 ghost use Rattle.ss_parse_expressions.specs.Shapes.{first_token_line};
 ghost use Rattle.ss_tree.specs.View.{view_definition, view_kind, view_statement_tree, view_section, view_program_tree};
-ghost use Rattle.ss_parse_expressions.specs.Reading.{HasGivenReading, word, begins, expect, after_dropped, maybe_list, rows};
-ghost use Rattle.ss_parse_expressions.specs.ReadWords.{names};
+ghost use Rattle.ss_parse_expressions.specs.Reading.{HasGivenReading, rows};
 ghost use Rattle.ss_parse.specs.ReadPrograms.{begins_section, saving, routine_kind, event_kind, kind_after, variables, definition, definitions, body_in, section_at, section_in, program_in, program_of};
 
-use crate::reading::preambles::{preamble, variable_mode};
+use crate::reading::preambles::{names_after, preamble, variable_mode};
 use ss_base::{Line, Name};
 use ss_lex::{Token, TokenKind, Word};
 use ss_parse_expressions::classes::{WordClass, skip_class};
 use ss_parse_expressions::failure::ParseFailure;
 use ss_parse_expressions::names::{name, names};
 use ss_parse_expressions::nesting::levels;
-use ss_parse_expressions::steps::beside;
+use ss_parse_expressions::steps::{beside, joined};
 use ss_parse_expressions::tokens::{after_first, begins_word, expect_word, skip_word, syntax};
 use ss_parse_statements::statements::statements;
 use ss_tree::preamble::ModeWord;
@@ -31,20 +30,6 @@ fn line_at(tokens: &[Token]) -> Line
         [] => Line(0),
         [first, ..] => first.line,
     }
-}
-
-/// The names after this word, if it is there.
-fn names_after(
-    alloc: Global,
-    tokens: &[Token],
-    wanted: Word,
-) -> Result<(Vec<Name>, &[Token]), ParseFailure>
-    ensures { HasGivenReading (λ x. (x.0.items, x.1.now)) result (maybe_list (begins (word wanted)) (after_dropped (expect (word wanted)) names) tokens.now) }
-{
-    if !begins_word(tokens, wanted) {
-        return Ok((Vec::new(alloc), tokens));
-    }
-    names(alloc, skip_word(tokens, wanted))
 }
 
 /// Whether SAVING THE EVENT NOTICE is first.
@@ -147,8 +132,8 @@ fn definitions(
     let mut all = Vec::new(alloc);
     let mut rest = tokens;
     'more: while begins_word(rest, Word::Define) {
-        let (next, after) = definition(alloc, rest)?;
-        all.push(next)?;
+        let (longer, after) = joined(all, definition(alloc, rest))?;
+        all = longer;
         rest = after;
     }
     Ok((all, rest))
@@ -227,8 +212,8 @@ fn sections(
     let mut all = Vec::new(alloc);
     let mut rest = tokens;
     'more: while begins_section(rest) {
-        let (next, after) = section(alloc, rest, room)?;
-        all.push(next)?;
+        let (longer, after) = joined(all, section(alloc, rest, room))?;
+        all = longer;
         rest = after;
     }
     Ok((all, rest))

@@ -1,19 +1,19 @@
 use Rattle.std.proofs.Common.{sym, ap, subst, ◌∙◌}
 use Rattle.ss_parse_expressions.proofs.Common.{err_from_is_err_and, guard_in, HasFailedReading, view_guard_tree}
 use Rattle.ss_parse_expressions.proofs.HeadLaws.{guards_loop}
-use Rattle.ss_parse_expressions.proofs.Rows.{grows, breaks, is_done}
+use Rattle.ss_parse_expressions.proofs.Rows.{grows, breaks, is_done, next_fails, next_read}
 use Rattle.ss_parse_expressions.proofs.heads.guards.Goals as goal
 
 pub more-preserved : goal.more-preserved
-more-preserved c = grows view_guard_tree (guards_loop c.args.room) _ _ c.in_ok-next.next _ _ _ c.in_ok-push.ensures.items (sym c.begins_next_guard.ensures ∙ c.more-test.true) (ap (guard_in c.args.room) (sym c.skip_symbol.ensures) ∙ c.in_ok-next.ensures) c.more.invariant
+more-preserved c = grows view_guard_tree (guards_loop c.args.room) _ _ c.in_ok-longer.ensures.0 _ _ _ c.in_ok-longer.ensures.2 (sym c.begins_next_guard.ensures ∙ c.more-test.true) (ap (guard_in c.args.room) (sym c.skip_symbol.ensures) ∙ next_read _ _ _ _ c.guard.ensures c.in_ok-longer.ensures.1) c.more.invariant
 
 pub more-smaller : goal.more-smaller
-more-smaller c = ((guards_loop c.args.room)).shrinks _ _ _ (sym c.begins_next_guard.ensures ∙ c.more-test.true) (ap (guard_in c.args.room) (sym c.skip_symbol.ensures) ∙ c.in_ok-next.ensures)
+more-smaller c = ((guards_loop c.args.room)).shrinks _ _ _ (sym c.begins_next_guard.ensures ∙ c.more-test.true) (ap (guard_in c.args.room) (sym c.skip_symbol.ensures) ∙ next_read _ _ _ _ c.guard.ensures c.in_ok-longer.ensures.1)
 
 pub returns : goal.returns
 returns c = is_done view_guard_tree (guards_loop c.args.room) _ _ _ (sym c.begins_next_guard.ensures ∙ c.more-test.false) c.more.invariant
 
-pub returns-in_err-next : goal.returns-in_err-next
-returns-in_err-next c =
-    let p = err_from_is_err_and c.from_residual-in_err-next.result c.from_residual-in_err-next.ensures.1 in
-    rw (p.1, p.2) (breaks view_guard_tree (guards_loop c.args.room) _ _ _ _ (sym c.begins_next_guard.ensures ∙ c.more-test.true) (subst (λ r. HasFailedReading c.in_err-next.field-0.0 (guard_in c.args.room r)) c.skip_symbol.ensures c.in_err-next.ensures) c.more.invariant)
+pub returns-in_err-longer : goal.returns-in_err-longer
+returns-in_err-longer c =
+    let p = err_from_is_err_and c.from_residual-in_err-longer.result c.from_residual-in_err-longer.ensures.1 in
+    rw (p.1, p.2) (breaks view_guard_tree (guards_loop c.args.room) _ _ _ _ (sym c.begins_next_guard.ensures ∙ c.more-test.true) (subst (λ r. HasFailedReading c.in_err-longer.field-0.0 (guard_in c.args.room r)) c.skip_symbol.ensures (next_fails _ c.more.all _ _ c.in_err-longer.field-0.0 c.guard.ensures c.in_err-longer.ensures)) c.more.invariant)

@@ -1,18 +1,18 @@
 use Rattle.std.proofs.Common.{sym, ap, subst, ◌∙◌}
-use Rattle.ss_parse.proofs.Common.{breaks, clause, err_from_is_err_and, grows, HasFailedReading, is_done, view_clause}
+use Rattle.ss_parse.proofs.Common.{breaks, clause, err_from_is_err_and, grows, HasFailedReading, is_done, next_fails, next_read, view_clause}
 use Rattle.ss_parse.proofs.Clauses.{clauses_loop}
 use Rattle.ss_parse.proofs.reading.preambles.clause_list.Goals as goal
 
 pub more-preserved : goal.more-preserved
-more-preserved c = grows view_clause clauses_loop _ _ c.in_ok-next.next _ _ _ c.in_ok-push.ensures.items (sym c.begins_more_clauses.ensures ∙ c.more-test.true) (ap clause (sym c.skip_separator.ensures) ∙ c.in_ok-next.ensures) c.more.invariant
+more-preserved c = grows view_clause clauses_loop _ _ c.in_ok-longer.ensures.0 _ _ _ c.in_ok-longer.ensures.2 (sym c.begins_more_clauses.ensures ∙ c.more-test.true) (ap clause (sym c.skip_separator.ensures) ∙ next_read _ _ _ _ c.clause-in-more.ensures c.in_ok-longer.ensures.1) c.more.invariant
 
 pub more-smaller : goal.more-smaller
-more-smaller c = (clauses_loop).shrinks _ _ _ (sym c.begins_more_clauses.ensures ∙ c.more-test.true) (ap clause (sym c.skip_separator.ensures) ∙ c.in_ok-next.ensures)
+more-smaller c = (clauses_loop).shrinks _ _ _ (sym c.begins_more_clauses.ensures ∙ c.more-test.true) (ap clause (sym c.skip_separator.ensures) ∙ next_read _ _ _ _ c.clause-in-more.ensures c.in_ok-longer.ensures.1)
 
 pub returns : goal.returns
 returns c = is_done view_clause clauses_loop _ _ _ (sym c.begins_more_clauses.ensures ∙ c.more-test.false) c.more.invariant
 
-pub returns-in_err-next : goal.returns-in_err-next
-returns-in_err-next c =
-    let p = err_from_is_err_and c.from_residual-in_err-next.result c.from_residual-in_err-next.ensures.1 in
-    rw (p.1, p.2) (breaks view_clause clauses_loop _ _ _ _ (sym c.begins_more_clauses.ensures ∙ c.more-test.true) (subst (λ r. HasFailedReading c.in_err-next.field-0.0 (clause r)) c.skip_separator.ensures c.in_err-next.ensures) c.more.invariant)
+pub returns-in_err-longer : goal.returns-in_err-longer
+returns-in_err-longer c =
+    let p = err_from_is_err_and c.from_residual-in_err-longer.result c.from_residual-in_err-longer.ensures.1 in
+    rw (p.1, p.2) (breaks view_clause clauses_loop _ _ _ _ (sym c.begins_more_clauses.ensures ∙ c.more-test.true) (subst (λ r. HasFailedReading c.in_err-longer.field-0.0 (clause r)) c.skip_separator.ensures (next_fails _ c.more.all _ _ c.in_err-longer.field-0.0 c.clause-in-more.ensures c.in_err-longer.ensures)) c.more.invariant)

@@ -6,5 +6,5 @@ use Rattle.ss_records.proofs.heap.Heap.remove_first.Goals as goal
 pub returns-clause-done : goal.returns-clause-done
 returns-clause-done c =
     let e : state c.self.inside.records ≡ c.args.self.now.state = ap (λ (w : Heaped). w.state) c.self.view_is in
-    let fo = c.ranges.o in let h = simp to_z-of_z at c.remove_first.ensures.done in
-    subst (λ (s : State). MatchResult c.remove_first.result (λ x. first_removed s c.args.set c.args.o ≡ Ok (x, state c.remove_first.new.self)) (λ f. (first_removed s c.args.set c.args.o ≡ Err f) × (state c.remove_first.new.self ≡ s))) e h
+    let fo = c.ranges.o in let h = simp to_z-of_z at c.remove_end.ensures.done in
+    subst (λ (s : State). MatchResult c.remove_end.result (λ x. first_removed s c.args.set c.args.o ≡ Ok (x, state c.remove_end.new.self)) (λ f. (first_removed s c.args.set c.args.o ≡ Err f) × (state c.remove_end.new.self ≡ s))) e h

@@ -2,8 +2,8 @@ use Rattle.std.proofs.Common.{rules, ◌≡◌, ◌+◌, ◌≤◌, ◌<◌, ◌
 use Rattle.std.proofs.lemmas.Int.{ints, of_z-to_z}
 use Rattle.std.proofs.lemmas.Option.{none-some}
 use Rattle.ss_records_entities.proofs.Common.{HasLink, IsKept, link, number, places, Records, state, state_of, word_at}
-use Rattle.ss_records_entities.proofs.Looks.{owner_leads, owner_small, owner_has}
-use Rattle.ss_records_entities.proofs.Onward.{beside_leads, beside_small, beside_free, beside_filed, beside_value, in_its, in_none, its_only}
+use Rattle.ss_records_entities.proofs.Looks.{beside_leads, beside_small, beside_free, beside_filed, beside_value, owner_leads, owner_small, owner_has}
+use Rattle.ss_records_entities.proofs.Onward.{in_its, in_none, its_only}
 use Rattle.ss_records_entities.proofs.Still.{kept_still, joins_still, base_room2, room_first, one_room, one_counted, two_counted, unmoved, reads_only}
 use Rattle.ss_records_entities.proofs.Remembered.{beside_joins}
 use Rattle.ss_records_entities.proofs.records.Records.neighbour.Goals as goal

@@ -1,20 +1,20 @@
 use Rattle.std.proofs.Common.{rules, ◌≡◌, ℤ, w64, to_z, of_z, true, false, refl, sym, ap, subst, ◌∙◌, arith}
 use Rattle.ss_records_entities.proofs.Common.{first_where, HasLink, member_class, members_of, ranks_past, Records, state, to_z-of_z, Whole, word_at}
-use Rattle.ss_records_entities.proofs.Looks.{first_leads}
-use Rattle.ss_records_entities.proofs.Cuts.{at_first}
+use Rattle.ss_records_entities.proofs.Looks.{end_leads}
+use Rattle.ss_records_entities.proofs.Cuts.{at_end}
 use Rattle.ss_records_entities.proofs.Still.{joins_still, unmoved}
 use Rattle.ss_records_entities.proofs.Passing.{at_start, room, joins, small, it_is, none_past, next_leads, next_walk}
 use Rattle.ss_records_entities.proofs.records.Records.past.Goals as goal
 
 pub follow-member-requires-clause-leads : goal.follow-member-requires-clause-leads
-follow-member-requires-clause-leads c = first_leads c.args.self.now c.requires.kept c.args.s c.requires.set c.args.owner c.requires.owns c.owner_base-first.result c.owner_base-first.ensures.at
+follow-member-requires-clause-leads c = end_leads c.args.self.now c.requires.kept c.args.s c.requires.set c.args.owner c.requires.owns c.owner_base-first.result c.owner_base-first.ensures.at false
 
 pub members-init : goal.members-init
 members-init c =
     let r = c.args.self.now in let w = c.follow-member in
     let v : ℤ = to_z w64 (of_z w64 c.args.own) in let e : v ≡ c.args.own = search rules in
     let t = ranks_past (state r) (member_class r.layout c.args.s) c.args.field c.args.high (Whole v) in
-    let between = at_first r c.requires.kept c.args.s c.requires.set c.args.owner c.requires.owns c.owner_base-first.result c.owner_base-first.ensures.at w.result w.ensures.word w.ensures.there in
+    let between = at_end r c.requires.kept c.args.s c.requires.set c.args.owner c.requires.owns c.owner_base-first.result c.owner_base-first.ensures.at w.result false w.ensures.word w.ensures.there in
     record {
       same = refl;
       cells = w.ensures.cells;

@@ -1,7 +1,6 @@
 use Rattle.std.proofs.Common.{◌≡◌, arith, refl, sym, subst}
 use Rattle.ss_records_entities.proofs.Common.{HasLink, ints, link, state, to_z-of_z, word_at}
-use Rattle.ss_records_entities.proofs.Looks.{none_beside}
-use Rattle.ss_records_entities.proofs.Onward.{beside_leads, beside_fits, beside_is}
+use Rattle.ss_records_entities.proofs.Looks.{none_beside, beside_leads, beside_fits, beside_is}
 use Rattle.ss_records_entities.proofs.Still.{room_first, one_touch, no_touch}
 use Rattle.ss_records_entities.proofs.records.Records.read_beside.Goals as goal
 
