@@ -64,6 +64,21 @@ fn factor_after(here: &Place<'_>) -> usize {
     last
 }
 
+// A stretch of the line of the place gives way to a DIV.F.
+fn put_division(
+    fixes: &mut Fixes<'_>,
+    here: &Place<'_>,
+    whole: Stretch,
+    division: &[u8],
+) -> Made<()> {
+    fixes.replace(
+        whole,
+        &[Bytes(division)],
+        "There is no sign for a division: write {} in line {}, which drops what is left over.",
+        &[Capitals(division), Line(here.line())],
+    )
+}
+
 /// A stroke gives way to DIV.F.
 pub fn add_division(fixes: &mut Fixes<'_>, here: &Place<'_>) -> Made<()> {
     if here.spelling(here.at) != b"/".as_slice() || here.at == 0 {
@@ -77,12 +92,7 @@ pub fn add_division(fixes: &mut Fixes<'_>, here: &Place<'_>) -> Made<()> {
         start: left.start,
         end: right.end,
     };
-    fixes.replace(
-        whole,
-        &[Bytes(with.bytes())],
-        "There is no sign for a division: write {} in line {}, which drops what is left over.",
-        &[Capitals(with.bytes()), Line(here.line())],
-    )
+    put_division(fixes, here, whole, with.bytes())
 }
 
 // The last word of a SCHEDULE before the place with which a time begins.

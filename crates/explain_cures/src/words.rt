@@ -89,12 +89,12 @@ fn last_spelled(here: &Place<'_>, first: usize, words: &str) -> Option<usize> {
     Some(next.saturating_sub(1))
 }
 
-fn put_in_place(
+fn put_in_place<'a>(
     fixes: &mut Fixes<'_>,
-    here: &Place<'_>,
+    here: &Place<'a>,
     first: usize,
     last: usize,
-    word: &[u8],
+    word: &'a [u8],
 ) -> Made<()> {
     let stretch = here.between(first, last);
     let (wrong, line) = (here.bytes(stretch), here.line_of(first));
@@ -106,12 +106,12 @@ fn put_in_place(
     )
 }
 
-fn put_before(
+fn put_before<'a>(
     fixes: &mut Fixes<'_>,
-    here: &Place<'_>,
+    here: &Place<'a>,
     index: usize,
-    called: &[u8],
-    with: &[u8],
+    called: &'a [u8],
+    with: &'a [u8],
 ) -> Made<()> {
     let line = Line(here.line_of(index));
     fixes.insert(
@@ -123,11 +123,11 @@ fn put_before(
 }
 
 // Words are put in before the place; after the token before it, where that is in another line and the words begin nothing.
-fn put_in(
+fn put_in<'a>(
     fixes: &mut Fixes<'_>,
-    here: &Place<'_>,
-    called: &[u8],
-    with: &[u8],
+    here: &Place<'a>,
+    called: &'a [u8],
+    with: &'a [u8],
     begins: bool,
 ) -> Made<()> {
     if here.at == 0 || begins || !here.begins_line() {
@@ -298,7 +298,7 @@ fn add_earlier(fixes: &mut Fixes<'_>, here: &Place<'_>) -> Made<()> {
     let most = if here.candidates.is_empty() { 3 } else { 1 };
     for back in 1..here.at.min(most).saturating_add(1) {
         let index = here.at.saturating_sub(back);
-        put_before(fixes, here, index, b"a value", b"A.NAME")?;
+        put_before(fixes, &*here, index, b"a value", b"A.NAME")?;
         for spelling in WORDS.as_bytes().split(|byte| *byte == b' ') {
             if !spelling.contains(&b'.') && spelling != b"ALL".as_slice() {
                 put_before(fixes, here, index, spelling, spelling)?;
@@ -377,14 +377,14 @@ fn add_between(fixes: &mut Fixes<'_>, here: &Place<'_>) -> Made<()> {
     }
     let (before, found) = (here.before(), here.at);
     if is_name(here, before) && is_name(here, found) {
-        put_in(fixes, here, b"a comma", b",", false)?;
+        put_in(fixes, &*here, b"a comma", b",", false)?;
     }
     let may_multiply = here.candidates.contains(&Candidate::Symbol(Symbol::Star));
     if may_multiply
         && is_value(here, before, Symbol::CloseParenthesis)
         && is_value(here, found, Symbol::OpenParenthesis)
     {
-        put_in(fixes, here, b"a sign, as + or *,", b"+", false)?;
+        put_in(fixes, &*here, b"a sign, as + or *,", b"+", false)?;
     }
     Ok(())
 }
