@@ -200,8 +200,8 @@ fn add_before_place(fixes: &mut Fixes<'_>, here: &Place<'_>, open: Open) -> Made
 fn add_all_before_place(fixes: &mut Fixes<'_>, here: &Place<'_>) -> Made<()> {
     let mut list = Page::of(fixes.alloc(), "", &[])?;
     let mut with = Page::of(fixes.alloc(), "", &[])?;
-    for (place, open) in here.opens.iter().rev().enumerate() {
-        let comma = Words(if place > 0 { ", " } else { "" });
+    for open in here.opens.iter().rev() {
+        let comma = Words(if list.text.is_empty() { "" } else { ", " });
         let line = Line(here.line_of(open.token));
         list.say(
             "{}{} of line {}",

@@ -127,7 +127,7 @@ impl<'a> Place<'a> {
         let most: usize = if is_long { 2_000 } else { 20_000 };
         let start = match self.section {
             0 => 0,
-            section => self.stretch(section).start.min(self.text.len()),
+            section => self.stretch(section).start,
         };
         let place = self.stretch(self.at).start;
         let least = place.saturating_add(most);
@@ -136,7 +136,7 @@ impl<'a> Place<'a> {
             Some(count) => least.saturating_add(count),
             None => self.text.len(),
         };
-        if place.saturating_sub(start) > most || end < start {
+        if place.saturating_sub(start) > most {
             return None;
         }
         Some(Window {

@@ -10,42 +10,35 @@ use explain_pages::Part::{Bytes, Capitals, Line, Words};
 use explain_pages::{Made, is_first_of_line, is_like, is_named};
 use ss_lex::{Symbol, TokenKind, Word};
 
-/// Words of this language, and what other languages have for them.
-static CONFUSIONS: [(&str, &[&str]); 25] = [
-    (
-        "EVENT NOTICES INCLUDE",
-        &["EVENT INCLUDE", "EVENT NOTICE INCLUDE"],
-    ),
-    (
-        "MAY BELONG TO",
-        &["BELONGS TO", "BELONG TO", "CAN BELONG TO", "MAY BELONGS TO"],
-    ),
-    ("ALWAYS", &["END IF", "ENDIF", "FI"]),
-    (
-        "LOOP",
-        &["END FOR", "END LOOP", "END WHILE", "END DO", "WEND", "NEXT"],
-    ),
-    ("LOOP", &["ENDDO", "ENDFOR", "ENDWHILE"]),
-    ("ELSE IF", &["ELSEIF", "ELSIF", "ELIF"]),
-    ("GE", &["> =", "= >", "IS GREATER OR EQUAL TO"]),
-    ("LE", &["< =", "= <", "IS LESS OR EQUAL TO"]),
-    ("NE", &["< >", "! =", "/ =", "NOT EQUAL"]),
-    ("=", &["= =", ": ="]),
-    ("GT", &[">"]),
-    ("LT", &["<"]),
-    ("GIVEN", &["GIVING", "WITH", "USING"]),
-    ("HAS", &["HAVE"]),
-    ("OWNS", &["OWN"]),
-    ("PRINT", &["WRITE"]),
-    ("START SIMULATION", &["SIMULATE"]),
-    ("DESTROY THE", &["DELETE"]),
-    ("FILE THE", &["INSERT", "PUT"]),
-    ("IN", &["INTO"]),
-    ("ENTITIES", &["ENTITY"]),
-    ("EVENT NOTICES", &["PROCESSES"]),
-    ("ROUTINE", &["SUBROUTINE", "PROCEDURE", "FUNCTION"]),
-    ("INTEGER", &["INT"]),
-    ("ALPHA", &["TEXT", "STRING"]),
+/// Words of this language, and what other languages have for them, with a stroke between two of these.
+static CONFUSIONS: [(&str, &str); 27] = [
+    ("EVENT NOTICES INCLUDE", "EVENT INCLUDE"),
+    ("EVENT NOTICES INCLUDE", "EVENT NOTICE INCLUDE"),
+    ("MAY BELONG TO", "BELONGS TO|BELONG TO"),
+    ("MAY BELONG TO", "CAN BELONG TO|MAY BELONGS TO"),
+    ("ALWAYS", "END IF|ENDIF|FI"),
+    ("LOOP", "END FOR|END LOOP|END WHILE|END DO|WEND|NEXT"),
+    ("LOOP", "ENDDO|ENDFOR|ENDWHILE"),
+    ("ELSE IF", "ELSEIF|ELSIF|ELIF"),
+    ("GE", "> =|= >|IS GREATER OR EQUAL TO"),
+    ("LE", "< =|= <|IS LESS OR EQUAL TO"),
+    ("NE", "< >|! =|/ =|NOT EQUAL"),
+    ("=", "= =|: ="),
+    ("GT", ">"),
+    ("LT", "<"),
+    ("GIVEN", "GIVING|WITH|USING"),
+    ("HAS", "HAVE"),
+    ("OWNS", "OWN"),
+    ("PRINT", "WRITE"),
+    ("START SIMULATION", "SIMULATE"),
+    ("DESTROY THE", "DELETE"),
+    ("FILE THE", "INSERT|PUT"),
+    ("IN", "INTO"),
+    ("ENTITIES", "ENTITY"),
+    ("EVENT NOTICES", "PROCESSES"),
+    ("ROUTINE", "SUBROUTINE|PROCEDURE|FUNCTION"),
+    ("INTEGER", "INT"),
+    ("ALPHA", "TEXT|STRING"),
 ];
 
 /// The small words, and those of the frame of statements: none is meant as a name.
@@ -78,9 +71,9 @@ static CHOICES: [(Word, Word, &str, &str); 7] = [
 ];
 
 // The last of the tokens from this one on that are spelled as these words; None where they are spelled otherwise.
-fn last_spelled(here: &Place<'_>, first: usize, words: &str) -> Option<usize> {
+fn last_spelled(here: &Place<'_>, first: usize, words: &[u8]) -> Option<usize> {
     let mut next = first;
-    for word in words.as_bytes().split(|byte| *byte == b' ') {
+    for word in words.split(|byte| *byte == b' ') {
         if !here.spelling(next).eq_ignore_ascii_case(word) {
             return None;
         }
@@ -143,19 +136,30 @@ fn put_in<'a>(
     )
 }
 
+// Words of other languages that begin at a token and reach the place, or the token before it.
+fn add_confusion<'a>(
+    fixes: &mut Fixes<'_>,
+    here: &Place<'a>,
+    first: usize,
+    right: &'a [u8],
+    wrongs: &[u8],
+) -> Made<()> {
+    for wrong in wrongs.split(|byte| *byte == b'|') {
+        match last_spelled(here, first, wrong) {
+            Some(last) if last >= here.before() => {
+                put_in_place(fixes, here, first, last, right)?;
+            }
+            _ => {}
+        }
+    }
+    Ok(())
+}
+
 // Words of other languages that begin at the place or just before it.
 fn add_confusions(fixes: &mut Fixes<'_>, here: &Place<'_>) -> Made<()> {
-    for back in 0..here.at.min(3).saturating_add(1) {
-        let first = here.at.saturating_sub(back);
+    for first in (here.at.saturating_sub(3)..here.at.saturating_add(1)).rev() {
         for (right, wrongs) in &CONFUSIONS {
-            for wrong in *wrongs {
-                match last_spelled(here, first, wrong) {
-                    Some(last) if last >= here.before() => {
-                        put_in_place(fixes, here, first, last, right.as_bytes())?;
-                    }
-                    _ => {}
-                }
-            }
+            add_confusion(fixes, here, first, right.as_bytes(), wrongs.as_bytes())?;
         }
     }
     Ok(())
@@ -195,8 +199,8 @@ fn add_alike(fixes: &mut Fixes<'_>, here: &Place<'_>, index: usize) -> Made<()> 
 fn add_misspelled(fixes: &mut Fixes<'_>, here: &Place<'_>) -> Made<()> {
     let is_comma = here.is_symbol(here.at, Symbol::Comma);
     let last = here.at.saturating_add(usize::from(is_comma));
-    for back in 0..last.min(2).saturating_add(1) {
-        add_alike(fixes, here, last.saturating_sub(back))?;
+    for index in (last.saturating_sub(2)..last.saturating_add(1)).rev() {
+        add_alike(fixes, here, index)?;
     }
     Ok(())
 }
@@ -279,8 +283,7 @@ fn add_signs(fixes: &mut Fixes<'_>, here: &Place<'_>) -> Made<()> {
 
 // The group that an EVERY is in has no head.
 fn add_group(fixes: &mut Fixes<'_>, here: &Place<'_>) -> Made<()> {
-    for back in 0..here.at.min(1).saturating_add(1) {
-        let index = here.at.saturating_sub(back);
+    for index in (here.before()..here.at.saturating_add(1)).rev() {
         if here.word(index) == Some(Word::Every) {
             fixes.insert(
                 here.stretch(index).start,
@@ -296,8 +299,7 @@ fn add_group(fixes: &mut Fixes<'_>, here: &Place<'_>) -> Made<()> {
 // A word is missing before one of the last tokens before the place.
 fn add_earlier(fixes: &mut Fixes<'_>, here: &Place<'_>) -> Made<()> {
     let most = if here.candidates.is_empty() { 3 } else { 1 };
-    for back in 1..here.at.min(most).saturating_add(1) {
-        let index = here.at.saturating_sub(back);
+    for index in (here.at.saturating_sub(most)..here.at).rev() {
         put_before(fixes, &*here, index, b"a value", b"A.NAME")?;
         for spelling in WORDS.as_bytes().split(|byte| *byte == b' ') {
             if !spelling.contains(&b'.') && spelling != b"ALL".as_slice() {
