@@ -96,8 +96,8 @@ fn time_before(here: &Place<'_>) -> Option<usize> {
     before.find(|index| { matches!(here.word(*index), Some(Word::At | Word::In | Word::Now)) })
 }
 
-/// What is given comes before the time of a SCHEDULE.
-pub fn add_given_first(fixes: &mut Fixes<'_>, here: &Place<'_>) -> Made<()> {
+// What is given comes before the time of a SCHEDULE.
+fn add_given_first(fixes: &mut Fixes<'_>, here: &Place<'_>) -> Made<()> {
     let Some(Word::Given | Word::Giving | Word::Called) = here.word(here.at) else {
         return Ok(());
     };
@@ -115,8 +115,8 @@ pub fn add_given_first(fixes: &mut Fixes<'_>, here: &Place<'_>) -> Made<()> {
     )
 }
 
-/// A DEFINE after statements moves up to where its section begins.
-pub fn add_define_first(fixes: &mut Fixes<'_>, here: &Place<'_>) -> Made<()> {
+// A DEFINE after statements moves up to where its section begins.
+fn add_define_first(fixes: &mut Fixes<'_>, here: &Place<'_>) -> Made<()> {
     if here.word(here.at) != Some(Word::Define)
         || here.opens.is_empty()
         || head_at(here.tokens, here.section).is_none()
@@ -147,8 +147,8 @@ fn is_round(here: &Place<'_>, index: usize) -> bool {
         ))
 }
 
-/// The parentheses round conditions in the line of the place are left out.
-pub fn add_bare_conditions(fixes: &mut Fixes<'_>, here: &Place<'_>) -> Made<()> {
+// The parentheses round conditions in the line of the place are left out.
+fn add_bare_conditions(fixes: &mut Fixes<'_>, here: &Place<'_>) -> Made<()> {
     let line = here.line();
     let mut all = here.section..here.tokens.len();
     let Some(first) = all.find(|index| here.line_of(*index) == line && is_round(here, *index))
@@ -172,4 +172,11 @@ pub fn add_bare_conditions(fixes: &mut Fixes<'_>, here: &Place<'_>) -> Made<()> 
         "Conditions have no parentheses: leave them out in line {}. AND binds more tightly than OR.",
         &[Line(line)],
     )
+}
+
+/// Adds the changes by which words are moved, or parentheses left out.
+pub fn add_moves(fixes: &mut Fixes<'_>, here: &Place<'_>) -> Made<()> {
+    add_given_first(fixes, here)?;
+    add_define_first(fixes, here)?;
+    add_bare_conditions(fixes, here)
 }

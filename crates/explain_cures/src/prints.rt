@@ -137,13 +137,13 @@ fn add_line_end(fixes: &mut Fixes<'_>, here: &Place<'_>) -> Made<()> {
 
 // Whether the line of the place comes directly after the pictures of a PRINT.
 fn is_after_pictures(here: &Place<'_>, print: usize) -> bool {
-    let mut last = None;
-    for token in here.tokens.iter().take(here.end()).skip(print) {
-        if let TokenKind::Picture(_) = &token.kind {
-            last = Some(token.line.0.saturating_add(1));
+    let mut after: u32 = 0;
+    for index in print..here.end() {
+        if let Some(TokenKind::Picture(_)) = here.kind(index) {
+            after = here.line_of(index).saturating_add(1);
         }
     }
-    last == Some(here.line()) && !is_frame_word(here.tokens, here.at)
+    after == here.line() && !is_frame_word(here.tokens, here.at)
 }
 
 /// Adds the changes of PRINTs before the place.

@@ -1,7 +1,7 @@
 //! Changes of single words: one is put in, left out, or gives way to another.
 
 use crate::fixes::Fixes;
-use crate::moves::{add_bare_conditions, add_define_first, add_division, add_given_first};
+use crate::moves::{add_division, add_moves};
 use crate::place::Place;
 use explain_grammar::{
     Candidate, Construct, WORDS, begins_statement, head_at, is_among, is_value_word, spelling_of,
@@ -430,9 +430,7 @@ pub fn add_likely(fixes: &mut Fixes<'_>, here: &Place<'_>) -> Made<()> {
 
 /// Adds the changes by which something is moved or put in.
 pub fn add_missing(fixes: &mut Fixes<'_>, here: &Place<'_>) -> Made<()> {
-    add_given_first(fixes, here)?;
-    add_define_first(fixes, here)?;
-    add_bare_conditions(fixes, here)?;
+    add_moves(fixes, here)?;
     add_group(fixes, here)?;
     if here.candidates.contains(&Candidate::Name) {
         add_renamed(fixes, here, here.at)?;
