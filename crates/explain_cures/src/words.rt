@@ -7,7 +7,7 @@ use explain_grammar::{
     Candidate, Construct, WORDS, begins_statement, head_at, is_among, is_value_word, spelling_of,
 };
 use explain_pages::Part::{Bytes, Capitals, Line, Words};
-use explain_pages::{Made, is_first_of_line, is_like, is_named};
+use explain_pages::{Made, Part, is_first_of_line, is_like, is_named};
 use ss_lex::{Symbol, TokenKind, Word};
 
 /// Words of this language, and what other languages have for them, with a stroke between two of these.
@@ -103,15 +103,15 @@ fn put_before<'a>(
     fixes: &mut Fixes<'_>,
     here: &Place<'a>,
     index: usize,
-    called: &'a [u8],
-    with: &'a [u8],
+    called: Part<'a>,
+    with: Part<'a>,
 ) -> Made<()> {
     let line = Line(here.line_of(index));
     fixes.insert(
         here.stretch(index).start,
-        &[Words(" "), Bytes(with), Words(" ")],
+        &[Words(" "), with, Words(" ")],
         "Write {} before {} in line {}.",
-        &[Bytes(called), here.called(index), line],
+        &[called, here.called(index), line],
     )
 }
 
@@ -119,8 +119,8 @@ fn put_before<'a>(
 fn put_in<'a>(
     fixes: &mut Fixes<'_>,
     here: &Place<'a>,
-    called: &'a [u8],
-    with: &'a [u8],
+    called: Part<'a>,
+    with: Part<'a>,
     begins: bool,
 ) -> Made<()> {
     if here.at == 0 || begins || !here.begins_line() {
@@ -130,9 +130,9 @@ fn put_in<'a>(
     let line = Line(here.line_of(before));
     fixes.insert(
         here.stretch(before).end,
-        &[Words(" "), Bytes(with), Words(" ")],
+        &[Words(" "), with, Words(" ")],
         "Write {} after {} at the end of line {}.",
-        &[Bytes(called), here.called(before), line],
+        &[called, here.called(before), line],
     )
 }
 
@@ -261,7 +261,8 @@ fn add_expected(fixes: &mut Fixes<'_>, here: &Place<'_>, replaces: bool) -> Made
         if replaces {
             put_in_place(fixes, here, here.at, here.at, spelling)?;
         } else {
-            put_in(fixes, here, spelling, spelling, begins_something(*word))?;
+            let (spelling, begins) = (Bytes(spelling), begins_something(*word));
+            put_in(fixes, here, spelling, spelling, begins)?;
         }
     }
     Ok(())
@@ -276,7 +277,7 @@ fn add_signs(fixes: &mut Fixes<'_>, here: &Place<'_>) -> Made<()> {
             Candidate::Separator => ("a comma", ","),
             _ => continue,
         };
-        put_in(fixes, here, called.as_bytes(), with.as_bytes(), false)?;
+        put_in(fixes, here, Words(called), Words(with), false)?;
     }
     Ok(())
 }
@@ -300,10 +301,10 @@ fn add_group(fixes: &mut Fixes<'_>, here: &Place<'_>) -> Made<()> {
 fn add_earlier(fixes: &mut Fixes<'_>, here: &Place<'_>) -> Made<()> {
     let most = if here.candidates.is_empty() { 3 } else { 1 };
     for index in (here.at.saturating_sub(most)..here.at).rev() {
-        put_before(fixes, &*here, index, b"a value", b"A.NAME")?;
+        put_before(fixes, here, index, Words("a value"), Words("A.NAME"))?;
         for spelling in WORDS.as_bytes().split(|byte| *byte == b' ') {
             if !spelling.contains(&b'.') && spelling != b"ALL".as_slice() {
-                put_before(fixes, here, index, spelling, spelling)?;
+                put_before(fixes, here, index, Bytes(spelling), Bytes(spelling))?;
             }
         }
     }
@@ -323,14 +324,14 @@ fn add_first_word(fixes: &mut Fixes<'_>, here: &Place<'_>) -> Made<()> {
         return Ok(());
     }
     if here.is_symbol(here.at.saturating_add(1), Symbol::Equals) {
-        return put_in(fixes, here, b"LET", b"LET", true);
+        return put_in(fixes, here, Words("LET"), Words("LET"), true);
     }
     let called = if is_routine(here, here.spelling(here.at)) {
         "CALL"
     } else {
         "the word with which the statement begins, as READ or CALL,"
     };
-    put_in(fixes, here, called.as_bytes(), b"CALL", true)
+    put_in(fixes, here, Words(called), Words("CALL"), true)
 }
 
 // Words are put in where any of several would do.
@@ -338,12 +339,13 @@ fn add_choices(fixes: &mut Fixes<'_>, here: &Place<'_>) -> Made<()> {
     for (one, other, called, tried) in &CHOICES {
         if here.may_be(*one) && here.may_be(*other) {
             for word in tried.as_bytes().split(|byte| *byte == b' ') {
-                put_in(fixes, here, called.as_bytes(), word, *one == Word::Let)?;
+                put_in(fixes, here, Words(called), Bytes(word), *one == Word::Let)?;
             }
         }
     }
     if here.may_be(Word::Temporary) && here.word(here.at) == Some(Word::Entities) {
-        put_in(fixes, here, b"TEMPORARY or PERMANENT", b"TEMPORARY", true)?;
+        let called = Words("TEMPORARY or PERMANENT");
+        put_in(fixes, here, called, Words("TEMPORARY"), true)?;
     }
     Ok(())
 }
@@ -379,14 +381,14 @@ fn add_between(fixes: &mut Fixes<'_>, here: &Place<'_>) -> Made<()> {
     }
     let (before, found) = (here.before(), here.at);
     if is_name(here, before) && is_name(here, found) {
-        put_in(fixes, &*here, b"a comma", b",", false)?;
+        put_in(fixes, here, Words("a comma"), Words(","), false)?;
     }
     let may_multiply = here.candidates.contains(&Candidate::Symbol(Symbol::Star));
     if may_multiply
         && is_value(here, before, Symbol::CloseParenthesis)
         && is_value(here, found, Symbol::OpenParenthesis)
     {
-        put_in(fixes, &*here, b"a sign, as + or *,", b"+", false)?;
+        put_in(fixes, here, Words("a sign, as + or *,"), Words("+"), false)?;
     }
     Ok(())
 }
@@ -414,9 +416,9 @@ fn add_nouns(fixes: &mut Fixes<'_>, here: &Place<'_>) -> Made<()> {
     let has_name = here.candidates.contains(&Candidate::Name);
     let has_number = here.candidates.contains(&Candidate::Number);
     match (has_name, has_number) {
-        (true, true) => put_in(fixes, here, b"a value", b"A.NAME", false),
-        (true, false) => put_in(fixes, here, b"a name", b"A.NAME", false),
-        (false, true) => put_in(fixes, here, b"a number", b"1", false),
+        (true, true) => put_in(fixes, here, Words("a value"), Words("A.NAME"), false),
+        (true, false) => put_in(fixes, here, Words("a name"), Words("A.NAME"), false),
+        (false, true) => put_in(fixes, here, Words("a number"), Words("1"), false),
         (false, false) => Ok(()),
     }
 }
