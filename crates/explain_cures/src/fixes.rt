@@ -1,6 +1,6 @@
 //! Changes of a text, each tried by reading the changed text.
 
-use explain_pages::{Made, Page, Part, Stretch, bytes_of};
+use explain_pages::{Made, Page, Part, Stretch};
 use ss_lex::{LexError, tokens};
 use ss_parse::{Reach, reach_of};
 use std::alloc::{AllocError, Global};
@@ -18,18 +18,18 @@ pub struct Window<'a> {
 pub struct Fixes<'a> {
     alloc: Global,
     window: Window<'a>,
-    /// How many bytes are left after the best change, and one more.
-    least: usize,
+    /// A change is good where `left_after` gives less.
+    limit: usize,
     pub best: Option<Page<'static>>,
 }
 
 impl<'a> Fixes<'a> {
-    /// No changes. One is good where at most so many bytes of the window are left after it, and one more.
+    /// No changes. One is good where `left_after` gives at most so much.
     pub fn new(alloc: Global, window: Window<'a>, most: usize) -> Fixes<'a> {
         Fixes {
             alloc,
             window,
-            least: most,
+            limit: most.saturating_add(1),
             best: None,
         }
     }
@@ -42,21 +42,15 @@ impl<'a> Fixes<'a> {
     // The window with a stretch of the text changed to these parts.
     fn changed(&self, stretch: Stretch, with: &[Part<'_>]) -> Made<Page<'static>> {
         let Window { bytes, start } = self.window;
-        let first = stretch.start.saturating_sub(start).min(bytes.len());
+        let first = stretch.start.saturating_sub(start);
         let last = stretch.end.saturating_sub(start).max(first);
-        let before = Stretch {
-            start: 0,
-            end: first,
-        };
-        let after = Stretch {
-            start: last,
-            end: bytes.len(),
-        };
-        let mut text = Page::of(self.alloc, "{}", &[Part::Bytes(bytes_of(bytes, before))])?;
+        let before = bytes.get(..first).unwrap_or(bytes);
+        let after = bytes.get(last..).unwrap_or(&[]);
+        let mut text = Page::of(self.alloc, "{}", &[Part::Bytes(before)])?;
         for part in with {
             text.part(*part)?;
         }
-        text.part(Part::Bytes(bytes_of(bytes, after)))?;
+        text.part(Part::Bytes(after))?;
         Ok(text)
     }
 
@@ -70,8 +64,8 @@ impl<'a> Fixes<'a> {
     ) -> Made<()> {
         let text = self.changed(stretch, with)?;
         if let Some(left) = left_after(self.alloc, text.bytes())? {
-            if left < self.least || (left == self.least && self.best.is_none()) {
-                self.least = left;
+            if left < self.limit {
+                self.limit = left;
                 self.best = Some(Page::of(self.alloc, say, parts)?);
             }
         }

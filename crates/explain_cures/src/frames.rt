@@ -7,7 +7,6 @@ use explain_grammar::{Construct, Open, begins_statement};
 use explain_pages::Part::{Bytes, Capitals, Line, Words};
 use explain_pages::{Made, Page, indentation, is_blank, is_first_of_line};
 use ss_lex::{TokenKind, Word};
-use std::alloc::Global;
 
 // Whether an IF has a statement on its own line, and the line has fewer ALWAYS than IFs from it on.
 fn is_short(here: &Place<'_>, token: usize) -> bool {
@@ -132,68 +131,67 @@ fn end_before(here: &Place<'_>, line: u32) -> usize {
     here.line_stretch(last.unwrap_or(0)).end
 }
 
-// What is open: a construct and its line, as `The IF of line 17`, with the name of a routine or an event.
-fn opened(alloc: Global, here: &Place<'_>, open: Open) -> Made<Page<'static>> {
-    let mut page = Page::of(alloc, "The {}", &[Words(open.construct.word())])?;
-    if let Construct::Routine | Construct::Event = open.construct {
-        let name = here.spelling(open.token.saturating_add(1));
-        page.say(" {}", &[Capitals(name)])?;
-    }
-    page.say(" of line {}", &[Line(here.line_of(open.token))])?;
-    Ok(page)
-}
-
-// What closes a construct, in a line of its own after the last line that is deeper.
+// What closes an IF or a loop, in a line of its own after the last line that is deeper.
 fn add_by_indentation(fixes: &mut Fixes<'_>, here: &Place<'_>, open: Open) -> Made<()> {
     let Some(line) = end_by_indentation(here, open) else {
         return Ok(());
     };
-    let what = opened(fixes.alloc(), here, open)?;
     let closer = Words(open.construct.closer());
-    let (where_open, found, comes) = if line == here.line() {
-        (" where ", here.called(here.at), " comes")
+    let is_here = line == here.line();
+    let found = if is_here {
+        here.called(here.at)
     } else {
-        ("", Words(""), "")
+        Words("")
     };
     fixes.insert(
         end_before(here, line),
         &[Words("\n"), closer],
-        "{} is still open{}{}{}: write {} before line {}.",
+        "The {} of line {} is still open{}{}{}: write {} before line {}.",
         &[
-            Bytes(what.bytes()),
-            Words(where_open),
+            Words(open.construct.word()),
+            Line(here.line_of(open.token)),
+            Words(if is_here { " where " } else { "" }),
             found,
-            Words(comes),
+            Words(if is_here { " comes" } else { "" }),
             closer,
             Line(line),
         ],
     )
 }
 
+// The name of a routine or an event that is open; empty for another construct.
+fn name_of<'a>(here: &Place<'a>, open: Open) -> &'a [u8] {
+    match open.construct {
+        Construct::Routine | Construct::Event => here.spelling(open.token.saturating_add(1)),
+        _ => &[],
+    }
+}
+
 // What closes a construct, directly before the place.
 fn add_before_place(fixes: &mut Fixes<'_>, here: &Place<'_>, open: Open) -> Made<()> {
-    let what = opened(fixes.alloc(), here, open)?;
+    let name = name_of(here, open);
     let closer = Words(open.construct.closer());
     let is_open = match open.construct {
         Construct::If | Construct::Loop => "is still open",
         _ => "has no END",
     };
-    let (in_line, line) = match here.kind(here.at) {
-        Some(_) => (Words(" in line "), Line(here.line())),
-        None => (Words(""), Words("")),
+    let words = match here.kind(here.at) {
+        Some(_) => "The {}{}{} of line {} {}: write {} before {} in line {}.",
+        None => "The {}{}{} of line {} {}: write {} before {}.",
     };
-    let place = here.called(here.at);
     fixes.insert(
         here.stretch(here.at).start,
         &[Words("\n"), closer, Words("\n")],
-        "{} {}: write {} before {}{}{}.",
+        words,
         &[
-            Bytes(what.bytes()),
+            Words(open.construct.word()),
+            Words(if name.is_empty() { "" } else { " " }),
+            Capitals(name),
+            Line(here.line_of(open.token)),
             Words(is_open),
             closer,
-            place,
-            in_line,
-            line,
+            here.called(here.at),
+            Line(here.line()),
         ],
     )
 }
@@ -202,8 +200,8 @@ fn add_before_place(fixes: &mut Fixes<'_>, here: &Place<'_>, open: Open) -> Made
 fn add_all_before_place(fixes: &mut Fixes<'_>, here: &Place<'_>) -> Made<()> {
     let mut list = Page::of(fixes.alloc(), "", &[])?;
     let mut with = Page::of(fixes.alloc(), "", &[])?;
-    for (place, open) in here.opens.iter().rev().enumerate() {
-        let comma = Words(if place > 0 { ", " } else { "" });
+    for open in here.opens.iter().rev() {
+        let comma = Words(if list.text.is_empty() { "" } else { ", " });
         let line = Line(here.line_of(open.token));
         list.say(
             "{}{} of line {}",
@@ -211,9 +209,10 @@ fn add_all_before_place(fixes: &mut Fixes<'_>, here: &Place<'_>) -> Made<()> {
         )?;
         with.say("\n{}", &[Words(open.construct.closer())])?;
     }
+    with.say("\n", &[])?;
     fixes.insert(
         here.stretch(here.at).start,
-        &[Bytes(with.bytes()), Words("\n")],
+        &[Bytes(with.bytes())],
         "Still open there: {}. Close each, the last first, by ALWAYS, LOOP and END.",
         &[Bytes(list.bytes())],
     )

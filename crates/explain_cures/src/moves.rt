@@ -5,6 +5,7 @@ use crate::place::Place;
 use explain_grammar::{head_at, is_among, leader_before};
 use explain_pages::Part::{Bytes, Capitals, Line, Words};
 use explain_pages::{Made, Page, Stretch};
+use ss_lex::Symbol::{CloseParenthesis, OpenParenthesis};
 use ss_lex::{Symbol, TokenKind, Word};
 
 // Whether a token may be in a product, outside of its parentheses.
@@ -20,6 +21,17 @@ fn is_factor(here: &Place<'_>, index: usize) -> bool {
     )
 }
 
+// How many parentheses are open past a token: one more past this symbol, one less past the other.
+fn depth_past(here: &Place<'_>, index: usize, depth: usize, more: Symbol, less: Symbol) -> usize {
+    if here.is_symbol(index, more) {
+        depth.saturating_add(1)
+    } else if here.is_symbol(index, less) {
+        depth.saturating_sub(1)
+    } else {
+        depth
+    }
+}
+
 // The first token of the product that ends before the place, with its parentheses.
 fn product_before(here: &Place<'_>) -> usize {
     let mut depth: usize = 0;
@@ -28,12 +40,7 @@ fn product_before(here: &Place<'_>) -> usize {
         if depth == 0 && !is_factor(here, index) {
             break;
         }
-        if here.is_symbol(index, Symbol::CloseParenthesis) {
-            depth = depth.saturating_add(1);
-        }
-        if here.is_symbol(index, Symbol::OpenParenthesis) {
-            depth = depth.saturating_sub(1);
-        }
+        depth = depth_past(here, index, depth, CloseParenthesis, OpenParenthesis);
         first = index;
     }
     first
@@ -45,19 +52,12 @@ fn factor_after(here: &Place<'_>) -> usize {
     let first = here.at.saturating_add(1);
     let mut last = first;
     for index in first..here.tokens.len() {
-        let opens = here.is_symbol(index, Symbol::OpenParenthesis);
-        let closes = here.is_symbol(index, Symbol::CloseParenthesis);
-        if index > first && depth == 0 && !opens {
+        if index > first && depth == 0 && !here.is_symbol(index, OpenParenthesis) {
             break;
         }
-        if opens {
-            depth = depth.saturating_add(1);
-        }
-        if closes {
-            depth = depth.saturating_sub(1);
-        }
+        depth = depth_past(here, index, depth, OpenParenthesis, CloseParenthesis);
         last = index;
-        if closes && depth == 0 {
+        if depth == 0 && here.is_symbol(index, CloseParenthesis) {
             break;
         }
     }
@@ -69,19 +69,20 @@ pub fn add_division(fixes: &mut Fixes<'_>, here: &Place<'_>) -> Made<()> {
     if here.spelling(here.at) != b"/".as_slice() || here.at == 0 {
         return Ok(());
     }
-    let left = here.between(product_before(here), here.before());
-    let right = here.between(here.at.saturating_add(1), factor_after(here));
-    let operands = [Bytes(here.bytes(left)), Bytes(here.bytes(right))];
-    let with = Page::of(fixes.alloc(), "DIV.F({}, {})", &operands)?;
-    let whole = Stretch {
-        start: left.start,
-        end: right.end,
-    };
+    let (first, last) = (product_before(here), factor_after(here));
+    let left = here.bytes(here.between(first, here.before()));
+    let right = here.bytes(here.between(here.at.saturating_add(1), last));
     fixes.replace(
-        whole,
-        &[Bytes(with.bytes())],
-        "There is no sign for a division: write {} in line {}, which drops what is left over.",
-        &[Capitals(with.bytes()), Line(here.line())],
+        here.between(first, last),
+        &[
+            Words("DIV.F("),
+            Bytes(left),
+            Words(", "),
+            Bytes(right),
+            Words(")"),
+        ],
+        "There is no sign for a division: write DIV.F({}, {}) in line {}, which drops what is left over.",
+        &[Capitals(left), Capitals(right), Line(here.line())],
     )
 }
 
@@ -95,30 +96,27 @@ fn time_before(here: &Place<'_>) -> Option<usize> {
     before.find(|index| { matches!(here.word(*index), Some(Word::At | Word::In | Word::Now)) })
 }
 
-/// What is given comes before the time of a SCHEDULE.
-pub fn add_given_first(fixes: &mut Fixes<'_>, here: &Place<'_>) -> Made<()> {
+// What is given comes before the time of a SCHEDULE.
+fn add_given_first(fixes: &mut Fixes<'_>, here: &Place<'_>) -> Made<()> {
     let Some(Word::Given | Word::Giving | Word::Called) = here.word(here.at) else {
         return Ok(());
     };
     let Some(time) = time_before(here) else {
         return Ok(());
     };
-    let late = here.between(here.at, here.last_of_line(here.at));
-    let early = here.between(time, here.before());
-    let (given, at) = (here.bytes(late), here.bytes(early));
+    let last = here.last_of_line(here.at);
+    let given = here.bytes(here.between(here.at, last));
+    let at = here.bytes(here.between(time, here.before()));
     fixes.replace(
-        Stretch {
-            start: early.start,
-            end: late.end,
-        },
+        here.between(time, last),
         &[Bytes(given), Words(" "), Bytes(at)],
         "The time comes last: write {} {} in line {}.",
         &[Capitals(given), Capitals(at), Line(here.line())],
     )
 }
 
-/// A DEFINE after statements moves up to where its section begins.
-pub fn add_define_first(fixes: &mut Fixes<'_>, here: &Place<'_>) -> Made<()> {
+// A DEFINE after statements moves up to where its section begins.
+fn add_define_first(fixes: &mut Fixes<'_>, here: &Place<'_>) -> Made<()> {
     if here.word(here.at) != Some(Word::Define)
         || here.opens.is_empty()
         || head_at(here.tokens, here.section).is_none()
@@ -128,17 +126,12 @@ pub fn add_define_first(fixes: &mut Fixes<'_>, here: &Place<'_>) -> Made<()> {
     }
     let (head, line) = (here.line_of(here.section), here.line());
     let moved = here.line_stretch(line);
-    let passed = Stretch {
-        start: here.line_stretch(head).end,
-        end: moved.start,
-    };
-    let (moved_bytes, passed_bytes) = (here.bytes(moved), here.bytes(passed));
+    let (start, end) = (here.line_stretch(head).end, moved.start);
+    let passed = here.bytes(Stretch { start, end });
+    let end = moved.end;
     fixes.replace(
-        Stretch {
-            start: passed.start,
-            end: moved.end,
-        },
-        &[Words("\n"), Bytes(moved_bytes), Bytes(passed_bytes)],
+        Stretch { start, end },
+        &[Words("\n"), Bytes(here.bytes(moved)), Bytes(passed)],
         "A DEFINE comes before the statements of its section: move line {} up, directly after line {}.",
         &[Line(line), Line(head)],
     )
@@ -147,15 +140,15 @@ pub fn add_define_first(fixes: &mut Fixes<'_>, here: &Place<'_>) -> Made<()> {
 // Whether a token opens a parenthesis with which a condition begins.
 fn is_round(here: &Place<'_>, index: usize) -> bool {
     index > 0
-        && here.is_symbol(index, Symbol::OpenParenthesis)
+        && here.is_symbol(index, OpenParenthesis)
         && here.word(index.saturating_sub(1)).is_some_and(|word| is_among(
             word,
             "IF AND OR WITH WHEN UNLESS WHILE UNTIL",
         ))
 }
 
-/// The parentheses round conditions in the line of the place are left out.
-pub fn add_bare_conditions(fixes: &mut Fixes<'_>, here: &Place<'_>) -> Made<()> {
+// The parentheses round conditions in the line of the place are left out.
+fn add_bare_conditions(fixes: &mut Fixes<'_>, here: &Place<'_>) -> Made<()> {
     let line = here.line();
     let mut all = here.section..here.tokens.len();
     let Some(first) = all.find(|index| here.line_of(*index) == line && is_round(here, *index))
@@ -166,16 +159,11 @@ pub fn add_bare_conditions(fixes: &mut Fixes<'_>, here: &Place<'_>) -> Made<()> 
     let mut depth: usize = 0;
     let mut with = Page::of(fixes.alloc(), "", &[])?;
     for index in first..last.saturating_add(1) {
-        let closes = here.is_symbol(index, Symbol::CloseParenthesis);
+        let closes = here.is_symbol(index, CloseParenthesis);
         if depth == 0 && (closes || is_round(here, index)) {
             continue;
         }
-        if here.is_symbol(index, Symbol::OpenParenthesis) {
-            depth = depth.saturating_add(1);
-        }
-        if closes {
-            depth = depth.saturating_sub(1);
-        }
+        depth = depth_past(here, index, depth, OpenParenthesis, CloseParenthesis);
         with.say("{} ", &[Bytes(here.spelling(index))])?;
     }
     fixes.replace(
@@ -184,4 +172,11 @@ pub fn add_bare_conditions(fixes: &mut Fixes<'_>, here: &Place<'_>) -> Made<()> 
         "Conditions have no parentheses: leave them out in line {}. AND binds more tightly than OR.",
         &[Line(line)],
     )
+}
+
+/// Adds the changes by which words are moved, or parentheses left out.
+pub fn add_moves(fixes: &mut Fixes<'_>, here: &Place<'_>) -> Made<()> {
+    add_given_first(fixes, here)?;
+    add_define_first(fixes, here)?;
+    add_bare_conditions(fixes, here)
 }

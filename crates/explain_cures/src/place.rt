@@ -115,9 +115,15 @@ impl<'a> Place<'a> {
     /// The last token of a line, by its index, from this token on.
     pub fn last_of_line(&self, index: usize) -> usize {
         let line = self.line_of(index);
-        let further = self.tokens.iter().skip(index).take(2000);
-        let count = further.take_while(|token| token.line.0 == line).count();
-        index.saturating_add(count.saturating_sub(1))
+        let end = self.tokens.len().min(index.saturating_add(2000));
+        let mut last = index;
+        for next in index.saturating_add(1)..end {
+            if self.line_of(next) != line {
+                break;
+            }
+            last = next;
+        }
+        last
     }
 
     /// The part of the text in which changes are tried: from the section on, and so many bytes past the place. None where the
@@ -127,7 +133,7 @@ impl<'a> Place<'a> {
         let most: usize = if is_long { 2_000 } else { 20_000 };
         let start = match self.section {
             0 => 0,
-            section => self.stretch(section).start.min(self.text.len()),
+            section => self.stretch(section).start,
         };
         let place = self.stretch(self.at).start;
         let least = place.saturating_add(most);
@@ -136,7 +142,7 @@ impl<'a> Place<'a> {
             Some(count) => least.saturating_add(count),
             None => self.text.len(),
         };
-        if place.saturating_sub(start) > most || end < start {
+        if place.saturating_sub(start) > most {
             return None;
         }
         Some(Window {

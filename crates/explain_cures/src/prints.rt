@@ -2,9 +2,9 @@
 
 use crate::fixes::Fixes;
 use crate::place::Place;
-use explain_grammar::{begins_statement, head_at, is_frame_word};
-use explain_pages::Part::{Bytes, Count, Line, Words};
-use explain_pages::{Made, Page, has_field, word_at};
+use explain_grammar::{begins_statement, is_frame_word};
+use explain_pages::Part::{Count, Line, Words};
+use explain_pages::{Made, has_field, word_at};
 use ss_lex::{TokenKind, Word, tokens};
 use std::alloc::Global;
 
@@ -45,23 +45,9 @@ fn count_of(here: &Place<'_>, print: usize) -> Option<u64> {
     }
 }
 
-// The number of lines of a PRINT is changed, for a reason.
-fn add_count(
-    fixes: &mut Fixes<'_>,
-    here: &Place<'_>,
-    print: usize,
-    count: u64,
-    why: &Page<'_>,
-) -> Made<()> {
-    let index = print.saturating_add(1);
-    let lines = Words(if count == 1 { "LINE" } else { "LINES" });
-    let (why, line) = (Bytes(why.bytes()), Line(here.line_of(index)));
-    fixes.replace(
-        here.stretch(index),
-        &[Count(count)],
-        "{}: write PRINT {} {} in line {}.",
-        &[why, Count(count), lines, line],
-    )
+// What so many lines are called.
+fn lines(count: u64) -> &'static str {
+    if count == 1 { "LINE" } else { "LINES" }
 }
 
 // One line of picture more, or two, or three, where the place is right after the pictures.
@@ -69,10 +55,16 @@ fn add_more_lines(fixes: &mut Fixes<'_>, here: &Place<'_>, print: usize) -> Made
     let Some(count) = count_of(here, print) else {
         return Ok(());
     };
-    let words = "Line {} is no statement; it looks like a line of picture";
-    let why = Page::of(fixes.alloc(), words, &[Line(here.line())])?;
+    let index = print.saturating_add(1);
+    let (place, number) = (here.line(), here.line_of(index));
     for more in 1..4 {
-        add_count(fixes, here, print, count.saturating_add(more), &why)?;
+        let count = count.saturating_add(more);
+        fixes.replace(
+            here.stretch(index),
+            &[Count(count)],
+            "Line {} is no statement; it looks like a line of picture: write PRINT {} {} in line {}.",
+            &[Line(place), Count(count), Words(lines(count)), Line(number)],
+        )?;
     }
     Ok(())
 }
@@ -84,20 +76,19 @@ fn looks_like_statement(alloc: Global, bytes: &[u8]) -> bool {
     match tokens(alloc, bytes) {
         Err(_) => false,
         Ok(all) => match word_at(all.list(), 0) {
-            Some(Word::End | Word::Loop | Word::Always | Word::Else) => true,
-            Some(word) => begins_statement(word) || head_at(all.list(), 0).is_some(),
+            Some(word) => begins_statement(word) || is_frame_word(all.list(), 0),
             None => false,
         },
     }
 }
 
-// The first line of so many below this one that looks like a statement: how far below, and the line.
+// The first line of so many below this one that looks like a statement: how many are between them, and the line.
 fn swallowed(alloc: Global, here: &Place<'_>, above: u32, count: u64) -> Option<(u64, u32)> {
     let mut line = above;
-    for place in 1..count.saturating_add(1) {
+    for between in 0..count {
         line = line.saturating_add(1);
         if looks_like_statement(alloc, here.line_bytes(line)) {
-            return Some((place, line));
+            return Some((between, line));
         }
     }
     None
@@ -109,20 +100,26 @@ fn add_swallowed(fixes: &mut Fixes<'_>, here: &Place<'_>, print: usize) -> Made<
         (Some(count), Some(trigger)) if count <= 100 => (count, here.line_of(trigger)),
         _ => return Ok(()),
     };
-    let Some((place, line)) = swallowed(fixes.alloc(), here, above, count) else {
+    let Some((left, line)) = swallowed(fixes.alloc(), here, above, count) else {
         return Ok(());
     };
-    let words = "Line {} was taken as a picture of the PRINT of line {}";
-    let lines = [Line(line), Line(here.line_of(print))];
-    let why = Page::of(fixes.alloc(), words, &lines)?;
-    if place > 1 {
-        return add_count(fixes, here, print, place - 1, &why);
+    let index = print.saturating_add(1);
+    let (head, number) = (Line(here.line_of(print)), Line(here.line_of(index)));
+    let parts = [Line(line), head, Count(left), Words(lines(left)), number];
+    if left > 0 {
+        return fixes.replace(
+            here.stretch(index),
+            &[Count(left)],
+            "Line {} was taken as a picture of the PRINT of line {}: write PRINT {} {} in line {}.",
+            &parts,
+        );
     }
-    let (at, words) = (
+    fixes.insert(
         here.line_stretch(line).start,
-        "{}: write its picture between them.",
-    );
-    fixes.insert(at, &[Words("\n")], words, &[Bytes(why.bytes())])
+        &[Words("\n")],
+        "Line {} was taken as a picture of the PRINT of line {}: write its picture between them.",
+        &parts,
+    )
 }
 
 // The line ends after THUS, where a picture goes on there.
@@ -140,13 +137,13 @@ fn add_line_end(fixes: &mut Fixes<'_>, here: &Place<'_>) -> Made<()> {
 
 // Whether the line of the place comes directly after the pictures of a PRINT.
 fn is_after_pictures(here: &Place<'_>, print: usize) -> bool {
-    let mut last = None;
-    for token in here.tokens.iter().take(here.end()).skip(print) {
-        if let TokenKind::Picture(_) = &token.kind {
-            last = Some(token.line.0.saturating_add(1));
+    let mut after: u32 = 0;
+    for index in print..here.end() {
+        if let Some(TokenKind::Picture(_)) = here.kind(index) {
+            after = here.line_of(index).saturating_add(1);
         }
     }
-    last == Some(here.line()) && !is_frame_word(here.tokens, here.at)
+    after == here.line() && !is_frame_word(here.tokens, here.at)
 }
 
 /// Adds the changes of PRINTs before the place.

@@ -14,24 +14,21 @@ use explain_pages::{Made, Page, line_of, line_starts};
 use ss_lex::Token;
 use std::alloc::Global;
 
-/// How many kinds of changes there are, the likeliest first.
-const KINDS: usize = 3;
-
-fn add_fixes(fixes: &mut Fixes<'_>, here: &Place<'_>, kind: usize) -> Made<()> {
-    match kind {
-        0 => add_likely(fixes, here),
-        1 => {
-            add_prints(fixes, here)?;
-            if is_frame_word(here.tokens, here.at) {
-                add_frames(fixes, here)?;
-            }
-            add_missing(fixes, here)
+// Adds changes, the likeliest first, until one is good.
+fn add_fixes(fixes: &mut Fixes<'_>, here: &Place<'_>) -> Made<()> {
+    add_likely(fixes, here)?;
+    if fixes.best.is_none() {
+        add_prints(fixes, here)?;
+        if is_frame_word(here.tokens, here.at) {
+            add_frames(fixes, here)?;
         }
-        _ => {
-            add_unlikely(fixes, here)?;
-            add_further_lines(fixes, here)
-        }
+        add_missing(fixes, here)?;
     }
+    if fixes.best.is_none() {
+        add_unlikely(fixes, here)?;
+        add_further_lines(fixes, here)?;
+    }
+    Ok(())
 }
 
 // How many bytes of a window may be left, and one more, where a change is good: it is read past the token after the place.
@@ -53,13 +50,11 @@ fn add_cure(page: &mut Page<'_>, here: &Place<'_>) -> Made<bool> {
         return Ok(false);
     };
     let most = good_enough(here, window, left);
-    for kind in 0..KINDS {
-        let mut fixes = Fixes::new(page.alloc(), window, most);
-        add_fixes(&mut fixes, here, kind)?;
-        if let Some(said) = &fixes.best {
-            page.cure("{}", &[Bytes(said.bytes())])?;
-            return Ok(true);
-        }
+    let mut fixes = Fixes::new(page.alloc(), window, most);
+    add_fixes(&mut fixes, here)?;
+    if let Some(said) = &fixes.best {
+        page.cure("{}", &[Bytes(said.bytes())])?;
+        return Ok(true);
     }
     Ok(false)
 }
@@ -111,16 +106,26 @@ fn candidates_at(alloc: Global, tokens: &[Token], at: usize) -> Made<Vec<Candida
 // The place that does not fit, and what may come there. Where reading stopped after a word that fits nowhere, that is the word.
 fn place_of(alloc: Global, tokens: &[Token], at: usize) -> Made<(usize, Vec<Candidate>)> {
     let candidates = candidates_at(alloc, tokens, at)?;
+    let before = at.saturating_sub(1);
     if !candidates.is_empty() || at == 0 {
         return Ok((at, candidates));
     }
-    let earlier = candidates_at(alloc, tokens, at - 1)?;
-    match tokens.get(at - 1) {
+    let earlier = candidates_at(alloc, tokens, before)?;
+    match tokens.get(before) {
         Some(token) if !earlier.is_empty() && !has_token(earlier.as_slice(), token) => {
-            Ok((at - 1, earlier))
+            Ok((before, earlier))
         }
         _ => Ok((at, candidates)),
     }
+}
+
+fn explain_place(page: &mut Page<'_>, here: &Place<'_>) -> Made<()> {
+    add_place(page, here)?;
+    add_opens(page, here)?;
+    if !add_cure(page, here)? {
+        add_form(page, here)?;
+    }
+    Ok(())
 }
 
 /// Explains a text whose tokens are read no further than to one of them.
@@ -138,12 +143,7 @@ pub fn explain_syntax(page: &mut Page<'_>, tokens: &[Token], at: usize) -> Made<
         candidates: candidates.as_slice(),
         opens: opens.as_slice(),
     };
-    add_place(page, &here)?;
-    add_opens(page, &here)?;
-    if !add_cure(page, &here)? {
-        add_form(page, &here)?;
-    }
-    Ok(())
+    explain_place(page, &here)
 }
 
 /// Explains a text in which more levels of nesting are open than may be.

@@ -1,51 +1,44 @@
 //! Changes of single words: one is put in, left out, or gives way to another.
 
 use crate::fixes::Fixes;
-use crate::moves::{add_bare_conditions, add_define_first, add_division, add_given_first};
+use crate::moves::{add_division, add_moves};
 use crate::place::Place;
 use explain_grammar::{
     Candidate, Construct, WORDS, begins_statement, head_at, is_among, is_value_word, spelling_of,
 };
 use explain_pages::Part::{Bytes, Capitals, Line, Words};
-use explain_pages::{Made, is_first_of_line, is_like, is_named};
+use explain_pages::{Made, Part, is_first_of_line, is_like, is_named};
 use ss_lex::{Symbol, TokenKind, Word};
 
-/// Words of this language, and what other languages have for them.
-static CONFUSIONS: [(&str, &[&str]); 25] = [
-    (
-        "EVENT NOTICES INCLUDE",
-        &["EVENT INCLUDE", "EVENT NOTICE INCLUDE"],
-    ),
-    (
-        "MAY BELONG TO",
-        &["BELONGS TO", "BELONG TO", "CAN BELONG TO", "MAY BELONGS TO"],
-    ),
-    ("ALWAYS", &["END IF", "ENDIF", "FI"]),
-    (
-        "LOOP",
-        &["END FOR", "END LOOP", "END WHILE", "END DO", "WEND", "NEXT"],
-    ),
-    ("LOOP", &["ENDDO", "ENDFOR", "ENDWHILE"]),
-    ("ELSE IF", &["ELSEIF", "ELSIF", "ELIF"]),
-    ("GE", &["> =", "= >", "IS GREATER OR EQUAL TO"]),
-    ("LE", &["< =", "= <", "IS LESS OR EQUAL TO"]),
-    ("NE", &["< >", "! =", "/ =", "NOT EQUAL"]),
-    ("=", &["= =", ": ="]),
-    ("GT", &[">"]),
-    ("LT", &["<"]),
-    ("GIVEN", &["GIVING", "WITH", "USING"]),
-    ("HAS", &["HAVE"]),
-    ("OWNS", &["OWN"]),
-    ("PRINT", &["WRITE"]),
-    ("START SIMULATION", &["SIMULATE"]),
-    ("DESTROY THE", &["DELETE"]),
-    ("FILE THE", &["INSERT", "PUT"]),
-    ("IN", &["INTO"]),
-    ("ENTITIES", &["ENTITY"]),
-    ("EVENT NOTICES", &["PROCESSES"]),
-    ("ROUTINE", &["SUBROUTINE", "PROCEDURE", "FUNCTION"]),
-    ("INTEGER", &["INT"]),
-    ("ALPHA", &["TEXT", "STRING"]),
+/// Words of this language, and what other languages have for them, with a stroke between two of these.
+static CONFUSIONS: [(&str, &str); 27] = [
+    ("EVENT NOTICES INCLUDE", "EVENT INCLUDE"),
+    ("EVENT NOTICES INCLUDE", "EVENT NOTICE INCLUDE"),
+    ("MAY BELONG TO", "BELONGS TO|BELONG TO"),
+    ("MAY BELONG TO", "CAN BELONG TO|MAY BELONGS TO"),
+    ("ALWAYS", "END IF|ENDIF|FI"),
+    ("LOOP", "END FOR|END LOOP|END WHILE|END DO|WEND|NEXT"),
+    ("LOOP", "ENDDO|ENDFOR|ENDWHILE"),
+    ("ELSE IF", "ELSEIF|ELSIF|ELIF"),
+    ("GE", "> =|= >|IS GREATER OR EQUAL TO"),
+    ("LE", "< =|= <|IS LESS OR EQUAL TO"),
+    ("NE", "< >|! =|/ =|NOT EQUAL"),
+    ("=", "= =|: ="),
+    ("GT", ">"),
+    ("LT", "<"),
+    ("GIVEN", "GIVING|WITH|USING"),
+    ("HAS", "HAVE"),
+    ("OWNS", "OWN"),
+    ("PRINT", "WRITE"),
+    ("START SIMULATION", "SIMULATE"),
+    ("DESTROY THE", "DELETE"),
+    ("FILE THE", "INSERT|PUT"),
+    ("IN", "INTO"),
+    ("ENTITIES", "ENTITY"),
+    ("EVENT NOTICES", "PROCESSES"),
+    ("ROUTINE", "SUBROUTINE|PROCEDURE|FUNCTION"),
+    ("INTEGER", "INT"),
+    ("ALPHA", "TEXT|STRING"),
 ];
 
 /// The small words, and those of the frame of statements: none is meant as a name.
@@ -78,9 +71,9 @@ static CHOICES: [(Word, Word, &str, &str); 7] = [
 ];
 
 // The last of the tokens from this one on that are spelled as these words; None where they are spelled otherwise.
-fn last_spelled(here: &Place<'_>, first: usize, words: &str) -> Option<usize> {
+fn last_spelled(here: &Place<'_>, first: usize, words: &[u8]) -> Option<usize> {
     let mut next = first;
-    for word in words.as_bytes().split(|byte| *byte == b' ') {
+    for word in words.split(|byte| *byte == b' ') {
         if !here.spelling(next).eq_ignore_ascii_case(word) {
             return None;
         }
@@ -89,12 +82,12 @@ fn last_spelled(here: &Place<'_>, first: usize, words: &str) -> Option<usize> {
     Some(next.saturating_sub(1))
 }
 
-fn put_in_place(
+fn put_in_place<'a>(
     fixes: &mut Fixes<'_>,
-    here: &Place<'_>,
+    here: &Place<'a>,
     first: usize,
     last: usize,
-    word: &[u8],
+    word: &'a [u8],
 ) -> Made<()> {
     let stretch = here.between(first, last);
     let (wrong, line) = (here.bytes(stretch), here.line_of(first));
@@ -106,28 +99,28 @@ fn put_in_place(
     )
 }
 
-fn put_before(
+fn put_before<'a>(
     fixes: &mut Fixes<'_>,
-    here: &Place<'_>,
+    here: &Place<'a>,
     index: usize,
-    called: &[u8],
-    with: &[u8],
+    called: Part<'a>,
+    with: Part<'a>,
 ) -> Made<()> {
     let line = Line(here.line_of(index));
     fixes.insert(
         here.stretch(index).start,
-        &[Words(" "), Bytes(with), Words(" ")],
+        &[Words(" "), with, Words(" ")],
         "Write {} before {} in line {}.",
-        &[Bytes(called), here.called(index), line],
+        &[called, here.called(index), line],
     )
 }
 
 // Words are put in before the place; after the token before it, where that is in another line and the words begin nothing.
-fn put_in(
+fn put_in<'a>(
     fixes: &mut Fixes<'_>,
-    here: &Place<'_>,
-    called: &[u8],
-    with: &[u8],
+    here: &Place<'a>,
+    called: Part<'a>,
+    with: Part<'a>,
     begins: bool,
 ) -> Made<()> {
     if here.at == 0 || begins || !here.begins_line() {
@@ -137,25 +130,36 @@ fn put_in(
     let line = Line(here.line_of(before));
     fixes.insert(
         here.stretch(before).end,
-        &[Words(" "), Bytes(with), Words(" ")],
+        &[Words(" "), with, Words(" ")],
         "Write {} after {} at the end of line {}.",
-        &[Bytes(called), here.called(before), line],
+        &[called, here.called(before), line],
     )
+}
+
+// Words of other languages that begin at a token and reach the place, or the token before it.
+fn add_confusion<'a>(
+    fixes: &mut Fixes<'_>,
+    here: &Place<'a>,
+    first: usize,
+    right: &'a [u8],
+    wrongs: &[u8],
+) -> Made<()> {
+    for wrong in wrongs.split(|byte| *byte == b'|') {
+        match last_spelled(here, first, wrong) {
+            Some(last) if last >= here.before() => {
+                put_in_place(fixes, here, first, last, right)?;
+            }
+            _ => {}
+        }
+    }
+    Ok(())
 }
 
 // Words of other languages that begin at the place or just before it.
 fn add_confusions(fixes: &mut Fixes<'_>, here: &Place<'_>) -> Made<()> {
-    for back in 0..here.at.min(3).saturating_add(1) {
-        let first = here.at.saturating_sub(back);
+    for first in (here.at.saturating_sub(3)..here.at.saturating_add(1)).rev() {
         for (right, wrongs) in &CONFUSIONS {
-            for wrong in *wrongs {
-                match last_spelled(here, first, wrong) {
-                    Some(last) if last >= here.before() => {
-                        put_in_place(fixes, here, first, last, right.as_bytes())?;
-                    }
-                    _ => {}
-                }
-            }
+            add_confusion(fixes, here, first, right.as_bytes(), wrongs.as_bytes())?;
         }
     }
     Ok(())
@@ -195,8 +199,8 @@ fn add_alike(fixes: &mut Fixes<'_>, here: &Place<'_>, index: usize) -> Made<()> 
 fn add_misspelled(fixes: &mut Fixes<'_>, here: &Place<'_>) -> Made<()> {
     let is_comma = here.is_symbol(here.at, Symbol::Comma);
     let last = here.at.saturating_add(usize::from(is_comma));
-    for back in 0..last.min(2).saturating_add(1) {
-        add_alike(fixes, here, last.saturating_sub(back))?;
+    for index in (last.saturating_sub(2)..last.saturating_add(1)).rev() {
+        add_alike(fixes, here, index)?;
     }
     Ok(())
 }
@@ -257,7 +261,8 @@ fn add_expected(fixes: &mut Fixes<'_>, here: &Place<'_>, replaces: bool) -> Made
         if replaces {
             put_in_place(fixes, here, here.at, here.at, spelling)?;
         } else {
-            put_in(fixes, here, spelling, spelling, begins_something(*word))?;
+            let (spelling, begins) = (Bytes(spelling), begins_something(*word));
+            put_in(fixes, here, spelling, spelling, begins)?;
         }
     }
     Ok(())
@@ -272,15 +277,14 @@ fn add_signs(fixes: &mut Fixes<'_>, here: &Place<'_>) -> Made<()> {
             Candidate::Separator => ("a comma", ","),
             _ => continue,
         };
-        put_in(fixes, here, called.as_bytes(), with.as_bytes(), false)?;
+        put_in(fixes, here, Words(called), Words(with), false)?;
     }
     Ok(())
 }
 
 // The group that an EVERY is in has no head.
 fn add_group(fixes: &mut Fixes<'_>, here: &Place<'_>) -> Made<()> {
-    for back in 0..here.at.min(1).saturating_add(1) {
-        let index = here.at.saturating_sub(back);
+    for index in (here.before()..here.at.saturating_add(1)).rev() {
         if here.word(index) == Some(Word::Every) {
             fixes.insert(
                 here.stretch(index).start,
@@ -296,12 +300,11 @@ fn add_group(fixes: &mut Fixes<'_>, here: &Place<'_>) -> Made<()> {
 // A word is missing before one of the last tokens before the place.
 fn add_earlier(fixes: &mut Fixes<'_>, here: &Place<'_>) -> Made<()> {
     let most = if here.candidates.is_empty() { 3 } else { 1 };
-    for back in 1..here.at.min(most).saturating_add(1) {
-        let index = here.at.saturating_sub(back);
-        put_before(fixes, here, index, b"a value", b"A.NAME")?;
+    for index in (here.at.saturating_sub(most)..here.at).rev() {
+        put_before(fixes, here, index, Words("a value"), Words("A.NAME"))?;
         for spelling in WORDS.as_bytes().split(|byte| *byte == b' ') {
             if !spelling.contains(&b'.') && spelling != b"ALL".as_slice() {
-                put_before(fixes, here, index, spelling, spelling)?;
+                put_before(fixes, here, index, Bytes(spelling), Bytes(spelling))?;
             }
         }
     }
@@ -321,14 +324,14 @@ fn add_first_word(fixes: &mut Fixes<'_>, here: &Place<'_>) -> Made<()> {
         return Ok(());
     }
     if here.is_symbol(here.at.saturating_add(1), Symbol::Equals) {
-        return put_in(fixes, here, b"LET", b"LET", true);
+        return put_in(fixes, here, Words("LET"), Words("LET"), true);
     }
     let called = if is_routine(here, here.spelling(here.at)) {
         "CALL"
     } else {
         "the word with which the statement begins, as READ or CALL,"
     };
-    put_in(fixes, here, called.as_bytes(), b"CALL", true)
+    put_in(fixes, here, Words(called), Words("CALL"), true)
 }
 
 // Words are put in where any of several would do.
@@ -336,12 +339,13 @@ fn add_choices(fixes: &mut Fixes<'_>, here: &Place<'_>) -> Made<()> {
     for (one, other, called, tried) in &CHOICES {
         if here.may_be(*one) && here.may_be(*other) {
             for word in tried.as_bytes().split(|byte| *byte == b' ') {
-                put_in(fixes, here, called.as_bytes(), word, *one == Word::Let)?;
+                put_in(fixes, here, Words(called), Bytes(word), *one == Word::Let)?;
             }
         }
     }
     if here.may_be(Word::Temporary) && here.word(here.at) == Some(Word::Entities) {
-        put_in(fixes, here, b"TEMPORARY or PERMANENT", b"TEMPORARY", true)?;
+        let called = Words("TEMPORARY or PERMANENT");
+        put_in(fixes, here, called, Words("TEMPORARY"), true)?;
     }
     Ok(())
 }
@@ -377,14 +381,14 @@ fn add_between(fixes: &mut Fixes<'_>, here: &Place<'_>) -> Made<()> {
     }
     let (before, found) = (here.before(), here.at);
     if is_name(here, before) && is_name(here, found) {
-        put_in(fixes, here, b"a comma", b",", false)?;
+        put_in(fixes, here, Words("a comma"), Words(","), false)?;
     }
     let may_multiply = here.candidates.contains(&Candidate::Symbol(Symbol::Star));
     if may_multiply
         && is_value(here, before, Symbol::CloseParenthesis)
         && is_value(here, found, Symbol::OpenParenthesis)
     {
-        put_in(fixes, here, b"a sign, as + or *,", b"+", false)?;
+        put_in(fixes, here, Words("a sign, as + or *,"), Words("+"), false)?;
     }
     Ok(())
 }
@@ -412,9 +416,9 @@ fn add_nouns(fixes: &mut Fixes<'_>, here: &Place<'_>) -> Made<()> {
     let has_name = here.candidates.contains(&Candidate::Name);
     let has_number = here.candidates.contains(&Candidate::Number);
     match (has_name, has_number) {
-        (true, true) => put_in(fixes, here, b"a value", b"A.NAME", false),
-        (true, false) => put_in(fixes, here, b"a name", b"A.NAME", false),
-        (false, true) => put_in(fixes, here, b"a number", b"1", false),
+        (true, true) => put_in(fixes, here, Words("a value"), Words("A.NAME"), false),
+        (true, false) => put_in(fixes, here, Words("a name"), Words("A.NAME"), false),
+        (false, true) => put_in(fixes, here, Words("a number"), Words("1"), false),
         (false, false) => Ok(()),
     }
 }
@@ -428,9 +432,7 @@ pub fn add_likely(fixes: &mut Fixes<'_>, here: &Place<'_>) -> Made<()> {
 
 /// Adds the changes by which something is moved or put in.
 pub fn add_missing(fixes: &mut Fixes<'_>, here: &Place<'_>) -> Made<()> {
-    add_given_first(fixes, here)?;
-    add_define_first(fixes, here)?;
-    add_bare_conditions(fixes, here)?;
+    add_moves(fixes, here)?;
     add_group(fixes, here)?;
     if here.candidates.contains(&Candidate::Name) {
         add_renamed(fixes, here, here.at)?;
