@@ -146,11 +146,8 @@ fn explain_twice(page: &mut Page<'_>, refused: &Refused<'_>) -> Made<()> {
         return page.cure("Leave the second of the two out, or use another name.", &[]);
     };
     let name = clash.name.bytes();
-    let parts = [
-        Words(slot_words(clash.later)),
-        Words(slot_words(clash.earlier)),
-        Line(clash.line),
-    ];
+    let (later, earlier) = (slot_words(clash.later), slot_words(clash.earlier));
+    let parts = [Words(later), Words(earlier), Line(clash.line)];
     page.name(refused.line, name, "{} here, and {} in line {}", &parts)?;
     page.show(clash.line)?;
     page.cure(
@@ -290,8 +287,9 @@ fn name_wanting(what: &Declared, wanted: Slot) -> Option<Name> {
 
 // The first name in the line that has to be declared so too, and that is not among the known ones; where all are, the first.
 fn name_in_line(refused: &Refused<'_>, wanted: Slot, known: &[Name]) -> Option<Name> {
+    let line = refused.line;
+    let here = refused.all.iter().filter(|one| one.line.0 == line);
     let mut first = None;
-    let here = refused.all.iter().filter(|one| one.line.0 == refused.line);
     for one in here.take(LOOKED_AT) {
         if let Some(name) = name_wanting(&one.what, wanted) {
             if !known.contains(&name) {
@@ -370,7 +368,9 @@ fn explain_rule(page: &mut Page<'_>, refused: &Refused<'_>, error: &TableError) 
         TableError::RankKey(_) => {
             explain_key(page, refused, "it is no attribute of the set's members")
         }
-        TableError::TieKey(_) => explain_key(page, refused, "it is no attribute of the event notice"),
+        TableError::TieKey(_) => {
+            explain_key(page, refused, "it is no attribute of the event notice")
+        }
         TableError::TallyTwice(_) => explain_line(
             page,
             refused.line,

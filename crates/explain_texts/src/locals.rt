@@ -66,8 +66,10 @@ fn usages_of(alloc: Global, names: &Names, locals: &Locals, uses: &[Use]) -> Mad
 
 // What is odd about how a local name is used: the line, and the words for it.
 fn oddity_of(usage: &Usage) -> Option<(u32, &'static str)> {
+    if usage.is_declared {
+        return None;
+    }
     match (usage.assigned, usage.taken) {
-        _ if usage.is_declared => None,
         (Some(line), None) => Some((line, "a value is put into this local name, and never used")),
         (None, Some(line)) => Some((
             line,

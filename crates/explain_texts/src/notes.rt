@@ -31,7 +31,8 @@ fn has_start(uses: &[Use]) -> bool {
 
 // A note on a program with events that are never started.
 fn add_start(page: &mut Page<'_>, read: &Read<'_>) -> Made<()> {
-    if read.names.events.is_empty() || read.uses.iter().any(|uses| has_start(uses)) {
+    let names = read.names;
+    if names.events.is_empty() || read.uses.iter().any(|uses| has_start(uses)) {
         return Ok(());
     }
     for section in &read.program.sections {
@@ -102,7 +103,8 @@ fn line_after(text: &[u8], starts: &[usize], one: &Listed<'_>) -> Option<u32> {
     let [only] = body.as_slice() else {
         return None;
     };
-    let (inner, after) = (line_of(only), line_of(one.next?));
+    let next = one.next?;
+    let (inner, after) = (line_of(only), line_of(next));
     let depth = |line: u32| indentation(bytes_of(text, line_from(text, starts, line)));
     let is_deeper = inner > line.0 && depth(inner) > depth(line.0);
     let is_alike = after > inner && depth(after) == depth(inner);
@@ -145,11 +147,10 @@ fn class_of(names: &Names, attribute: &Name) -> Option<(Name, ClassKind)> {
 
 // Whether a name is that of an attribute of entities that come and go, which a DEFINE as a variable names.
 fn is_passing(names: &Names, name: &Name) -> bool {
-    match class_of(names, name) {
-        Some((_, ClassKind::Permanent)) => false,
-        Some(_) => has_entry(&names.modes, name),
-        None => false,
-    }
+    let Some((_, kind)) = class_of(names, name) else {
+        return false;
+    };
+    !matches!(kind, ClassKind::Permanent) && has_entry(&names.modes, name)
 }
 
 // Notes on statistics of an attribute that a DEFINE as a variable names.
@@ -239,12 +240,11 @@ fn implied_in<'a>(locals: &Locals, one: &'a Use) -> Option<&'a Name> {
 
 // The permanent class in whose variable the entity of an attribute is, if none of these uses sets it.
 fn unset_class(names: &Names, attribute: &Name, uses: &[Use]) -> Option<Name> {
-    let (class, kind) = class_of(names, attribute)?;
-    let is_set = uses.iter().any(|one| sets(one, &class));
-    if is_set || !matches!(kind, ClassKind::Permanent) {
+    let Some((class, ClassKind::Permanent)) = class_of(names, attribute) else {
         return None;
-    }
-    Some(class)
+    };
+    let is_set = uses.iter().any(|one| sets(one, &class));
+    if is_set { None } else { Some(class) }
 }
 
 fn first_parameter(uses: &[Use]) -> Option<Name> {
@@ -262,8 +262,14 @@ fn add_implied(page: &mut Page<'_>, names: &Names, locals: &Locals, uses: &[Use]
     for one in uses {
         if let Some(attribute) = implied_in(locals, one) {
             if let Some(class) = unset_class(names, attribute, uses) {
-                let (name, class) = (Bytes(attribute.bytes()), Bytes(class.bytes()));
-                let parts = [name, class, class, name, Bytes(parameter.bytes())];
+                let (name, class) = (attribute.bytes(), class.bytes());
+                let parts = [
+                    Bytes(name),
+                    Bytes(class),
+                    Bytes(class),
+                    Bytes(name),
+                    Bytes(parameter.bytes()),
+                ];
                 return page.note(
                     one.line.0,
                     ", {}: without a subscript it is that of the {} in the variable {}, which this event does not set. Is it {}({})?",

@@ -30,7 +30,8 @@ fn explain_kind(page: &mut Page<'_>, names: &Names, misused: &Misused<'_>, need:
         Some(meaning) => ("it is ", meaning_words(meaning)),
         None => ("it is not declared", ""),
     };
-    let parts = [Words(is), Words(what), Words(need_words(need))];
+    let wanted = need_words(need);
+    let parts = [Words(is), Words(what), Words(wanted)];
     let words = "{}{}, and {} is needed here";
     page.name(misused.line, misused.name, words, &parts)?;
     let known = known_names(page.alloc(), names, need)?;
