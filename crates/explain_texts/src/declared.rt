@@ -146,7 +146,8 @@ fn explain_twice(page: &mut Page<'_>, refused: &Refused<'_>) -> Made<()> {
         return page.cure("Leave the second of the two out, or use another name.", &[]);
     };
     let name = clash.name.bytes();
-    let (later, earlier) = (slot_words(clash.later), slot_words(clash.earlier));
+    let later = slot_words(clash.later);
+    let earlier = slot_words(clash.earlier);
     let parts = [Words(later), Words(earlier), Line(clash.line)];
     page.name(refused.line, name, "{} here, and {} in line {}", &parts)?;
     page.show(clash.line)?;

@@ -26,19 +26,24 @@ struct Misused<'a> {
 
 // Says what a name is and what it has to be, and what helps: the name that is spelled alike, or what may be declared.
 fn explain_kind(page: &mut Page<'_>, names: &Names, misused: &Misused<'_>, need: Need) -> Made<()> {
-    let (is, what) = match misused.meaning {
-        Some(meaning) => ("it is ", meaning_words(meaning)),
-        None => ("it is not declared", ""),
-    };
+    let (line, name) = (misused.line, misused.name);
     let wanted = need_words(need);
-    let parts = [Words(is), Words(what), Words(wanted)];
-    let words = "{}{}, and {} is needed here";
-    page.name(misused.line, misused.name, words, &parts)?;
+    match misused.meaning {
+        Some(meaning) => {
+            let what = meaning_words(meaning);
+            let parts = [Words(what), Words(wanted)];
+            page.name(line, name, "it is {}, and {} is needed here", &parts)?;
+        }
+        None => {
+            let words = "it is not declared, and {} is needed here";
+            page.name(line, name, words, &[Words(wanted)])?;
+        }
+    }
     let known = known_names(page.alloc(), names, need)?;
-    if page.nearest(misused.name, known.as_slice())? {
+    if page.nearest(name, known.as_slice())? {
         return Ok(());
     }
-    page.cure(help_for(need, misused.meaning), &[Bytes(misused.name)])
+    page.cure(help_for(need, misused.meaning), &[Bytes(name)])
 }
 
 // A set whose members are of the class that a name means.
