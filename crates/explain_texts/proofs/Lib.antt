@@ -1,1 +1,1 @@
-pub mod Wrongs
+pub mod Judging

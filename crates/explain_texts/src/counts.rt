@@ -1,10 +1,10 @@
 //! Counts that don't fit: values that are given, and fields of a PRINT.
 
-use crate::notes::lists_of;
+use crate::statements::{Listed, statements_of};
 use explain_pages::Part::{Bytes, Count, Line, Words};
 use explain_pages::{Made, Page, Part, line_bytes};
 use ss_base::{Name, PictureLine};
-use ss_names::{Meaning, Names};
+use ss_names::Names;
 use ss_names_uses::CountNeed;
 use ss_picture::Picture;
 use ss_tree::expression::Function;
@@ -29,13 +29,15 @@ fn wanted_of(names: &Names, need: &CountNeed) -> Option<Wanted> {
             Some((count, Some(*routine), "this routine is YIELDING "))
         }
         CountNeed::Attributes(class) => {
-            let Some(Meaning::Class { class: number, .. }) = names.meaning(class) else {
-                return None;
-            };
+            let number = names.classes.place(class)?;
             let count = names.attributes_of(number).len();
             Some((count, Some(*class), "this event notice HAS attributes: "))
         }
     }
+}
+
+fn counted(count: usize) -> Part<'static> {
+    Count(count as u64)
 }
 
 /// Whether a count of values in a line is wrong, which is then explained.
@@ -53,50 +55,28 @@ pub fn explain_arguments(
     if found == count || (at_most && found < count) {
         return Ok(false);
     }
-    let parts = [Words(words), Count(count as u64), Count(found as u64)];
+    let parts = [Words(words), counted(count), counted(found)];
     let words = "{}{}, and here are {}";
-    match name {
+    match &name {
         Some(name) => page.name(line, name.bytes(), words, &parts)?,
         None => page.in_line(line, words, &parts)?,
     }
-    page.cure(
-        if at_most {
-            "Give fewer values, or give the event notice another attribute by EVERY .. HAS."
-        } else {
-            "Give as many values as it takes, with commas between, or change the head of the routine."
-        },
-        &[],
-    )?;
+    let cure = if at_most {
+        "Give fewer values, or give the event notice another attribute by EVERY .. HAS."
+    } else {
+        "Give as many values as it takes, with commas between, or change the head of the routine."
+    };
+    page.cure(cure, &[])?;
     Ok(true)
 }
 
-/// A PRINT: how many values it has, and its pictures.
-type Print<'a> = (usize, &'a [PictureLine]);
-
 fn field_count(alloc: Global, pictures: &[PictureLine]) -> Made<usize> {
     let mut count: usize = 0;
-    for picture in pictures {
-        count = count.saturating_add(Picture::of(alloc, picture.bytes())?.fields().len());
+    for line in pictures {
+        let picture = Picture::of(alloc, line.bytes())?;
+        count = count.saturating_add(picture.fields().len());
     }
     Ok(count)
-}
-
-// The PRINTs of a line.
-fn prints_in<'a>(alloc: Global, program: &'a Program, line: u32) -> Made<Vec<Print<'a>>> {
-    let mut found = Vec::new(alloc);
-    for list in &lists_of(alloc, program.sections.as_slice())? {
-        for statement in *list {
-            match statement {
-                Statement::Print {
-                    line: here,
-                    items,
-                    pictures,
-                } if here.0 == line => found.push((items.len(), pictures.as_slice()))?,
-                _ => {}
-            }
-        }
-    }
-    Ok(found)
 }
 
 // The first field with decimals of a line.
@@ -114,8 +94,8 @@ fn decimals_in(line: &[u8]) -> Option<&[u8]> {
 }
 
 // A word of which there are so many.
-fn plural(count: usize, one: &'static str, several: &'static str) -> Part<'static> {
-    Words(if count == 1 { one } else { several })
+fn plural(count: usize, one: &'static str, several: &'static str) -> &'static str {
+    if count == 1 { one } else { several }
 }
 
 // What helps where a PRINT has so many values and fields.
@@ -143,25 +123,28 @@ fn show_pictures(page: &mut Page<'_>, pictures: &[PictureLine], line: u32) -> Ma
     Ok(())
 }
 
+/// A PRINT: how many values it has, and its pictures.
+type Print<'a> = (usize, &'a [PictureLine]);
+
 // Says how many fields and values a PRINT has.
 fn explain_print(page: &mut Page<'_>, line: u32, print: Print<'_>, fields: usize) -> Made<()> {
     let (items, pictures) = print;
-    page.line(
-        "line {}, PRINT: {}{}{}{}",
-        &[
-            Line(line),
-            Count(items as u64),
-            plural(items, " value, and ", " values, and "),
-            Count(fields as u64),
-            plural(fields, " field in its pictures", " fields in its pictures"),
-        ],
-    )?;
+    let values = plural(items, " value, and ", " values, and ");
+    let shown = plural(fields, " field in its pictures", " fields in its pictures");
+    let parts = [
+        Line(line),
+        counted(items),
+        Words(values),
+        counted(fields),
+        Words(shown),
+    ];
+    page.line("line {}, PRINT: {}{}{}{}", &parts)?;
     page.show(line)?;
     show_pictures(page, pictures, line)?;
-    let mut decimals = pictures
+    let decimals = pictures
         .iter()
-        .filter_map(|picture| decimals_in(picture.bytes()));
-    match decimals.next() {
+        .find_map(|picture| decimals_in(picture.bytes()));
+    match decimals {
         Some(field) if items > fields => page.cure(
             "{} is one field, for a MEAN alone. For two numbers write a blank or a colon between the asterisks, as **:**.",
             &[Bytes(field)],
@@ -170,14 +153,34 @@ fn explain_print(page: &mut Page<'_>, line: u32, print: Print<'_>, fields: usize
     }
 }
 
-/// Explains a PRINT whose fields don't fit its values: 77.
-pub fn explain_fields(page: &mut Page<'_>, program: &Program, line: u32) -> Made<()> {
-    let prints = prints_in(page.alloc(), program, line)?;
-    for (place, print) in prints.iter().enumerate() {
-        let fields = field_count(page.alloc(), print.1)?;
-        if print.0 != fields || place.saturating_add(1) == prints.len() {
-            return explain_print(page, line, *print, fields);
+// Explains the first PRINT of a line that has not as many fields as values, or else the last.
+fn explain_prints(page: &mut Page<'_>, all: &[Listed<'_>], line: u32) -> Made<()> {
+    let mut last: Option<Print<'_>> = None;
+    for one in all {
+        match one.statement {
+            Statement::Print {
+                line: here,
+                items,
+                pictures,
+            } if here.0 == line => {
+                let fields = field_count(page.alloc(), pictures.as_slice())?;
+                let print = (items.len(), pictures.as_slice());
+                if items.len() != fields {
+                    return explain_print(page, line, print, fields);
+                }
+                last = Some(print);
+            }
+            _ => {}
         }
     }
-    page.show(line)
+    match last {
+        Some((items, pictures)) => explain_print(page, line, (items, pictures), items),
+        None => page.show(line),
+    }
+}
+
+/// Explains a PRINT whose fields don't fit its values: 77.
+pub fn explain_fields(page: &mut Page<'_>, program: &Program, line: u32) -> Made<()> {
+    let all = statements_of(page.alloc(), &program.sections)?;
+    explain_prints(page, all.as_slice(), line)
 }

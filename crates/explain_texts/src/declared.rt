@@ -3,20 +3,21 @@
 use explain_pages::Part::{Bytes, Line, Words};
 use explain_pages::{Made, Page};
 use ss_base::Name;
-use ss_names_declarations::{Breach, Declaration, Declared, declarations_of};
-use ss_names_uses::{Used, uses_of};
-use ss_tables_rules::TableError;
-use ss_tree::expression::Designator;
+use ss_names::Names;
+use ss_names_declarations::{Breach, Declaration, Declared, declarations_of, has_entry};
+use ss_names_scopes::{Locals, local_of};
+use ss_names_uses::{Use, uses_of};
+use ss_tables_rules::{TableError, seed_of};
 use ss_tree::preamble::{ClassKind, ModeWord};
-use ss_tree::program::Program;
+use ss_tree::program::{Program, Section};
 use std::alloc::Global;
 
-/// The most declarations and uses of a line that are looked at.
+/// The most declarations of a line that are looked at.
 const LOOKED_AT: usize = 200;
 
 /// A program with all that it declares, and the line of its refusal.
 #[derive(Clone, Copy)]
-struct Read<'a> {
+struct Refused<'a> {
     program: &'a Program,
     all: &'a [Declaration],
     line: u32,
@@ -45,34 +46,33 @@ enum Slot {
 }
 
 // What a declaration is of, and what it makes of that.
-fn slot_of(what: &Declared) -> Option<(Name, Slot)> {
-    let (name, slot) = match what {
+fn slot_of(what: &Declared) -> Option<(&Name, Slot)> {
+    match what {
         Declared::Class { class, kind } => match kind {
-            ClassKind::Notice => (class, Slot::Notice),
-            _ => (class, Slot::Class),
+            ClassKind::Notice => Some((class, Slot::Notice)),
+            _ => Some((class, Slot::Class)),
         },
-        Declared::Attribute { attribute, .. } => (attribute, Slot::Attribute),
-        Declared::Owner { set, .. } => (set, Slot::Owner),
-        Declared::Member { set, .. } => (set, Slot::Member),
-        Declared::Order { set, .. } => (set, Slot::Order),
-        Declared::Variable { variable, .. } => (variable, Slot::Variable),
-        Declared::Statistic { statistic, .. } => (statistic, Slot::Statistic),
-        Declared::Subject { subject, .. } => (subject, Slot::Subject),
-        Declared::Routine { routine, .. } => (routine, Slot::Routine),
-        Declared::Event { class, .. } => (class, Slot::Event),
-        Declared::Parameter { parameter, section } => (parameter, Slot::Inside(*section)),
+        Declared::Attribute { attribute, .. } => Some((attribute, Slot::Attribute)),
+        Declared::Owner { set, .. } => Some((set, Slot::Owner)),
+        Declared::Member { set, .. } => Some((set, Slot::Member)),
+        Declared::Order { set, .. } => Some((set, Slot::Order)),
+        Declared::Variable { variable, .. } => Some((variable, Slot::Variable)),
+        Declared::Statistic { statistic, .. } => Some((statistic, Slot::Statistic)),
+        Declared::Subject { subject, .. } => Some((subject, Slot::Subject)),
+        Declared::Routine { routine, .. } => Some((routine, Slot::Routine)),
+        Declared::Event { class, .. } => Some((class, Slot::Event)),
+        Declared::Parameter { parameter, section } => Some((parameter, Slot::Inside(*section))),
         Declared::Local {
             variable,
             section,
             ..
-        } => (variable, Slot::Inside(*section)),
-        Declared::Priority { class } => (class, Slot::Priority),
-        Declared::Ties { class } => (class, Slot::Ties),
-        Declared::RankKey { attribute, .. } => (attribute, Slot::Key),
-        Declared::TieKey { attribute, .. } => (attribute, Slot::Key),
-        Declared::Normally { .. } | Declared::PriorityOrder | Declared::Main => return None,
-    };
-    Some((*name, slot))
+        } => Some((variable, Slot::Inside(*section))),
+        Declared::Priority { class } => Some((class, Slot::Priority)),
+        Declared::Ties { class } => Some((class, Slot::Ties)),
+        Declared::RankKey { attribute, .. } => Some((attribute, Slot::Key)),
+        Declared::TieKey { attribute, .. } => Some((attribute, Slot::Key)),
+        Declared::Normally { .. } | Declared::PriorityOrder | Declared::Main => None,
+    }
 }
 
 // Whether a name may be both, in one program, by what the first of the two may be beside.
@@ -105,56 +105,55 @@ fn slot_words(slot: Slot) -> &'static str {
     }
 }
 
-// The earlier declaration that makes something else of a name: what it makes of it, and its line.
-fn clash_of(earlier: &[Declaration], name: &Name, slot: Slot) -> Option<(Slot, u32)> {
+/// A name that two declarations make different things of: what the later one makes of it, and the earlier one in its line.
+#[derive(Clone, Copy)]
+struct Clash<'a> {
+    name: &'a Name,
+    later: Slot,
+    earlier: Slot,
+    line: u32,
+}
+
+// The first of these earlier declarations that makes something else of the name of a declaration.
+fn clash_of<'a>(earlier: &[Declaration], what: &'a Declared) -> Option<Clash<'a>> {
+    let (name, later) = slot_of(what)?;
     for one in earlier {
-        match slot_of(&one.what) {
-            Some((other, before)) if other == *name => {
-                if !may_be_beside(before, slot) && !may_be_beside(slot, before) {
-                    return Some((before, one.line.0));
-                }
+        if let Some((other, before)) = slot_of(&one.what) {
+            if other == name && !may_be_beside(before, later) && !may_be_beside(later, before) {
+                return Some(Clash {
+                    name,
+                    later,
+                    earlier: before,
+                    line: one.line.0,
+                });
             }
-            _ => {}
         }
     }
     None
 }
 
-// The name in the line that an earlier declaration has, with both slots and the earlier line.
-fn repeated(read: &Read<'_>) -> Option<(Name, Slot, Slot, u32)> {
-    let mut count: usize = 0;
-    for (place, one) in read.all.iter().enumerate() {
-        if one.line.0 == read.line && count < LOOKED_AT {
-            count = count.saturating_add(1);
-            if let Some((name, slot)) = slot_of(&one.what) {
-                let earlier = read.all.get(..place).unwrap_or(&[]);
-                if let Some((before, line)) = clash_of(earlier, &name, slot) {
-                    return Some((name, before, slot, line));
-                }
-            }
-        }
-    }
-    None
+// The first name in the line that an earlier declaration makes something else of.
+fn clash_in(all: &[Declaration], line: u32) -> Option<Clash<'_>> {
+    let numbered = all.iter().enumerate();
+    let mut here = numbered.filter(|(_, one)| one.line.0 == line).take(LOOKED_AT);
+    here.find_map(|(place, one)| clash_of(all.get(..place).unwrap_or(&[]), &one.what))
 }
 
 // 51.
-fn explain_twice(page: &mut Page<'_>, read: &Read<'_>) -> Made<()> {
-    let Some((name, before, slot, earlier)) = repeated(read) else {
-        page.in_line(read.line, "it is said twice", &[])?;
+fn explain_twice(page: &mut Page<'_>, refused: &Refused<'_>) -> Made<()> {
+    let Some(clash) = clash_in(refused.all, refused.line) else {
+        page.in_line(refused.line, "it is said twice", &[])?;
         return page.cure("Leave the second of the two out, or use another name.", &[]);
     };
-    let (here, there) = (Words(slot_words(slot)), Words(slot_words(before)));
-    let words = "{} here, and {} in line {}";
-    page.name(
-        read.line,
-        name.bytes(),
-        words,
-        &[here, there, Line(earlier)],
-    )?;
-    page.show(earlier)?;
+    let name = clash.name.bytes();
+    let later = slot_words(clash.later);
+    let earlier = slot_words(clash.earlier);
+    let parts = [Words(later), Words(earlier), Line(clash.line)];
+    page.name(refused.line, name, "{} here, and {} in line {}", &parts)?;
+    page.show(clash.line)?;
     page.cure(
         "Use another name for one of the two, or leave out what says the same of {} again.",
-        &[Bytes(name.bytes())],
+        &[Bytes(name)],
     )
 }
 
@@ -164,8 +163,8 @@ fn real_of(what: &Declared) -> Option<Name> {
         Declared::Variable {
             variable,
             mode: ModeWord::Real,
-        }
-        | Declared::Local {
+        } => Some(*variable),
+        Declared::Local {
             variable,
             mode: ModeWord::Real,
             ..
@@ -174,222 +173,228 @@ fn real_of(what: &Declared) -> Option<Name> {
     }
 }
 
-// The name that a declaration gives no mode.
-fn modeless_of(what: &Declared) -> Option<Name> {
+// The attribute that a declaration gives, if no DEFINE gives it a mode.
+fn modeless_attribute(names: &Names, what: &Declared) -> Option<Name> {
     match what {
-        Declared::Attribute { attribute, .. } => Some(*attribute),
-        Declared::Parameter { parameter, .. } => Some(*parameter),
+        Declared::Attribute { attribute, .. } => {
+            Some(*attribute).filter(|name| !has_entry(&names.modes, name))
+        }
         _ => None,
     }
 }
 
-// The first name of the line that a declaration gives the mode REAL.
-fn real_in_line(read: &Read<'_>) -> Option<Name> {
-    let mut here = read.all.iter().filter(|one| one.line.0 == read.line);
-    here.find_map(|one| real_of(&one.what))
+// The local variable of a use, if nothing gives it a mode.
+fn modeless_local(names: &Names, locals: &Locals, one: &Use) -> Option<Name> {
+    let name = local_of(names, &one.what)?;
+    Some(name).filter(|name| matches!(locals.mode(name), Some(None)))
+}
+
+// The first local variable of the line that nothing gives a mode.
+fn modeless_use(names: &Names, locals: &Locals, uses: &[Use], line: u32) -> Option<Name> {
+    let mut here = uses.iter().filter(|one| one.line.0 == line);
+    here.find_map(|one| modeless_local(names, locals, one))
+}
+
+// The same, of a section.
+fn modeless_in(alloc: Global, names: &Names, section: &Section, line: u32) -> Made<Option<Name>> {
+    let uses = uses_of(alloc, section)?;
+    let locals = Locals::of(alloc, names, &uses)?;
+    Ok(modeless_use(names, &locals, &uses, line))
+}
+
+// The first name of the line that has no mode.
+fn modeless_name(alloc: Global, names: &Names, refused: &Refused<'_>) -> Made<Option<Name>> {
+    let line = refused.line;
+    let mut here = refused.all.iter().filter(|one| one.line.0 == line);
+    let mut found = here.find_map(|one| modeless_attribute(names, &one.what));
+    for section in &refused.program.sections {
+        if found.is_some() {
+            break;
+        }
+        found = modeless_in(alloc, names, section, line)?;
+    }
+    Ok(found)
+}
+
+// The same, by the table that is made of all declarations.
+fn modeless(alloc: Global, refused: &Refused<'_>) -> Made<Option<Name>> {
+    let (names, _clash) = Names::of(alloc, seed_of(refused.all), refused.all)?;
+    let found = modeless_name(alloc, &names, refused);
+    names.release();
+    found
+}
+
+// What helps where a name has no mode.
+fn mode_cure(all: &[Declaration]) -> &'static str {
+    let is_usual = all
+        .iter()
+        .any(|one| matches!(&one.what, Declared::Normally { .. }));
+    if is_usual {
+        "Write NORMALLY, MODE IS INTEGER: there is no REAL."
+    } else {
+        "Write NORMALLY, MODE IS INTEGER in the line after PREAMBLE, which gives a mode to all names, or a DEFINE for this one."
+    }
 }
 
 // 52.
-fn explain_mode(page: &mut Page<'_>, read: &Read<'_>) -> Made<()> {
-    if let Some(name) = real_in_line(read) {
-        page.name(read.line, name.bytes(), "it is said to be REAL", &[])?;
+fn explain_mode(page: &mut Page<'_>, refused: &Refused<'_>) -> Made<()> {
+    let line = refused.line;
+    let mut here = refused.all.iter().filter(|one| one.line.0 == line);
+    let real = here.find_map(|one| real_of(&one.what));
+    if let Some(name) = &real {
+        page.name(line, name.bytes(), "it is said to be REAL", &[])?;
         return page.cure(
             "Write INTEGER in place of REAL, and count in smaller units, as tenths; MEAN prints decimals.",
             &[],
         );
     }
-    match modeless_in_line(page.alloc(), read)? {
-        Some(name) => page.name(read.line, name.bytes(), "this name has no mode", &[])?,
-        None => page.in_line(read.line, "a name here has no mode", &[])?,
+    let name = modeless(page.alloc(), refused)?;
+    match &name {
+        Some(name) => page.name(line, name.bytes(), "this name has no mode", &[])?,
+        None => page.in_line(line, "a name here has no mode", &[])?,
     }
-    let mut all = read.all.iter();
-    let is_usual = all.any(|one| matches!(&one.what, Declared::Normally { .. }));
-    page.cure(
-        if is_usual {
-            "Write NORMALLY, MODE IS INTEGER: there is no REAL."
-        } else {
-            "Write NORMALLY, MODE IS INTEGER in the line after PREAMBLE, which gives a mode to all names, or a DEFINE for this one."
-        },
-        &[],
-    )
+    page.cure(mode_cure(refused.all), &[])
 }
 
-// Whether a declaration gives a name a meaning or a mode in all sections.
-fn is_global(all: &[Declaration], name: &Name) -> bool {
-    all.iter().any(|one| match slot_of(&one.what) {
-        Some((other, slot)) => {
-            other == *name && !matches!(slot, Slot::Inside(_) | Slot::Subject | Slot::Key)
-        }
-        None => false,
-    })
-}
-
-// Whether a DEFINE of a section or of the preamble gives a name a mode.
-fn is_defined(all: &[Declaration], name: &Name) -> bool {
-    all.iter().any(|one| match &one.what {
-        Declared::Variable { variable, .. } | Declared::Local { variable, .. } => variable == name,
-        _ => false,
-    })
-}
-
-// The first name of the line that has no mode.
-fn modeless_in_line(alloc: Global, read: &Read<'_>) -> Made<Option<Name>> {
-    let here = read.all.iter().filter(|one| one.line.0 == read.line);
-    for one in here.take(LOOKED_AT) {
-        match modeless_of(&one.what) {
-            Some(name) if !is_defined(read.all, &name) => return Ok(Some(name)),
-            _ => {}
-        }
-    }
-    let mut count: usize = 0;
-    for section in &read.program.sections {
-        for one in &uses_of(alloc, section)? {
-            if one.line.0 == read.line && count < LOOKED_AT {
-                count = count.saturating_add(1);
-                if let Some(name) = undeclared(read.all, &one.what) {
-                    return Ok(Some(name));
-                }
-            }
-        }
-    }
-    Ok(None)
-}
-
-// The name of a use that no declaration gives a mode.
-fn undeclared(all: &[Declaration], used: &Used) -> Option<Name> {
-    match used {
-        Used::Place {
-            place: Designator::Name(name),
-            subscripts: 0,
-            ..
-        } if !is_global(all, name) && !is_defined(all, name) => Some(*name),
-        _ => None,
-    }
-}
-
+// The names that are declared so.
 fn names_in(alloc: Global, all: &[Declaration], wanted: Slot) -> Made<Vec<Name>> {
     let mut found = Vec::new(alloc);
     for one in all {
-        match slot_of(&one.what) {
-            Some((name, slot)) if slot == wanted => found.push(name)?,
-            _ => {}
+        if let Some((name, slot)) = slot_of(&one.what) {
+            if slot == wanted {
+                found.push(*name)?;
+            }
         }
     }
     Ok(found)
 }
 
-// The first name of the line in one of these slots that is not among the known ones; where all are, the first.
-fn name_in_line(read: &Read<'_>, slots: &[Slot], known: &[Name]) -> Option<Name> {
+// As what a name that is declared so has to be declared too.
+fn wanted_beside(slot: Slot) -> Option<Slot> {
+    match slot {
+        Slot::Priority | Slot::Ties => Some(Slot::Notice),
+        Slot::Order | Slot::Member => Some(Slot::Owner),
+        Slot::Owner => Some(Slot::Member),
+        Slot::Key => Some(Slot::Attribute),
+        _ => None,
+    }
+}
+
+// The name of a declaration, if it has to be declared so too.
+fn name_wanting(what: &Declared, wanted: Slot) -> Option<Name> {
+    let (name, slot) = slot_of(what)?;
+    Some(*name).filter(|_| wanted_beside(slot) == Some(wanted))
+}
+
+// The first name in the line that has to be declared so too, and that is not among the known ones; where all are, the first.
+fn name_in_line(refused: &Refused<'_>, wanted: Slot, known: &[Name]) -> Option<Name> {
+    let line = refused.line;
+    let here = refused.all.iter().filter(|one| one.line.0 == line);
     let mut first = None;
-    let here = read.all.iter().filter(|one| one.line.0 == read.line);
     for one in here.take(LOOKED_AT) {
-        match slot_of(&one.what) {
-            Some((name, slot)) if slots.contains(&slot) => {
-                if !known.contains(&name) {
-                    return Some(name);
-                }
-                first = first.or(Some(name));
+        if let Some(name) = name_wanting(&one.what, wanted) {
+            if !known.contains(&name) {
+                return Some(name);
             }
-            _ => {}
+            first = first.or(Some(name));
         }
     }
     first
 }
 
-// Says that a name of the line, in one of these slots, is not among the known ones: what is wrong, and what helps, with the name in place of `{}`.
-fn explain_unknown(
+// Explains that a name in the line is not declared so too: what is wrong, and what helps, with the name in place of `{}`.
+fn explain_lack(
     page: &mut Page<'_>,
-    read: &Read<'_>,
-    slots: &[Slot],
-    known: &[Name],
-    (what, cure): (&str, &str),
+    refused: &Refused<'_>,
+    wanted: Slot,
+    what: &str,
+    cure: &str,
 ) -> Made<()> {
-    let Some(name) = name_in_line(read, slots, known) else {
-        return page.in_line(read.line, what, &[]);
+    let known = names_in(page.alloc(), refused.all, wanted)?;
+    let Some(name) = name_in_line(refused, wanted, known.as_slice()) else {
+        return page.in_line(refused.line, what, &[]);
     };
-    page.name(read.line, name.bytes(), what, &[])?;
-    if page.nearest(name.bytes(), known)? {
+    page.name(refused.line, name.bytes(), what, &[])?;
+    if page.nearest(name.bytes(), known.as_slice())? {
         return Ok(());
     }
     page.cure(cure, &[Bytes(name.bytes())])
 }
 
-// 53.
-fn explain_class(page: &mut Page<'_>, read: &Read<'_>) -> Made<()> {
-    let known = names_in(page.alloc(), read.all, Slot::Notice)?;
-    let slots = [Slot::Priority, Slot::Ties];
-    let words = (
-        "no event notice has this name",
-        "Write {} under EVENT NOTICES, or leave it out here.",
-    );
-    explain_unknown(page, read, &slots, known.as_slice(), words)
-}
-
-// 54, 55 and 56: a set that the line names in one slot, and nothing in another one.
-fn explain_set(page: &mut Page<'_>, read: &Read<'_>, slot: Slot, missing: Slot) -> Made<()> {
-    let known = names_in(page.alloc(), read.all, missing)?;
-    let words = match slot {
-        Slot::Member => (
-            "entities may belong to it, and nobody owns it",
-            "Write THE SYSTEM OWNS A {}, or OWNS it in an EVERY.",
-        ),
-        Slot::Owner => (
-            "it has an owner, and no class of members",
-            "Write MAY BELONG TO A {} in the EVERY of its members.",
-        ),
-        _ => (
-            "no set has this name",
-            "Write THE SYSTEM OWNS A {}, and MAY BELONG TO it in the EVERY of its members.",
-        ),
-    };
-    explain_unknown(page, read, &[slot], known.as_slice(), words)
-}
-
 // 57 and 60.
-fn explain_key(page: &mut Page<'_>, read: &Read<'_>, what: &str) -> Made<()> {
-    let known = names_in(page.alloc(), read.all, Slot::Attribute)?;
+fn explain_key(page: &mut Page<'_>, refused: &Refused<'_>, what: &str) -> Made<()> {
     let cure = "Give {} to the EVERY by HAS, or name an attribute that it has.";
-    explain_unknown(page, read, &[Slot::Key], known.as_slice(), (what, cure))
+    explain_lack(page, refused, Slot::Attribute, what, cure)
 }
 
 // What is wrong in the line, and what helps.
-fn explain_line(page: &mut Page<'_>, read: &Read<'_>, what: &str, cure: &str) -> Made<()> {
-    page.in_line(read.line, what, &[])?;
+fn explain_line(page: &mut Page<'_>, line: u32, what: &str, cure: &str) -> Made<()> {
+    page.in_line(line, what, &[])?;
     page.cure(cure, &[])
 }
 
-/// Explains a text that is refused for what it declares.
-pub fn explain_declared(page: &mut Page<'_>, program: &Program, error: &TableError) -> Made<()> {
-    let all = declarations_of(page.alloc(), program)?;
-    let (_, line) = error.order_of();
-    let read = &Read {
-        program,
-        all: all.as_slice(),
-        line,
-    };
+// Explains the rule that a program breaks.
+fn explain_rule(page: &mut Page<'_>, refused: &Refused<'_>, error: &TableError) -> Made<()> {
     match error {
-        TableError::Twice(_) => explain_twice(page, read),
-        TableError::RealMode(_) => explain_mode(page, read),
-        TableError::UnknownClass(_) => explain_class(page, read),
-        TableError::UnknownSet(_) => explain_set(page, read, Slot::Order, Slot::Owner),
-        TableError::NoOwner(_) => explain_set(page, read, Slot::Member, Slot::Owner),
-        TableError::NoMember(_) => explain_set(page, read, Slot::Owner, Slot::Member),
+        TableError::Twice(_) => explain_twice(page, refused),
+        TableError::RealMode(_) => explain_mode(page, refused),
+        TableError::UnknownClass(_) => explain_lack(
+            page,
+            refused,
+            Slot::Notice,
+            "no event notice has this name",
+            "Write {} under EVENT NOTICES, or leave it out here.",
+        ),
+        TableError::UnknownSet(_) => explain_lack(
+            page,
+            refused,
+            Slot::Owner,
+            "no set has this name",
+            "Write THE SYSTEM OWNS A {}, and MAY BELONG TO it in the EVERY of its members.",
+        ),
+        TableError::NoOwner(_) => explain_lack(
+            page,
+            refused,
+            Slot::Owner,
+            "entities may belong to it, and nobody owns it",
+            "Write THE SYSTEM OWNS A {}, or OWNS it in an EVERY.",
+        ),
+        TableError::NoMember(_) => explain_lack(
+            page,
+            refused,
+            Slot::Member,
+            "it has an owner, and no class of members",
+            "Write MAY BELONG TO A {} in the EVERY of its members.",
+        ),
         TableError::RankKey(_) => {
-            explain_key(page, read, "it is no attribute of the set's members")
+            explain_key(page, refused, "it is no attribute of the set's members")
         }
-        TableError::TieKey(_) => explain_key(page, read, "it is no attribute of the event notice"),
+        TableError::TieKey(_) => {
+            explain_key(page, refused, "it is no attribute of the event notice")
+        }
         TableError::TallyTwice(_) => explain_line(
             page,
-            read,
+            refused.line,
             "this name has a TALLY or an ACCUMULATE already",
             "Name all statistics of it in one TALLY or ACCUMULATE, or give it to a second variable by LET.",
         ),
         TableError::TooMany(_) => explain_line(
             page,
-            read,
+            refused.line,
             "more than 64 of them",
             "Use one class with an attribute in place of many classes.",
         ),
         TableError::Memory => Ok(()),
     }
+}
+
+/// Explains a text that is refused for what it declares.
+pub fn explain_declared(page: &mut Page<'_>, program: &Program, error: &TableError) -> Made<()> {
+    let all = declarations_of(page.alloc(), program)?;
+    let refused = Refused {
+        program,
+        all: all.as_slice(),
+        line: error.order_of().1,
+    };
+    explain_rule(page, &refused, error)
 }

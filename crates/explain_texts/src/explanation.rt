@@ -1,10 +1,10 @@
 //! The explanation of a refusal.
 
-ghost use Rattle.std.specs.Prelude.{◌≡◌, IfOk, None};
-ghost use Rattle.ss_tree.specs.View.{view_program};
-ghost use Rattle.ss_tables.specs.Tables.{AreTablesOf};
-ghost use Rattle.ss_check_rules.specs.Refusal.{refusal_of_uses};
-ghost use Rattle.explain_texts.specs.Judged.{IsWrong, first_wrong, wrong_in};
+ghost use Rattle.std.specs.Prelude.{◌≡◌, Some, None, IfOk, option_map};
+ghost use Rattle.ss_tree.specs.View.{view_program_tree};
+ghost use Rattle.ss_names.specs.Table.{table};
+ghost use Rattle.ss_tables_rules.specs.Broken.{refusal_of_declarations};
+ghost use Rattle.explain_texts.specs.Judged.{IsJudged, AreJudged, IsTreeJudged, IsWrong, refusal_for_uses, refusal_of};
 
 use crate::declared::explain_declared;
 use crate::notes::add_notes;
@@ -14,8 +14,8 @@ use explain_cures::syntax::{explain_depth, explain_syntax};
 use explain_pages::{Made, Page};
 use ss_check_rules::{CheckError, judge};
 use ss_engine::Refusal;
-use ss_lex::{LexError, Tokens, tokens};
-use ss_names_declarations::Breach;
+use ss_lex::{LexError, Token, Tokens, tokens};
+use ss_names::Names;
 use ss_parse::{ParseError, Reach, parse, reach_of};
 use ss_tables::{TableError, Tables};
 use ss_tree::program::Program;
@@ -31,106 +31,128 @@ pub enum Wrong {
     Used(CheckError),
 }
 
-impl Wrong {
-    /// The number of the refusal.
-    pub fn number(&self) -> u32 {
-        match self {
-            Wrong::Lexed(error) => Refusal::from(*error).number(),
-            Wrong::Parsed(error) => Refusal::from(*error).number(),
-            Wrong::Declared(error) => Breach::order_of(error).0,
-            Wrong::Used(error) => used_number(error),
+// What is wrong with a text that is refused so.
+fn wrong_of(refusal: Option<Refusal>) -> Made<Option<Wrong>>
+    ensures { IfOk result (λ wrong. refusal ≡ option_map refusal_of wrong) }
+{
+    match refusal {
+        None => Ok(None),
+        Some(Refusal::Lexed(error)) => Ok(Some(Wrong::Lexed(error))),
+        Some(Refusal::Parsed(error)) => Ok(Some(Wrong::Parsed(error))),
+        Some(Refusal::Declared(error)) => Ok(Some(Wrong::Declared(error))),
+        Some(Refusal::Used(error)) => Ok(Some(Wrong::Used(error))),
+        Some(Refusal::CodeTooLong) => Err(AllocError),
+        Some(Refusal::Memory) => Err(AllocError),
+    }
+}
+
+// A refusal, once it is explained.
+fn refused(explained: Made<()>, refusal: Refusal) -> Made<Option<Refusal>>
+    ensures { IfOk result (λ found. found ≡ Some refusal) }
+{
+    explained?;
+    Ok(Some(refusal))
+}
+
+// Explains where the reading of tokens stops.
+fn explain_reach(page: &mut Page<'_>, tokens: &[Token]) -> Made<()> {
+    match reach_of(page.alloc(), tokens)? {
+        Reach::Whole => Ok(()),
+        Reach::Stopped(at) => explain_syntax(page, tokens, at),
+        Reach::TooDeep(at) => explain_depth(page, tokens, at),
+    }
+}
+
+// Explains the rule that a program breaks by what it does with its names. It adds notes where there is none.
+fn explain_rules(
+    page: &mut Page<'_>,
+    read: &Read<'_>,
+    broken: Option<CheckError>,
+) -> Made<Option<Refusal>>
+    ensures { IfOk result (λ found. found ≡ refusal_for_uses broken) }
+{
+    match broken {
+        Some(error) => {
+            let explained = explain_used(page, read, &error);
+            refused(explained, Refusal::from(error))
+        }
+        None => {
+            add_notes(page, read)?;
+            Ok(None)
         }
     }
 }
 
-// The number of a refusal for what a program does with its names.
-fn used_number(error: &CheckError) -> u32 {
-    match error {
-        CheckError::NoMain(_) => 71,
-        CheckError::NoEventRoutine(_) => 72,
-        CheckError::Mode(_) => 73,
-        CheckError::Arguments(_) => 74,
-        CheckError::Subscript(_) => 75,
-        CheckError::NotAssignable(_) => 76,
-        CheckError::Fields(_) => 77,
-        CheckError::StartPlace(_) => 78,
-        CheckError::Unknown(_) => 79,
-        CheckError::Memory => 0,
-    }
-}
-
-fn explain_tokens(page: &mut Page<'_>, all: &Tokens) -> Made<()> {
-    match reach_of(page.alloc(), all.list())? {
-        Reach::Whole => Ok(()),
-        Reach::Stopped(at) => explain_syntax(page, all.list(), at),
-        Reach::TooDeep(at) => explain_depth(page, all.list(), at),
-    }
-}
-
-// The rule that a program breaks by what it does with its names, explained; notes where it breaks none.
-fn explain_names(page: &mut Page<'_>, program: &Program, tables: &Tables) -> Made<Option<Wrong>>
-    requires { AreTablesOf (view_program program.now) tables.now }
-    ensures { IfOk result (λ wrong. wrong ≡ first_wrong None (refusal_of_uses (view_program program.now))) }
+// The same for a program that breaks no rule on what it declares, by its table of names.
+fn explain_names(page: &mut Page<'_>, program: &Program, names: &Names) -> Made<Option<Refusal>>
+    requires names { names.now ≡ table (view_program_tree program.now) }
+    requires declared { refusal_of_declarations (view_program_tree program.now) ≡ None }
+    ensures { IfOk result (IsTreeJudged (view_program_tree program.now)) }
 {
-    let names = tables.names();
     let (broken, locals) = judge(page.alloc(), program, names)?;
-    let uses = all_uses(page.alloc(), program)?;
+    let uses = all_uses(page.alloc(), &program.sections)?;
     let read = Read {
         program,
         names,
         uses: uses.as_slice(),
         locals: locals.as_slice(),
     };
-    match broken {
-        Some(error) => {
-            explain_used(page, &read, &error)?;
-            Ok(Some(Wrong::Used(error)))
-        }
-        None => {
-            add_notes(page, &read)?;
-            Ok(None)
-        }
-    }
+    explain_rules(page, &read, broken)
 }
 
-// The rule that a program breaks, explained; notes where it breaks none.
-fn explain_program(page: &mut Page<'_>, program: &Program) -> Made<Option<Wrong>>
-    ensures { IfOk result (λ wrong. wrong ≡ wrong_in (view_program program.now)) }
+// Explains the first rule that a program breaks. It adds notes where there is none.
+fn explain_program(page: &mut Page<'_>, program: &Program) -> Made<Option<Refusal>>
+    ensures { IfOk result (IsTreeJudged (view_program_tree program.now)) }
 {
     match Tables::of(page.alloc(), program) {
-        Err(TableError::Memory) => Err(AllocError),
-        Err(error) => {
-            explain_declared(page, program, &error)?;
-            Ok(Some(Wrong::Declared(error)))
+        Ok(tables) => {
+            let names = tables.into_names();
+            let answer = explain_names(page, program, &names);
+            names.release();
+            answer
         }
-        Ok(tables) => explain_names(page, program, &tables),
+        Err(error) => {
+            let explained = explain_declared(page, program, &error);
+            refused(explained, Refusal::from(error))
+        }
     }
 }
 
-// What is wrong with a text, which the page is about, without its rule.
-#[tactic(auto, using(crate::proofs::Wrongs::spelled_wrong))]
-fn explain_whole(page: &mut Page<'_>, text: &[u8]) -> Made<Option<Wrong>>
-    ensures { IfOk result (IsWrong text.now) }
+// Explains why the text of these tokens is refused. It adds notes where it is not.
+fn explain_tokens(page: &mut Page<'_>, all: &Tokens) -> Made<Option<Refusal>>
+    ensures { IfOk result (AreJudged all.now.list) }
 {
-    let all = match tokens(page.alloc(), text) {
-        Ok(all) => all,
-        Err(LexError::Memory) => return Err(AllocError),
-        Err(error) => {
-            page.explain_lexical(&error)?;
-            return Ok(Some(Wrong::Lexed(error)));
-        }
-    };
-    match parse(page.alloc(), &all) {
+    match parse(page.alloc(), all) {
         Ok(program) => {
             let answer = explain_program(page, &program);
             release_tree(program);
             answer
         }
-        Err(ParseError::Memory) => Err(AllocError),
         Err(error) => {
-            explain_tokens(page, &all)?;
-            Ok(Some(Wrong::Parsed(error)))
+            let explained = explain_reach(page, all.list());
+            refused(explained, Refusal::from(error))
         }
+    }
+}
+
+// Explains why a text is refused, which the page is about. It adds notes where it is not.
+fn explain_whole(page: &mut Page<'_>, text: &[u8]) -> Made<Option<Refusal>>
+    ensures { IfOk result (IsJudged text.now) }
+{
+    match tokens(page.alloc(), text) {
+        Ok(all) => explain_tokens(page, &all),
+        Err(error) => {
+            let explained = page.explain_lexical(&error);
+            refused(explained, Refusal::from(error))
+        }
+    }
+}
+
+// Adds the rule of a refusal, if there is one.
+fn add_rule(page: &mut Page<'_>, refusal: &Option<Refusal>) -> Made<()> {
+    match refusal {
+        Some(refusal) => page.rule(refusal.number()),
+        None => Ok(()),
     }
 }
 
@@ -141,9 +163,8 @@ pub fn explain_text<'a>(alloc: Global, text: &'a [u8]) -> Made<(Page<'a>, Option
     ensures { IfOk result (λ answer. IsWrong text.now answer.1) }
 {
     let mut page = Page::about(alloc, text);
-    let wrong = explain_whole(&mut page, text)?;
-    if let Some(wrong) = &wrong {
-        page.rule(wrong.number())?;
-    }
+    let refusal = explain_whole(&mut page, text)?;
+    add_rule(&mut page, &refusal)?;
+    let wrong = wrong_of(refusal)?;
     Ok((page, wrong))
 }

@@ -4,8 +4,12 @@
 mod counts;
 mod declared;
 mod explanation;
+mod locals;
+mod modes;
+mod needs;
 mod notes;
 mod sections;
+mod statements;
 mod used;
 
 pub use explain_pages::{Made, Page, Part, line_bytes, unindented};
