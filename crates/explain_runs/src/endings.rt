@@ -1,10 +1,12 @@
 //! How a run ended, in words: for a fault its line, the time, the section, the data, the entities, and what helps.
 
+ghost use Rattle.std.specs.Prelude.{◌≡◌};
+
 use crate::guide::{Guide, section_at};
 use crate::kept::Kept;
 use crate::looks::{class_of, instruction, number, time};
 use crate::references::{Reference, owner_of, subject_of};
-use crate::shows::{next_tick, section_page};
+use crate::shows::{add_section, next_tick};
 use explain_texts::Part::{Bytes, Count, Line, Whole, Words};
 use explain_texts::{Made, Page};
 use ss_base::{ClassKind, FaultKind, FaultyRead, FaultyWrite, Name};
@@ -13,13 +15,9 @@ use ss_engine::{Session, Stop};
 use ss_machine::Machine;
 
 fn add_place(page: &mut Page<'_>, machine: &Machine, guide: &Guide<'_>) -> Made<()> {
-    let section = section_page(guide, section_at(machine.code(), machine.here().place))?;
-    let parts = [
-        Whole(time(machine)),
-        Bytes(section.bytes()),
-        Count(machine.used()),
-    ];
-    page.line("At the time {}, in {}, after {} ticks.", &parts)
+    page.say("At the time {}, in ", &[Whole(time(machine))])?;
+    add_section(page, guide, section_at(machine.code(), machine.here().place))?;
+    page.line(", after {} ticks.", &[Count(machine.used())])
 }
 
 // Adds the word of the data that was read last.
@@ -38,12 +36,19 @@ fn add_word<R: FaultyRead, W: FaultyWrite>(
 
 // The class of the entity that a reference is to, where it is another than it has to be.
 fn other_class(machine: &Machine, guide: &Guide<'_>, reference: &Reference) -> Option<Name> {
-    let entity = number(machine, &reference.address)?;
-    let found = class_of(machine, entity)?;
+    let found = class_of(machine, number(machine, &reference.address)?)?;
     if Some(found) == reference.class {
         None
     } else {
         guide.class_name(found)
+    }
+}
+
+// Adds a name after these words, if there is one.
+fn add_name(page: &mut Page<'_>, words: &str, name: Option<Name>) -> Made<()> {
+    match name {
+        Some(name) => page.say(words, &[Bytes(name.bytes())]),
+        None => Ok(()),
     }
 }
 
@@ -62,17 +67,13 @@ fn add_reference(
         return Ok(());
     };
     page.say(words, &[])?;
-    if let Some(class) = reference.class {
-        if let Some(name) = guide.class_name(class) {
-            page.say(" {}", &[Bytes(name.bytes())])?;
-        }
-    }
+    let Some(class) = reference.class else {
+        return page.line(" has the number {}.", &[Whole(found)]);
+    };
+    add_name(page, " {}", guide.class_name(class))?;
     page.say(" has the number {}", &[Whole(found)])?;
-    if reference.class.is_some() {
-        if let Some(name) = other_class(machine, guide, &reference) {
-            page.say(", which is of the class {}", &[Bytes(name.bytes())])?;
-        }
-    }
+    let other = other_class(machine, guide, &reference);
+    add_name(page, ", which is of the class {}", other)?;
     page.line(".", &[])
 }
 
@@ -91,13 +92,19 @@ fn has_entity(kind: FaultKind) -> bool {
     )
 }
 
-fn is_notice(guide: &Guide<'_>, class: Option<usize>) -> bool {
-    let kind = guide
-        .names
-        .classes
-        .values()
-        .get(class.unwrap_or(usize::MAX));
+// Whether a reference has to be to a notice of one class.
+fn is_to_notice(guide: &Guide<'_>, reference: &Reference) -> bool {
+    let kinds = guide.names.classes.values();
+    let kind = reference.class.and_then(|class| kinds.get(class));
     matches!(kind, Some(ClassKind::Notice))
+}
+
+// Whether the instruction at which a machine is asks for a statistic.
+fn asks_statistic(machine: &Machine) -> bool {
+    matches!(
+        instruction(machine),
+        Some(Instruction::Figure { .. } | Instruction::LookMean { .. })
+    )
 }
 
 // Adds what helps against a fault, by what the instruction does at which the run rests.
@@ -106,32 +113,39 @@ fn add_cure(
     machine: &Machine,
     guide: &Guide<'_>,
     kind: FaultKind,
-    subject: Option<Reference>,
 ) -> Made<()> {
-    let asks_statistic = matches!(
-        instruction(machine),
-        Some(Instruction::Figure { .. } | Instruction::LookMean { .. })
-    );
-    let class = subject.and_then(|subject| subject.class);
-    let other = match &subject {
-        Some(subject) => other_class(machine, guide, subject),
-        None => None,
-    };
-    match (kind, other) {
-        (FaultKind::DestroyedEntity, _) if is_notice(guide, class) => page.cure(
-            "An event destroys its notice as it begins. Write SCHEDULE A or AN for a new notice, or SAVING THE EVENT NOTICE in the head of its EVENT.",
-            &[],
-        ),
-        (FaultKind::DestroyedEntity | FaultKind::NoEntity, _) if asks_statistic => page.cure(
-            "This statistic is of an attribute, so each entity has its own, which goes with it. For figures of all, TALLY a variable that is no attribute.",
-            &[],
-        ),
-        (FaultKind::Index | FaultKind::WrongClass, Some(name)) => page.cure(
-            "The number is that of a {}. Look whether values are GIVEN in the order in which they are taken, and which variable holds the reference here.",
-            &[Bytes(name.bytes())],
-        ),
-        _ => page.cure(words_of(&CURES, kind.number()), &[]),
+    if let Some(subject) = subject_of(machine) {
+        if kind == FaultKind::DestroyedEntity && is_to_notice(guide, &subject) {
+            return page.cure(NOTICE_CURE, &[]);
+        }
+        if kind == FaultKind::Index || kind == FaultKind::WrongClass {
+            if let Some(name) = other_class(machine, guide, &subject) {
+                return page.cure(OTHER_CURE, &[Bytes(name.bytes())]);
+            }
+        }
     }
+    let is_of_entity = kind == FaultKind::DestroyedEntity || kind == FaultKind::NoEntity;
+    if is_of_entity && asks_statistic(machine) {
+        return page.cure(STATISTIC_CURE, &[]);
+    }
+    page.cure(words_of(&CURES, kind.number()), &[])
+}
+
+// Adds what is known of a run whose ticks are used up, before a tick in this line.
+fn add_due(page: &mut Page<'_>, machine: &Machine, guide: &Guide<'_>, line: u32) -> Made<()> {
+    let words = "The ticks are used up, and the next would be due in line {}:";
+    page.line(words, &[Line(line)])?;
+    page.show(line)?;
+    add_place(page, machine, guide)?;
+    if let Some(Instruction::Turn | Instruction::Take { .. }) = instruction(machine) {
+        return page.cure(LOOP_CURE, &[]);
+    }
+    for (name, line) in &guide.returning {
+        let words = "EVENT {} schedules itself each time:";
+        page.line(words, &[Bytes(name.bytes())])?;
+        page.show(line.0)?;
+    }
+    page.cure(EVENTS_CURE, &[])
 }
 
 // Adds what is known of a run whose ticks are used up.
@@ -139,27 +153,11 @@ fn add_pause<R: FaultyRead, W: FaultyWrite>(
     page: &mut Page<'_>,
     session: &mut Session<R, W>,
     guide: &Guide<'_>,
-) -> Made<()> {
+) -> Made<()>
+    ensures { session.new ≡ session.old }
+{
     let line = next_tick(session, guide).line;
-    let words = "The ticks are used up, and the next would be due in line {}:";
-    page.line(words, &[Line(line)])?;
-    page.show(line)?;
-    add_place(page, session.machine(), guide)?;
-    if let Some(Instruction::Turn | Instruction::Take { .. }) = instruction(session.machine()) {
-        return page.cure(
-            "Give more --ticks. If the run should have ended, look whether something in the loop changes what it ends by. A loop takes no time.",
-            &[],
-        );
-    }
-    for (name, line) in &guide.returning {
-        let words = "EVENT {} schedules itself each time:";
-        page.line(words, &[Bytes(name.bytes())])?;
-        page.show(line.0)?;
-    }
-    page.cure(
-        "Give more --ticks. If the run should have ended, look for an event that schedules itself each time: put its SCHEDULE into an IF, as IF TIME.V LT 480 .. ALWAYS.",
-        &[],
-    )
+    add_due(page, session.machine(), guide, line)
 }
 
 // Adds what is known of a fault to which a run came in a line.
@@ -176,38 +174,58 @@ fn add_fault<R: FaultyRead, W: FaultyWrite>(
     page.show(line)?;
     let machine = session.machine();
     add_place(page, machine, guide)?;
-    let code = machine.code();
-    let (subject, owner) = match instruction(machine) {
-        Some(instruction) => (
-            subject_of(code.layout(), code.statistics(), &instruction),
-            owner_of(code.layout(), &instruction),
-        ),
-        None => (None, None),
-    };
     if has_entity(kind) {
-        add_reference(page, machine, guide, "The entity", subject)?;
-        add_reference(page, machine, guide, "The owner", owner)?;
+        add_reference(page, machine, guide, "The entity", subject_of(machine))?;
+        add_reference(page, machine, guide, "The owner", owner_of(machine))?;
     }
     add_word(page, session)?;
-    add_cure(page, machine, guide, kind, subject)?;
+    add_cure(page, machine, guide, kind)?;
     let parts = [Count(u64::from(number)), name];
     page.line("Read: docs/LANGUAGE.md, {} {}", &parts)
 }
 
-/// A page with what is known of how a run ended: of a fault, or of ticks that are used up.
+// Adds what is known of how a run ended.
+fn add_ending<R: FaultyRead, W: FaultyWrite>(
+    page: &mut Page<'_>,
+    session: &mut Session<Kept<R>, W>,
+    guide: &Guide<'_>,
+    stop: Stop,
+) -> Made<()>
+    ensures { session.new ≡ session.old }
+{
+    match stop {
+        Stop::Fault(kind, line) => add_fault(page, session, guide, kind, line.0),
+        Stop::Paused => add_pause(page, session, guide),
+        _ => Ok(()),
+    }
+}
+
+/// A page with what is known of how a run ended: of a fault, or of ticks that are used up. The session stays as it is.
 pub fn ending_of<'a, R: FaultyRead, W: FaultyWrite>(
     guide: &Guide<'a>,
     session: &mut Session<Kept<R>, W>,
     stop: Stop,
-) -> Made<Page<'a>> {
+) -> Made<Page<'a>>
+    ensures { session.new ≡ session.old }
+{
     let mut page = Page::about(guide.alloc, guide.text);
-    match stop {
-        Stop::Fault(kind, line) => add_fault(&mut page, session, guide, kind, line.0)?,
-        Stop::Paused => add_pause(&mut page, session, guide)?,
-        _ => {}
-    }
+    add_ending(&mut page, session, guide, stop)?;
     Ok(page)
 }
+
+/// What helps where an event uses its own notice.
+const NOTICE_CURE: &str = "An event destroys its notice as it begins. Write SCHEDULE A or AN for a new notice, or SAVING THE EVENT NOTICE in the head of its EVENT.";
+
+/// What helps where a statistic of an attribute is asked of no entity.
+const STATISTIC_CURE: &str = "This statistic is of an attribute, so each entity has its own, which goes with it. For figures of all, TALLY a variable that is no attribute.";
+
+/// What helps where an entity is of another class, which is the part of it.
+const OTHER_CURE: &str = "The number is that of a {}. Look whether values are GIVEN in the order in which they are taken, and which variable holds the reference here.";
+
+/// What helps where the ticks were used up in a loop, or by events.
+const LOOP_CURE: &str = "Give more --ticks. If the run should have ended, look whether something in the loop changes what it ends by. A loop takes no time.";
+
+const EVENTS_CURE: &str = "Give more --ticks. If the run should have ended, look for an event that schedules itself each time: put its SCHEDULE into an IF, as IF TIME.V LT 480 .. ALWAYS.";
 
 /// What each fault means, in the order of their numbers from 1.
 static MEANINGS: [&str; 22] = [

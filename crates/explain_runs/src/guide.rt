@@ -1,14 +1,17 @@
 //! What a run is read by: the model, and the names of its program.
 
+ghost use Rattle.std.specs.Prelude.{IfOk, IfErr};
+ghost use Rattle.ss_engine.specs.Accepting.{IsCompiledTo, IsRefusedWith};
+
 use explain_texts::Made;
 use ss_base::{Line, Name};
 use ss_code::code::Code;
 use ss_code::model::Model;
 use ss_engine::{Refusal, compile};
-use ss_lex::tokens;
+use ss_lex::{Tokens, tokens};
 use ss_names::Names;
 use ss_parse::parse;
-use ss_tables::{TableError, Tables};
+use ss_tables::Tables;
 use ss_tree::program::{Program, SectionKind};
 use ss_tree::release::release_tree;
 use ss_tree::statement::Statement;
@@ -68,33 +71,39 @@ fn returning_events(alloc: Global, program: &Program) -> Made<Vec<(Name, Line)>>
     Ok(found)
 }
 
-// What the run of a text is read by, from its program; None where it breaks a rule.
-fn guide_of<'a>(alloc: Global, text: &'a [u8], program: &Program) -> Made<Option<Guide<'a>>> {
+// What the run of a text is read by, from its program. The error comes where memory was refused, and where a rule is broken.
+fn guide_of<'a>(alloc: Global, text: &'a [u8], program: &Program) -> Made<Guide<'a>> {
+    let lines = lines_of(alloc, program)?;
+    let returning = returning_events(alloc, program)?;
     match Tables::of(alloc, program) {
-        Ok(tables) => Ok(Some(Guide {
+        Ok(tables) => Ok(Guide {
             alloc,
             text,
             names: tables.into_names(),
-            lines: lines_of(alloc, program)?,
-            returning: returning_events(alloc, program)?,
-        })),
-        Err(TableError::Memory) => Err(AllocError),
-        Err(_) => Ok(None),
+            lines,
+            returning,
+        }),
+        Err(_) => Err(AllocError),
     }
 }
 
-// What the run of a text is read by; None where it is no program.
-fn read_guide<'a>(alloc: Global, text: &'a [u8]) -> Made<Option<Guide<'a>>> {
-    let Ok(all) = tokens(alloc, text) else {
-        return Ok(None);
-    };
-    match parse(alloc, &all) {
+// What the run of a text with these tokens is read by. The error comes as above, and where they spell no program.
+fn parsed_guide<'a>(alloc: Global, text: &'a [u8], all: &Tokens) -> Made<Guide<'a>> {
+    match parse(alloc, all) {
         Ok(program) => {
             let guide = guide_of(alloc, text, &program);
             release_tree(program);
             guide
         }
-        Err(_) => Ok(None),
+        Err(_) => Err(AllocError),
+    }
+}
+
+// What the run of a text is read by. The error comes as above, and where it has no tokens.
+fn read_guide<'a>(alloc: Global, text: &'a [u8]) -> Made<Guide<'a>> {
+    match tokens(alloc, text) {
+        Ok(all) => parsed_guide(alloc, text, &all),
+        Err(_) => Err(AllocError),
     }
 }
 
@@ -102,14 +111,17 @@ fn read_guide<'a>(alloc: Global, text: &'a [u8]) -> Made<Option<Guide<'a>>> {
 ///
 /// # Errors
 /// The refusal of `compile`.
-pub fn compile_with_names<'a>(
-    alloc: Global,
-    text: &'a [u8],
-) -> Result<(Model, Guide<'a>), Refusal> {
-    let model = compile(alloc, text)?;
+pub fn compile_with_names<'a>(alloc: Global, text: &'a [u8]) -> Result<(Model, Guide<'a>), Refusal>
+    ensures accepted { IfOk result (λ both. IsCompiledTo text.now both.0) }
+    ensures refused { IfErr result (λ refusal. IsRefusedWith text.now refusal) }
+{
+    let model = match compile(alloc, text) {
+        Ok(model) => model,
+        Err(refusal) => return Err(refusal),
+    };
     match read_guide(alloc, text) {
-        Ok(Some(guide)) => Ok((model, guide)),
-        Ok(None) | Err(_) => {
+        Ok(guide) => Ok((model, guide)),
+        Err(_) => {
             model.release();
             Err(Refusal::Memory)
         }
@@ -136,8 +148,7 @@ impl Guide<'_> {
 
     /// The rank of a class of notices.
     pub fn rank_of(&self, class: usize) -> Option<usize> {
-        let mut ranks = self.names.ranks.as_slice().iter();
-        ranks.position(|ranked| *ranked == class)
+        self.names.ranks.place(&class)
     }
 
     /// The line of the section of an event.

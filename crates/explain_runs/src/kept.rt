@@ -1,20 +1,16 @@
 //! A reader that keeps the last bytes which it gave, so that the word read last can be shown.
 
-ghost use Rattle.std.specs.Prelude.{◌≡◌};
-
 use ss_base::{Faulty, FaultyRead};
 use std::io;
 
 /// How many bytes are kept.
 const ROOM: usize = 8192;
 
-/// A reader that keeps the last bytes which it gave, and counts the lines before them.
+/// The last bytes that were read, and the line and the column of the first of them, from 1.
 #[derive(Drop)]
-pub struct Kept<R> {
-    inner: R,
+struct LastBytes {
     room: [u8; ROOM],
     count: usize,
-    /// The line and the column of the first byte that is kept, from 1.
     line: u64,
     column: u64,
 }
@@ -44,19 +40,8 @@ fn place_after(bytes: &[u8], line: u64, column: u64) -> (u64, u64) {
     }
 }
 
-impl<R> Kept<R> {
-    /// A reader of which nothing was read.
-    pub fn new(inner: R) -> Kept<R> {
-        Kept {
-            inner,
-            room: [0; ROOM],
-            count: 0,
-            line: 1,
-            column: 1,
-        }
-    }
-
-    // Forgets so many of the first bytes that are kept.
+impl LastBytes {
+    // Forgets so many of the first bytes.
     fn forget(&mut self, count: usize) {
         let count = count.min(self.count).min(ROOM);
         let (line, column) = place_after(&self.room[..count], self.line, self.column);
@@ -66,7 +51,7 @@ impl<R> Kept<R> {
         self.count = self.count.saturating_sub(count);
     }
 
-    // Keeps these bytes, the last of them where they are too many.
+    // Keeps these bytes too, the last of them where they are too many.
     fn keep(&mut self, bytes: &[u8]) {
         let wanted = self.count.saturating_add(bytes.len());
         self.forget(wanted.saturating_sub(ROOM));
@@ -78,9 +63,9 @@ impl<R> Kept<R> {
         }
     }
 
-    /// The last word before a place, which so many of the bytes that were given come after. None where there is none.
-    pub fn word_before(&self, unread: usize) -> Option<DataWord<'_>> {
-        let passed = self.count.min(ROOM).saturating_sub(unread);
+    // The last word before a place, which so many of the bytes come after. None where there is none.
+    fn word_before(&self, unread: usize) -> Option<DataWord<'_>> {
+        let passed = self.count.saturating_sub(unread);
         let bytes = self.room.get(..passed)?;
         let last = bytes.iter().rposition(|byte| !is_separator(*byte))?;
         let word = bytes.get(..last.saturating_add(1))?;
@@ -92,6 +77,33 @@ impl<R> Kept<R> {
             line,
             column,
         })
+    }
+}
+
+/// A reader that keeps the last bytes which it gave, and counts the lines before them.
+#[derive(Drop)]
+pub struct Kept<R> {
+    inner: R,
+    last: LastBytes,
+}
+
+impl<R> Kept<R> {
+    /// A reader of which nothing was read.
+    pub fn new(inner: R) -> Kept<R> {
+        Kept {
+            inner,
+            last: LastBytes {
+                room: [0; ROOM],
+                count: 0,
+                line: 1,
+                column: 1,
+            },
+        }
+    }
+
+    /// The last word before a place, which so many of the bytes that were given come after. None where there is none.
+    pub fn word_before(&self, unread: usize) -> Option<DataWord<'_>> {
+        self.last.word_before(unread)
     }
 }
 
@@ -110,7 +122,7 @@ impl<R: FaultyRead> FaultyRead for Kept<R> {
         let answer = self.inner.read_some(buf);
         if let Ok(count) = &answer {
             let given = (*count).min(buf.len());
-            self.keep(&buf[..given]);
+            self.last.keep(&buf[..given]);
         }
         answer
     }

@@ -1,6 +1,9 @@
 //! What is asked of a machine that rests. None is the answer where there is nothing of that kind.
 
-use ss_base::{Mode, Value};
+ghost use Rattle.std.specs.Prelude.{◌↔◌, ◌<◌, IsTrue, length};
+ghost use Rattle.ss_world.specs.State.{modes_of};
+
+use ss_base::{Layout, Mode, Value};
 use ss_code_instructions::address::Address;
 use ss_code_instructions::instruction::Instruction;
 use ss_machine::Machine;
@@ -19,14 +22,13 @@ pub fn time(machine: &Machine) -> i64 {
 /// The value of this mode at a place of the rows: the global variables lie in the first places, by their numbers.
 pub fn value(machine: &Machine, place: usize, mode: Mode) -> Option<Value> {
     let rows = &machine.state().rows;
-    if place < rows.len() {
-        Some(match mode {
-            Mode::Integer => Value::Whole(rows.number_at(place)),
-            Mode::Alpha => Value::Text(rows.text_at(place)),
-        })
-    } else {
-        None
+    if place >= rows.len() {
+        return None;
     }
+    Some(match mode {
+        Mode::Integer => Value::Whole(rows.number_at(place)),
+        Mode::Alpha => Value::Text(rows.text_at(place)),
+    })
 }
 
 /// The whole number at an address of the present frame.
@@ -38,18 +40,26 @@ pub fn number(machine: &Machine, address: &Address) -> Option<i64> {
     }
 }
 
-/// An attribute of an entity.
-pub fn attribute(machine: &Machine, class: usize, field: usize, entity: i64) -> Option<Value> {
-    let population = &machine.state().world.population;
-    let known = population.layout().classes.get(class)?;
-    if field < known.fields.len() {
-        population.value(class, field, entity).ok()
-    } else {
-        None
+// Whether there is a class of this number, with a field of this number.
+fn has_field(layout: &Layout, class: usize, field: usize) -> bool
+    ensures { IsTrue result ↔ ((class < length layout.now.classes) × (field < length (modes_of layout.now class))) }
+{
+    match layout.classes.get(class) {
+        Some(found) => field < found.fields.len(),
+        None => false,
     }
 }
 
-/// NUMBER, SUM, MAXIMUM or MINIMUM of a statistic of an entity, 0 where it has none. None where a sum is an OVERFLOW too.
+/// An attribute of an entity.
+pub fn attribute(machine: &Machine, class: usize, field: usize, entity: i64) -> Option<Value> {
+    let population = &machine.state().world.population;
+    if !has_field(population.layout(), class, field) {
+        return None;
+    }
+    population.value(class, field, entity).ok()
+}
+
+/// NUMBER, SUM, MAXIMUM or MINIMUM of a statistic of an entity. None where it has none, or a sum is an OVERFLOW.
 pub fn figure(machine: &Machine, fold: Fold, statistic: usize, entity: i64) -> Option<i64> {
     let timeline = &machine.state().world.timeline;
     timeline.figure(fold, statistic, entity)?.ok()

@@ -1,5 +1,7 @@
 //! Values that are watched: global variables, N. of sets, statistics and attributes.
 
+ghost use Rattle.std.specs.Prelude.{◌≡◌};
+
 use crate::guide::Guide;
 use crate::looks::{attribute, figure, mean, time, value};
 use explain_texts::Part::{Bytes, Capitals, Count, Whole, Words};
@@ -106,8 +108,20 @@ pub fn watches_of<'a>(guide: &Guide<'_>, words: &'a [u8]) -> Made<Result<Vec<Wat
     Ok(Ok(watches))
 }
 
-// A mean with three decimals, the others cut off.
-fn mean_page(alloc: Global, sum: i128, number: i64) -> Made<Page<'static>> {
+// A value as it is written. Empty where there is none.
+fn value_page(alloc: Global, found: Option<Value>) -> Made<Page<'static>> {
+    match found {
+        Some(Value::Whole(number)) => Page::of(alloc, "{}", &[Whole(number)]),
+        Some(Value::Text(text)) => Page::of(alloc, "{}", &[Bytes(text.bytes())]),
+        None => Page::of(alloc, "", &[]),
+    }
+}
+
+// A mean with three decimals, the others cut off. Empty where there is none.
+fn mean_page(alloc: Global, found: Option<(i128, i64)>) -> Made<Page<'static>> {
+    let Some((sum, number)) = found else {
+        return Page::of(alloc, "", &[]);
+    };
     let divisor = u128::from(number.unsigned_abs()).max(1);
     let size = sum.unsigned_abs();
     let above = u64::try_from(size / divisor).unwrap_or(u64::MAX);
@@ -124,27 +138,26 @@ fn present<R: FaultyRead, W: FaultyWrite>(
     alloc: Global,
     session: &mut Session<R, W>,
     watched: Watched,
-) -> Made<Page<'static>> {
-    let present = match watched {
-        Watched::Variable(number, mode) => value(session.machine(), number, mode),
-        Watched::Count(set, owner) => session.member_count(set, owner).map(Value::Whole),
-        Watched::Figure(fold, statistic, entity) => {
-            figure(session.machine(), fold, statistic, entity).map(Value::Whole)
+) -> Made<Page<'static>>
+    ensures { session.new ≡ session.old }
+{
+    match watched {
+        Watched::Variable(number, mode) => {
+            value_page(alloc, value(session.machine(), number, mode))
         }
-        Watched::Attribute(class, field, entity) => {
-            attribute(session.machine(), class, field, entity)
+        Watched::Count(set, owner) => {
+            value_page(alloc, session.member_count(set, owner).map(Value::Whole))
+        }
+        Watched::Figure(fold, statistic, entity) => {
+            let found = figure(session.machine(), fold, statistic, entity);
+            value_page(alloc, found.map(Value::Whole))
         }
         Watched::Mean(statistic, entity) => {
-            if let Some((sum, number)) = mean(session.machine(), statistic, entity) {
-                return mean_page(alloc, sum, number);
-            }
-            None
+            mean_page(alloc, mean(session.machine(), statistic, entity))
         }
-    };
-    match present {
-        Some(Value::Whole(number)) => Page::of(alloc, "{}", &[Whole(number)]),
-        Some(Value::Text(text)) => Page::of(alloc, "{}", &[Bytes(text.bytes())]),
-        None => Page::of(alloc, "", &[]),
+        Watched::Attribute(class, field, entity) => {
+            value_page(alloc, attribute(session.machine(), class, field, entity))
+        }
     }
 }
 
@@ -153,12 +166,15 @@ pub fn add_changes<R: FaultyRead, W: FaultyWrite>(
     page: &mut Page<'_>,
     session: &mut Session<R, W>,
     watches: &mut Vec<Watch>,
-) -> Made<()> {
+) -> Made<()>
+    ensures { session.new ≡ session.old }
+{
     for watch in watches.iter_mut() {
         let written = present(page.alloc(), session, watch.watched)?;
         if written.text != watch.shown.text {
-            let (time, name) = (Whole(time(session.machine())), Bytes(watch.name.bytes()));
-            page.line("{},{},{}", &[time, name, Bytes(written.bytes())])?;
+            let now = Whole(time(session.machine()));
+            page.say("{},{},", &[now, Bytes(watch.name.bytes())])?;
+            page.line("{}", &[Bytes(written.bytes())])?;
             watch.shown = written;
         }
     }
