@@ -1,7 +1,7 @@
 //! Texts that are refused for what they declare: refusals 51 to 60.
 
 use explain_pages::Part::{Bytes, Line, Words};
-use explain_pages::{Made, Page};
+use explain_pages::{Made, Page, Part};
 use ss_base::Name;
 use ss_names::Names;
 use ss_names_declarations::{Breach, Declaration, Declared, declarations_of, has_entry};
@@ -24,7 +24,7 @@ struct Refused<'a> {
 }
 
 /// What a declaration makes of its name.
-#[derive(Clone, Copy, Debug, PartialEq, Eq)]
+#[derive(Clone, Copy, PartialEq, Eq)]
 enum Slot {
     Class,
     /// A class of event notices.
@@ -139,6 +139,10 @@ fn clash_in(all: &[Declaration], line: u32) -> Option<Clash<'_>> {
     here.find_map(|(place, one)| clash_of(all.get(..place).unwrap_or(&[]), &one.what))
 }
 
+fn numbered(line: u32) -> Part<'static> {
+    Line(line)
+}
+
 // 51.
 fn explain_twice(page: &mut Page<'_>, refused: &Refused<'_>) -> Made<()> {
     let Some(clash) = clash_in(refused.all, refused.line) else {
@@ -148,7 +152,7 @@ fn explain_twice(page: &mut Page<'_>, refused: &Refused<'_>) -> Made<()> {
     let name = clash.name.bytes();
     let later = slot_words(clash.later);
     let earlier = slot_words(clash.earlier);
-    let parts = [Words(later), Words(earlier), Line(clash.line)];
+    let parts = [Words(later), Words(earlier), numbered(clash.line)];
     page.name(refused.line, name, "{} here, and {} in line {}", &parts)?;
     page.show(clash.line)?;
     page.cure(

@@ -8,7 +8,7 @@ use ss_names_uses::{ClassNeed, Role, Used};
 use std::alloc::Global;
 
 /// What a name has to mean in its place.
-#[derive(Clone, Copy, Debug, PartialEq, Eq)]
+#[derive(Clone, Copy)]
 pub enum Need {
     Class(ClassNeed),
     Routine,
