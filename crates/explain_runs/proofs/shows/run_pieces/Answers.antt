@@ -57,3 +57,11 @@ loop-init g c =
           subst (λ (s : Session g.row.R.Denot g.row.W.Denot). (session_machine s).used ≤ c.args.shown.count) (sym same) (omega (arith, none, e.used.1));
       least = λ on p. omega arith;
     }
+
+-- no piece is left
+pub returns-after-loop-clause-simulated : goal.returns-after-loop-clause-simulated
+returns-after-loop-clause-simulated g c text code reader writer compiled on h = c.loop.invariant.meant on text code reader writer compiled h
+
+-- the run has stopped, or all its ticks are used
+pub returns-in_default-clause-simulated : goal.returns-in_default-clause-simulated
+returns-in_default-clause-simulated g c text code reader writer compiled on h = c.loop.invariant.meant on text code reader writer compiled h
