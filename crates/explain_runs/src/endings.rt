@@ -16,7 +16,11 @@ use ss_machine::Machine;
 
 fn add_place(page: &mut Page<'_>, machine: &Machine, guide: &Guide<'_>) -> Made<()> {
     page.say("At the time {}, in ", &[Whole(time(machine))])?;
-    add_section(page, guide, section_at(machine.code(), machine.here().place))?;
+    add_section(
+        page,
+        guide,
+        section_at(machine.code(), machine.here().place),
+    )?;
     page.line(", after {} ticks.", &[Count(machine.used())])
 }
 
@@ -214,18 +218,23 @@ pub fn ending_of<'a, R: FaultyRead, W: FaultyWrite>(
 }
 
 /// What helps where an event uses its own notice.
-const NOTICE_CURE: &str = "An event destroys its notice as it begins. Write SCHEDULE A or AN for a new notice, or SAVING THE EVENT NOTICE in the head of its EVENT.";
+const NOTICE_CURE: &str =
+    "An event destroys its notice as it begins. Write SCHEDULE A or AN for a new notice, or SAVING THE EVENT NOTICE in the head of its EVENT.";
 
 /// What helps where a statistic of an attribute is asked of no entity.
-const STATISTIC_CURE: &str = "This statistic is of an attribute, so each entity has its own, which goes with it. For figures of all, TALLY a variable that is no attribute.";
+const STATISTIC_CURE: &str =
+    "This statistic is of an attribute, so each entity has its own, which goes with it. For figures of all, TALLY a variable that is no attribute.";
 
 /// What helps where an entity is of another class, which is the part of it.
-const OTHER_CURE: &str = "The number is that of a {}. Look whether values are GIVEN in the order in which they are taken, and which variable holds the reference here.";
+const OTHER_CURE: &str =
+    "The number is that of a {}. Look whether values are GIVEN in the order in which they are taken, and which variable holds the reference here.";
 
 /// What helps where the ticks were used up in a loop, or by events.
-const LOOP_CURE: &str = "Give more --ticks. If the run should have ended, look whether something in the loop changes what it ends by. A loop takes no time.";
+const LOOP_CURE: &str =
+    "Give more --ticks. If the run should have ended, look whether something in the loop changes what it ends by. A loop takes no time.";
 
-const EVENTS_CURE: &str = "Give more --ticks. If the run should have ended, look for an event that schedules itself each time: put its SCHEDULE into an IF, as IF TIME.V LT 480 .. ALWAYS.";
+const EVENTS_CURE: &str =
+    "Give more --ticks. If the run should have ended, look for an event that schedules itself each time: put its SCHEDULE into an IF, as IF TIME.V LT 480 .. ALWAYS.";
 
 /// What each fault means, in the order of their numbers from 1.
 static MEANINGS: [&str; 22] = [

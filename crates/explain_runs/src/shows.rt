@@ -3,6 +3,7 @@
 ghost use Rattle.std.specs.Prelude.{◌≡◌, ℕ, ◌+◌, ◌^◌, ◌<◌, ◌≤◌, List, [], IfOk, IfSome, None};
 ghost use Rattle.ss_code.specs.Running.{Generated};
 ghost use Rattle.ss_engine.specs.Accepting.{IsCompiledTo};
+ghost use Rattle.ss_engine.specs.Cuts.{HasBeenCut};
 ghost use Rattle.ss_engine.specs.Headline.{IsSimulated};
 ghost use Rattle.ss_engine.specs.Sessions.{CanGoOn, HasRun, session_machine, session_reader, session_writer};
 
@@ -13,6 +14,7 @@ use explain_texts::Part::Bytes;
 use explain_texts::{Made, Page, line_bytes, unindented};
 use ss_base::{FaultyRead, FaultyWrite};
 use ss_code_instructions::instruction::Instruction;
+use ss_engine::session_laws::sessions_are_cut;
 use ss_engine::{Session, Stop};
 use ss_machine::Machine;
 use std::io;
@@ -33,7 +35,7 @@ impl Shown {
     }
 }
 
-/// What is told from time to time how far a run is.
+/// Something to which a run reports from time to time how far it is.
 pub trait Progress {
     /// The ticks used, TIME.V, and how many entities are alive.
     fn report(&mut self, used: u64, time: i64, living: u64);
@@ -141,9 +143,11 @@ fn run_pieces<R: FaultyRead, W: FaultyWrite, O: Write, P: Progress>(
     progress: &mut P,
 ) -> io::Result<Stop>
     ensures simulated { IfOk result (λ stop. (text : List ℕ) (code : Generated) (reader : R) (writer : W) → IsCompiledTo text code → CanGoOn session.old → HasRun R.remaining R.faults W.contents W.faults code reader writer [] session.old → IsSimulated R.remaining W.contents text stop (session_machine session.new).used reader (session_reader session.new) writer (session_writer session.new)) }
+    ensures where_cut { IfOk result (λ stop. (text : List ℕ) (code : Generated) (reader : R) (writer : W) → IsCompiledTo text code → CanGoOn session.old → HasRun R.remaining R.faults W.contents W.faults code reader writer [] session.old → HasBeenCut R.remaining W.contents text stop (session_machine session.new).used reader (session_reader session.new) writer (session_writer session.new)) }
     ensures used { IfOk result (λ stop. CanGoOn session.old → (session_machine session.old).used ≡ 0 → (session_machine session.new).used ≤ shown.count) }
     ensures paused { IfOk result (λ stop. CanGoOn session.old → (session_machine session.old).used ≡ 0 → stop ≡ Stop.Paused → (session_machine session.new).used ≡ shown.count) }
 {
+    sessions_are_cut::<R, W>();
     let piece = piece_of(shown, watches);
     let mut stop = session.run(0);
     show(guide, session, shown, watches, output, stop)?;
@@ -161,8 +165,8 @@ fn run_pieces<R: FaultyRead, W: FaultyWrite, O: Write, P: Progress>(
 /// Runs a session before its first run in pieces, and shows what each does: one tick after another where ticks or values are
 /// shown. It answers why the run stopped.
 ///
-/// The reports and the endings are those of one run with all these ticks (`simulated`): it is the same session, with as many ticks. It
-/// pauses only where all ticks are used.
+/// The report and the ending are those of one run with all these ticks (`simulated`, `where_cut`): it is the same session, with as
+/// many ticks. It pauses only where all ticks are used.
 ///
 /// # Errors
 /// That of the output, and where memory was refused for what is shown.
@@ -175,6 +179,7 @@ pub fn run_shown<R: FaultyRead, W: FaultyWrite, O: Write, P: Progress>(
     progress: &mut P,
 ) -> io::Result<Stop>
     ensures simulated { IfOk result (λ stop. (text : List ℕ) (code : Generated) (reader : R) (writer : W) → IsCompiledTo text code → CanGoOn session.old → HasRun R.remaining R.faults W.contents W.faults code reader writer [] session.old → IsSimulated R.remaining W.contents text stop (session_machine session.new).used reader (session_reader session.new) writer (session_writer session.new)) }
+    ensures where_cut { IfOk result (λ stop. (text : List ℕ) (code : Generated) (reader : R) (writer : W) → IsCompiledTo text code → CanGoOn session.old → HasRun R.remaining R.faults W.contents W.faults code reader writer [] session.old → HasBeenCut R.remaining W.contents text stop (session_machine session.new).used reader (session_reader session.new) writer (session_writer session.new)) }
     ensures used { IfOk result (λ stop. CanGoOn session.old → (session_machine session.old).used ≡ 0 → (session_machine session.new).used ≤ shown.count) }
     ensures paused { IfOk result (λ stop. CanGoOn session.old → (session_machine session.old).used ≡ 0 → stop ≡ Stop.Paused → (session_machine session.new).used ≡ shown.count) }
 {

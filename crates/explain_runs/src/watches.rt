@@ -108,11 +108,18 @@ pub fn watches_of<'a>(guide: &Guide<'_>, words: &'a [u8]) -> Made<Result<Vec<Wat
     Ok(Ok(watches))
 }
 
+// A value as it is written.
+fn page_of_value(alloc: Global, value: &Value) -> Made<Page<'static>> {
+    match value {
+        Value::Whole(number) => Page::of(alloc, "{}", &[Whole(*number)]),
+        Value::Text(text) => Page::of(alloc, "{}", &[Bytes(text.bytes())]),
+    }
+}
+
 // A value as it is written. Empty where there is none.
 fn value_page(alloc: Global, found: Option<Value>) -> Made<Page<'static>> {
     match found {
-        Some(Value::Whole(number)) => Page::of(alloc, "{}", &[Whole(number)]),
-        Some(Value::Text(text)) => Page::of(alloc, "{}", &[Bytes(text.bytes())]),
+        Some(value) => page_of_value(alloc, &value),
         None => Page::of(alloc, "", &[]),
     }
 }
@@ -161,6 +168,13 @@ fn present<R: FaultyRead, W: FaultyWrite>(
     }
 }
 
+// Adds bytes, and one after them.
+fn add_bytes(page: &mut Page<'_>, bytes: &[u8], end: u8) -> Made<()> {
+    page.text.extend_from_slice(bytes)?;
+    page.text.push(end)?;
+    Ok(())
+}
+
 /// Adds a line `time,name,value` for each watch that has another value than was shown last.
 pub fn add_changes<R: FaultyRead, W: FaultyWrite>(
     page: &mut Page<'_>,
@@ -169,12 +183,14 @@ pub fn add_changes<R: FaultyRead, W: FaultyWrite>(
 ) -> Made<()>
     ensures { session.new ≡ session.old }
 {
+    let alloc = page.alloc();
     for watch in watches.iter_mut() {
-        let written = present(page.alloc(), session, watch.watched)?;
+        let written = present(alloc, session, watch.watched)?;
         if written.text != watch.shown.text {
-            let now = Whole(time(session.machine()));
-            page.say("{},{},", &[now, Bytes(watch.name.bytes())])?;
-            page.line("{}", &[Bytes(written.bytes())])?;
+            let now = value_page(alloc, Some(Value::Whole(time(session.machine()))))?;
+            add_bytes(page, now.bytes(), b',')?;
+            add_bytes(page, watch.name.bytes(), b',')?;
+            add_bytes(page, written.bytes(), b'\n')?;
             watch.shown = written;
         }
     }
