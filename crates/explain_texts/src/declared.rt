@@ -135,7 +135,9 @@ fn clash_of<'a>(earlier: &[Declaration], what: &'a Declared) -> Option<Clash<'a>
 // The first name in the line that an earlier declaration makes something else of.
 fn clash_in(all: &[Declaration], line: u32) -> Option<Clash<'_>> {
     let numbered = all.iter().enumerate();
-    let mut here = numbered.filter(|(_, one)| one.line.0 == line).take(LOOKED_AT);
+    let mut here = numbered
+        .filter(|(_, one)| one.line.0 == line)
+        .take(LOOKED_AT);
     here.find_map(|(place, one)| clash_of(all.get(..place).unwrap_or(&[]), &one.what))
 }
 
