@@ -1,11 +1,11 @@
 //! Sessions.
 
-ghost use Rattle.std.specs.Prelude.{◌≡◌, ℕ, ◌+◌, ◌-◌, ◌^◌, ◌≤◌, List, [], ◌∷◌, ◌++◌, min, IfOk, Some};
+ghost use Rattle.std.specs.Prelude.{◌≡◌, ℕ, ◌+◌, ◌-◌, ◌^◌, ◌≤◌, List, [], ◌∷◌, ◌++◌, length, min, IfOk, Some};
 ghost use Rattle.ss_base.specs.Failures.{HasRisen, HasRisenBy};
 ghost use Rattle.ss_input.specs.Blocks.{IsEndKnown};
 ghost use Rattle.ss_input.specs.Inputs.{source_block};
 ghost use Rattle.ss_code.specs.Running.{Generated};
-ghost use Rattle.ss_machine.specs.Held.{answer_again, kept_after};
+ghost use Rattle.ss_machine.specs.Held.{HasMemberCount, answer_again, kept_after, upcoming_event};
 ghost use Rattle.ss_machine.specs.Runs.{IsRunResult};
 ghost use Rattle.ss_engine.specs.Accepting.{IsCompiledTo};
 ghost use Rattle.ss_engine.specs.Headline.{IsSimulated};
@@ -88,6 +88,43 @@ impl<R: FaultyRead, W: FaultyWrite> Session<R, W> {
         ensures { result ≡ (session_machine self.now).used }
     {
         self.machine.used()
+    }
+
+    /// Its machine, as the last run left it.
+    pub fn machine(&self) -> &Machine
+        ensures { result.now ≡ session_machine self.now }
+    {
+        &self.machine
+    }
+
+    /// How many members the set of an owner has, 0 for THE SYSTEM. None where there is no such set or owner. Nothing changes.
+    pub fn member_count(&mut self, set: usize, owner: i64) -> Option<i64>
+        ensures count { HasMemberCount (session_machine self.old) set owner result }
+        ensures same { self.new ≡ self.old }
+    {
+        self.machine.member_count(set, owner)
+    }
+
+    /// The time and the number of the notice that comes next, if one is pending. Nothing changes.
+    pub fn upcoming(&mut self) -> Option<(i64, i64)>
+        ensures next { result ≡ upcoming_event (session_machine self.old) }
+        ensures same { self.new ≡ self.old }
+    {
+        self.machine.upcoming()
+    }
+
+    /// The reader of the input, as it is now.
+    pub fn reader(&self) -> &R
+        ensures { result.now ≡ session_reader self.now }
+    {
+        self.source.reader()
+    }
+
+    /// How many bytes of what the reader gave were not passed yet.
+    pub fn unread(&self) -> usize
+        ensures { result ≡ length (source_block (session_source self.now)).left }
+    {
+        self.source.unread()
     }
 
     /// The reader and the writer, after the last run.

@@ -63,6 +63,13 @@ impl<R> Block<R> {
         self.reader
     }
 
+    /// The reader, as it is now.
+    pub fn reader(&self) -> &R
+        ensures { result.now ≡ self.now.reader }
+    {
+        &self.reader
+    }
+
     /// The first of the buffered bytes.
     pub fn first(&self) -> Option<u8>
         ensures { result ≡ first_input_byte self.now.left }

@@ -82,6 +82,20 @@ impl<R> Source<R> {
         self.missed
     }
 
+    /// The reader, as it is now.
+    pub fn reader(&self) -> &R
+        ensures { result.now ≡ source_reader self.now }
+    {
+        self.block.reader()
+    }
+
+    /// How many bytes of what the reader gave were not passed yet.
+    pub fn unread(&self) -> usize
+        ensures { result ≡ length (source_block self.now).left }
+    {
+        self.block.buffered().len()
+    }
+
     /// The reader, after all that was read from it.
     pub fn into_inner(self) -> R
         ensures { result ≡ source_reader self }

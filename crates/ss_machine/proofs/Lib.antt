@@ -23,3 +23,4 @@ mod Leads
 pub mod Starting
 mod Resuming
 mod Readiness
+mod Unchanged

@@ -2,6 +2,7 @@
 #![tactic(auto)]
 
 mod first;
+mod looking;
 mod machine;
 mod printing;
 mod reading;

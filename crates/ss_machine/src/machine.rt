@@ -6,9 +6,10 @@ ghost use Rattle.ss_input.specs.Blocks.{IsEndKnown};
 ghost use Rattle.ss_input.specs.Inputs.{source_block, source_missed, source_reader};
 ghost use Rattle.ss_machine.specs.Situations.{IsSituated};
 ghost use Rattle.ss_machine.specs.Runs.{IsRunResult};
-ghost use Rattle.ss_machine.specs.Held.{IsFirst, answer_again, kept_after};
+ghost use Rattle.ss_machine.specs.Held.{HasMemberCount, IsFirst, answer_again, kept_after, upcoming_event};
 
 use crate::first::{first_place, first_state, release_state, stands_first};
+use crate::looking::{count_in_state, upcoming_in_state};
 use crate::running::run;
 use crate::showing::Buffers;
 use crate::stop::Stop;
@@ -177,6 +178,46 @@ impl Machine {
         let Machine { code, state, .. } = self;
         code.release();
         release_state(state);
+    }
+
+    /// The code that it runs.
+    pub fn code(&self) -> &Code
+        ensures { result.now ≡ self.now.code }
+    {
+        &self.code
+    }
+
+    /// Where it is: before its first instruction, or at the one at which the last run rested.
+    pub fn here(&self) -> Here
+        ensures { result ≡ self.now.at.here }
+    {
+        Here {
+            place: self.place,
+            frame: self.frame,
+        }
+    }
+
+    /// What it works on, as the last run left it.
+    pub fn state(&self) -> &State
+        ensures { result.now ≡ self.now.at.state }
+    {
+        &self.state
+    }
+
+    /// How many members the set of an owner has, 0 for THE SYSTEM. None where there is no such set or owner. Nothing changes.
+    pub fn member_count(&mut self, set: usize, owner: i64) -> Option<i64>
+        ensures count { HasMemberCount self.old set owner result }
+        ensures same { self.new ≡ self.old }
+    {
+        count_in_state(&mut self.state, set, owner)
+    }
+
+    /// The time and the number of the notice that comes next, if one is pending. Nothing changes.
+    pub fn upcoming(&mut self) -> Option<(i64, i64)>
+        ensures next { result ≡ upcoming_event self.old }
+        ensures same { self.new ≡ self.old }
+    {
+        upcoming_in_state(&mut self.state)
     }
 
     /// Why the last run stopped; None where a further run goes on.

@@ -1,12 +1,14 @@
 //! The entities of a run, and how many of each permanent class are made.
 
 ghost use Rattle.std.specs.Prelude.{◌≡◌, ℕ, ◌<◌, length, pos, IfOk, MatchResult, None, Some, Ok, Err, replicate, slice_get, slice_set};
+ghost use Rattle.std.specs.Result.{result_ok};
 ghost use Rattle.ss_base.specs.Arithmetic.{plus_of, minus_of};
 ghost use Rattle.ss_meaning.specs.Fitting.{living};
 ghost use Rattle.ss_records.specs.Kept.{IsPermanent};
-ghost use Rattle.ss_records.specs.State.{first_state, is_made, records_in, known_in, value_in, time_in, assigned, timed, created, created_all, destroyed, kind_of, modes_of, no_value, IsRefusalOf};
+ghost use Rattle.ss_records.specs.State.{first_state, is_made, living_records, records_in, known_in, value_in, time_in, assigned, timed, created, created_all, destroyed, kind_of, modes_of, no_value, IsRefusalOf};
 ghost use Rattle.ss_records.specs.Sets.{joiner, owner, first_in, last_in, count_in, next_in, previous_in, owner_of_member, AreMembersApart};
 ghost use Rattle.ss_records.specs.Attributes.{changed_number, IsAssigned, IsChanged};
+ghost use Rattle.ss_machine_entities.specs.Counts.{IsMemberCount};
 
 mod filing;
 
@@ -49,6 +51,13 @@ impl Population {
         ensures { result.now ≡ self.now.layout }
     {
         self.heap.layout()
+    }
+
+    /// How many entities are living, permanent ones among them.
+    pub fn living_count(&self) -> u64
+        ensures { result ≡ living_records self.now }
+    {
+        self.heap.blocks() - 1
     }
 
     /// Remembers an entity by its creation number, so that it is found sooner. Nothing else changes.
@@ -297,6 +306,18 @@ impl Population {
         self.heap.count(set, o)
     }
 
+    /// How many members a set has, where there is such a set and such an owner. Nothing changes.
+    pub fn find_count(&mut self, set: usize, o: i64) -> Option<i64>
+        ensures count { IsMemberCount self.old set o result }
+        ensures same { self.new ≡ self.old }
+    {
+        let sets = set_count(self.layout());
+        if set >= sets {
+            return None;
+        }
+        number_if_ok(self.member_count(set, o))
+    }
+
     /// Whether a number may be a member of a set. Faults: 1 to 5.
     #[inline(always)]
     pub fn look_member(&self, set: usize, n: i64) -> Result<(), FaultKind>
@@ -379,6 +400,23 @@ fn class_count(layout: &Layout) -> usize
     ensures { result ≡ length layout.now.classes }
 {
     layout.classes.len()
+}
+
+// How many sets a layout has.
+fn set_count(layout: &Layout) -> usize
+    ensures { result ≡ length layout.now.sets }
+{
+    layout.sets.len()
+}
+
+// A number that was looked at, if there was no fault.
+fn number_if_ok(number: Result<i64, FaultKind>) -> Option<i64>
+    ensures { result ≡ result_ok number }
+{
+    match number {
+        Ok(number) => Some(number),
+        Err(_) => None,
+    }
 }
 
 // Nothing is made of so many classes.

@@ -80,6 +80,14 @@ impl Timeline {
         self.pending.least().is_some()
     }
 
+    /// The time and the number of the notice that comes next, if one is pending. Nothing changes.
+    pub fn upcoming(&mut self) -> Option<(i64, i64)>
+        ensures next { result ≡ least_event self.old.pending }
+        ensures same { self.new ≡ self.old }
+    {
+        self.pending.least()
+    }
+
     /// Takes out the notice that comes next, if one is pending, and answers its number. TIME.V is then its time.
     pub fn next(&mut self) -> Option<i64>
         ensures { HasTakenNext self.old self.new result }

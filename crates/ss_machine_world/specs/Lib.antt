@@ -1,3 +1,4 @@
+pub use Rattle.ss_machine_entities.specs.Counts
 pub use Rattle.ss_machine_time.specs.Figures
 pub use Rattle.ss_machine_time.specs.Records
 pub use Rattle.ss_records.specs.Filter

@@ -4,3 +4,4 @@ pub mod SpelledPrograms
 pub mod ReadPreambles
 pub mod ReadPrograms
 pub mod Promise
+pub mod Reaches

@@ -1,0 +1,180 @@
+//! The explanation of a refusal.
+
+ghost use Rattle.std.specs.Prelude.{◌≡◌, Some, None, IfOk, option_map};
+ghost use Rattle.ss_tree.specs.View.{view_program_tree};
+ghost use Rattle.ss_names.specs.Table.{table};
+ghost use Rattle.ss_tables_rules.specs.Broken.{refusal_of_declarations};
+ghost use Rattle.explain_texts.specs.Judged.{IsJudged, AreJudged, IsTreeJudged, IsWrong, refusal_for_uses, refusal_of};
+
+use crate::declared::explain_declared;
+use crate::notes::add_notes;
+use crate::sections::{Read, all_uses};
+use crate::used::explain_used;
+use explain_cures::syntax::{explain_depth, explain_syntax};
+use explain_pages::{Made, Page};
+use ss_check_rules::{CheckError, judge};
+use ss_engine::Refusal;
+use ss_lex::{LexError, Token, Tokens, tokens};
+use ss_names::Names;
+use ss_parse::{ParseError, Reach, parse, reach_of};
+use ss_tables::{TableError, Tables};
+use ss_tree::program::Program;
+use ss_tree::release::release_tree;
+use std::alloc::{AllocError, Global};
+
+/// What is wrong with a text that is refused for its words or its names.
+#[derive(Clone, Copy, Debug, PartialEq, Eq)]
+pub enum Wrong {
+    Lexed(LexError),
+    Parsed(ParseError),
+    Declared(TableError),
+    Used(CheckError),
+}
+
+// What is wrong with a text that is refused so.
+fn wrong_of(refusal: Option<Refusal>) -> Made<Option<Wrong>>
+    ensures { IfOk result (λ wrong. refusal ≡ option_map refusal_of wrong) }
+{
+    match refusal {
+        None => Ok(None),
+        Some(Refusal::Lexed(error)) => Ok(Some(Wrong::Lexed(error))),
+        Some(Refusal::Parsed(error)) => Ok(Some(Wrong::Parsed(error))),
+        Some(Refusal::Declared(error)) => Ok(Some(Wrong::Declared(error))),
+        Some(Refusal::Used(error)) => Ok(Some(Wrong::Used(error))),
+        Some(Refusal::CodeTooLong) => Err(AllocError),
+        Some(Refusal::Memory) => Err(AllocError),
+    }
+}
+
+// A refusal, once it is explained.
+fn refused(explained: Made<()>, refusal: Refusal) -> Made<Option<Refusal>>
+    ensures { IfOk result (λ found. found ≡ Some refusal) }
+{
+    explained?;
+    Ok(Some(refusal))
+}
+
+// Explains where the reading of tokens stops.
+fn explain_reach(page: &mut Page<'_>, tokens: &[Token]) -> Made<()> {
+    match reach_of(page.alloc(), tokens)? {
+        Reach::Whole => Ok(()),
+        Reach::Stopped(at) => explain_syntax(page, tokens, at),
+        Reach::TooDeep(at) => explain_depth(page, tokens, at),
+    }
+}
+
+// Explains the rule that a program breaks by what it does with its names. It adds notes where there is none.
+fn explain_rules(
+    page: &mut Page<'_>,
+    read: &Read<'_>,
+    broken: Option<CheckError>,
+) -> Made<Option<Refusal>>
+    ensures { IfOk result (λ found. found ≡ refusal_for_uses broken) }
+{
+    match broken {
+        Some(error) => {
+            let explained = explain_used(page, read, &error);
+            refused(explained, Refusal::from(error))
+        }
+        None => {
+            add_notes(page, read)?;
+            Ok(None)
+        }
+    }
+}
+
+// The same for a program that breaks no rule on what it declares, by its table of names.
+fn explain_names(
+    page: &mut Page<'_>,
+    tokens: &[Token],
+    program: &Program,
+    names: &Names,
+) -> Made<Option<Refusal>>
+    requires names { names.now ≡ table (view_program_tree program.now) }
+    requires declared { refusal_of_declarations (view_program_tree program.now) ≡ None }
+    ensures { IfOk result (IsTreeJudged (view_program_tree program.now)) }
+{
+    let (broken, locals) = judge(page.alloc(), program, names)?;
+    let uses = all_uses(page.alloc(), &program.sections)?;
+    let read = Read {
+        tokens,
+        program,
+        names,
+        uses: uses.as_slice(),
+        locals: locals.as_slice(),
+    };
+    explain_rules(page, &read, broken)
+}
+
+// Explains the first rule that the program of these tokens breaks. It adds notes where there is none.
+fn explain_program(
+    page: &mut Page<'_>,
+    tokens: &[Token],
+    program: &Program,
+) -> Made<Option<Refusal>>
+    ensures { IfOk result (IsTreeJudged (view_program_tree program.now)) }
+{
+    match Tables::of(page.alloc(), program) {
+        Ok(tables) => {
+            let names = tables.into_names();
+            let answer = explain_names(page, tokens, program, &names);
+            names.release();
+            answer
+        }
+        Err(error) => {
+            let explained = explain_declared(page, program, &error);
+            refused(explained, Refusal::from(error))
+        }
+    }
+}
+
+// Explains why the text of these tokens is refused. It adds notes where it is not.
+fn explain_tokens(page: &mut Page<'_>, all: &Tokens) -> Made<Option<Refusal>>
+    ensures { IfOk result (AreJudged all.now.list) }
+{
+    match parse(page.alloc(), all) {
+        Ok(program) => {
+            let answer = explain_program(page, all.list(), &program);
+            release_tree(program);
+            answer
+        }
+        Err(error) => {
+            let explained = explain_reach(page, all.list());
+            refused(explained, Refusal::from(error))
+        }
+    }
+}
+
+// Explains why a text is refused, which the page is about. It adds notes where it is not.
+fn explain_whole(page: &mut Page<'_>, text: &[u8]) -> Made<Option<Refusal>>
+    ensures { IfOk result (IsJudged text.now) }
+{
+    match tokens(page.alloc(), text) {
+        Ok(all) => explain_tokens(page, &all),
+        Err(error) => {
+            let explained = page.explain_lexical(&error);
+            refused(explained, Refusal::from(error))
+        }
+    }
+}
+
+// Adds the rule of a refusal, if there is one.
+fn add_rule(page: &mut Page<'_>, refusal: &Option<Refusal>) -> Made<()> {
+    match refusal {
+        Some(refusal) => page.rule(refusal.number()),
+        None => Ok(()),
+    }
+}
+
+/// Explains why a text is refused: the place, what is wrong there, what helps, and the rule with the heading of the manual.
+/// It answers the page and what is wrong. Where a text is not refused for its words or its names that is None, and the page has
+/// notes on what is right and looks odd. The error comes where memory was refused.
+pub fn explain_text<'a>(alloc: Global, text: &'a [u8]) -> Made<(Page<'a>, Option<Wrong>)>
+    ensures { IfOk result (λ answer. IsWrong text.now answer.1) }
+{
+    let mut page = Page::about(alloc, text);
+    let refusal = explain_whole(&mut page, text)?;
+    add_rule(&mut page, &refusal)?;
+    let wrong = wrong_of(refusal)?;
+    Ok((page, wrong))
+}
