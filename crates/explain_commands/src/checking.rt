@@ -1,13 +1,13 @@
 //! Texts that are explained.
 
 use crate::outputs::print;
-use explain_texts::{Wrong, explain_text};
+use explain_texts::explain_text;
 use simscript_order::ProgramFailure;
-use ss_engine::{Outcome, Refusal, Stop, compile};
+use ss_engine::{Outcome, Stop};
 use std::alloc::Global;
 use std::io::Write;
 
-/// Explains a text, and says whether it is refused. It is compiled only where nothing is wrong with its words and its names.
+/// Explains a text, and says whether it is refused.
 pub fn check<O: Write>(
     alloc: Global,
     text: &[u8],
@@ -16,27 +16,12 @@ pub fn check<O: Write>(
     let Ok((page, wrong)) = explain_text(alloc, text) else {
         return Err(ProgramFailure::Memory);
     };
-    if let Some(wrong) = &wrong {
-        print(output, page.bytes())?;
-        return Ok(Outcome::Refused(refusal_of(wrong)));
+    if wrong.is_none() {
+        print(output, b"accepted\n")?;
     }
-    match compile(alloc, text) {
-        Ok(model) => {
-            model.release();
-            print(output, b"accepted\n")?;
-            print(output, page.bytes())?;
-            Ok(Outcome::Stopped(Stop::Ended, 0))
-        }
-        Err(refusal) => Ok(Outcome::Refused(refusal)),
-    }
-}
-
-// The refusal that is wrong with a text.
-fn refusal_of(wrong: &Wrong) -> Refusal {
-    match wrong {
-        Wrong::Lexed(error) => Refusal::Lexed(*error),
-        Wrong::Parsed(error) => Refusal::Parsed(*error),
-        Wrong::Declared(error) => Refusal::Declared(*error),
-        Wrong::Used(error) => Refusal::Used(*error),
-    }
+    print(output, page.bytes())?;
+    Ok(match wrong {
+        Some(refusal) => Outcome::Refused(refusal),
+        None => Outcome::Stopped(Stop::Ended, 0),
+    })
 }

@@ -1,54 +1,38 @@
 -- From what is wrong at each step to what is wrong with the text.
-use Rattle.std.proofs.Common.{◌≡◌, ◌≢◌, ◌∙◌, ℕ, List, Option, Some, None, Result, IfOk, sym, ap, subst}
+use Rattle.std.proofs.Common.{◌≡◌, ◌∙◌, ℕ, List, Option, Some, None, Result, IfOk, sym, ap, subst}
+use Rattle.std.specs.Prelude.{IfSome}
 use Rattle.std.proofs.lemmas.Result.{IfOk-weaker}
-use Rattle.ss_lex.specs.declared.error.LexError.{LexError}
-use Rattle.ss_lex.specs.declared.error.LexError.TheVariants as lexical
 use Rattle.ss_lex.specs.declared.token.Token.{Token}
 use Rattle.ss_lex.specs.Tokens.{AreTokens}
-use Rattle.ss_lex.specs.Refusals.{IsRefused}
 use Rattle.ss_tree.specs.Tree.{ProgramTree}
-use Rattle.ss_parse.specs.declared.error.ParseError.{ParseError}
-use Rattle.ss_parse.specs.declared.error.ParseError.TheVariants as parsing
 use Rattle.ss_parse.specs.Openers.{nesting_limit}
-use Rattle.ss_parse.specs.Promise.{Is_refused, Has_line}
 use Rattle.ss_parse.specs.SpelledPrograms.{Is_spelling}
-use Rattle.ss_tables_rules.specs.declared.error.TableError.{TableError}
-use Rattle.ss_tables_rules.specs.declared.error.TableError.TheVariants as declaring
 use Rattle.ss_tables_rules.specs.Broken.{refusal_of_declarations}
-use Rattle.ss_tables.specs.Tables.{IsReportedError}
 use Rattle.ss_check_rules.specs.declared.error.CheckError.{CheckError}
 use Rattle.ss_check_rules.specs.declared.error.CheckError.TheVariants as using
 use Rattle.ss_check_rules.specs.Refusal.{refusal_of_uses}
-use Rattle.ss_engine.specs.Accepting.{IsTreeOf, IsKeptBy, IsRefusedWith}
-use Rattle.ss_engine.specs.Refusals.{lexed, parsed, table_refusal, used}
+use Rattle.ss_engine.specs.Accepting.{IsTreeOf, IsRefusedWith, IsTreeRefusedWith}
+use Rattle.ss_engine.specs.Refusals.{used}
 use Rattle.ss_engine.specs.declared.refusal.Refusal.{Refusal}
 use Rattle.explain_texts.specs.Judged.{IsJudged, AreJudged, IsTreeJudged, refusal_for_uses}
 
--- ---- why a text is refused; memory says nothing of it
-
-pub lexer_refused : (text : List ℕ) (e : LexError) → (e ≢ lexical.Memory → IsRefused text e) → IsRefusedWith text (lexed e)
-lexer_refused text lexical.Memory h = tt
-lexer_refused text e h = h (λ q. cc)
-
-pub parser_refused : (text : List ℕ) (ts : List Token) → AreTokens text ts → (e : ParseError) → Is_refused ts e → Has_line ts e → IsRefusedWith text (parsed e)
-parser_refused text ts are parsing.Memory h l = tt
-parser_refused text ts are e h l = record { tokens = ts; are = are; refused = h; other = λ q. cc; line = l }
-
-pub tables_refused : (text : List ℕ) (tree : ProgramTree) → IsTreeOf text tree → (e : TableError) → IsReportedError e (refusal_of_declarations tree) → IsRefusedWith text (table_refusal e)
-tables_refused text tree r declaring.Memory h = tt
-tables_refused text tree r e h = record { tree = tree; read = r; broken = h }
+-- ---- the rules on what a program does with its names
 
 uses_refused : (text : List ℕ) (tree : ProgramTree) → IsTreeOf text tree → refusal_of_declarations tree ≡ None → (e : CheckError) → refusal_of_uses tree ≡ Some e → IsRefusedWith text (used e)
 uses_refused text tree r d using.Memory h = tt
 uses_refused text tree r d e h = record { tree = tree; read = r; declared = d; broken = h }
 
--- ---- what is judged of a text
+uses_refused_so : (tree : ProgramTree) → refusal_of_declarations tree ≡ None → (broken : Option CheckError) → broken ≡ refusal_of_uses tree → IfSome (refusal_for_uses broken) (IsTreeRefusedWith tree)
+uses_refused_so tree d None h = tt
+uses_refused_so tree d (Some e) h = λ text read. uses_refused text tree read d e (sym h)
 
-uses_judged : (text : List ℕ) (tree : ProgramTree) → IsTreeOf text tree → refusal_of_declarations tree ≡ None → (broken : Option CheckError) → broken ≡ refusal_of_uses tree → IsJudged text (refusal_for_uses broken)
-uses_judged text tree r d None h =
-    let keeps : IsKeptBy text tree = record { read = r; declared = d; kept = sym h } in
-    (tree, keeps)
-uses_judged text tree r d (Some e) h = uses_refused text tree r d e (sym h)
+pub names_refused : {E : Type 0} (tree : ProgramTree) (r : Result (Option Refusal) E) (broken : Option CheckError) →
+    refusal_of_declarations tree ≡ None → broken ≡ refusal_of_uses tree → IfOk r (λ found. found ≡ refusal_for_uses broken) → IfOk r (λ found. IfSome found (IsTreeRefusedWith tree))
+names_refused tree r broken d h k =
+    IfOk-weaker r (λ found. found ≡ refusal_for_uses broken) (λ found. IfSome found (IsTreeRefusedWith tree))
+    (λ found same. subst (λ found. IfSome found (IsTreeRefusedWith tree)) (sym same) (uses_refused_so tree d broken h)) k
+
+-- ---- what is judged of a text
 
 -- what says a refusal's cause, where the answer is the refusal
 pub said_so : {E : Type 0} (Says : Option Refusal → Type 0) (r : Result (Option Refusal) E) (refusal cause : Refusal) →
@@ -56,13 +40,6 @@ pub said_so : {E : Type 0} (Says : Option Refusal → Type 0) (r : Result (Optio
 said_so Says r refusal cause h e k =
     IfOk-weaker r (λ found. found ≡ Some refusal) Says
     (λ found same. subst Says (sym (same ∙ ap (λ (x : Refusal). Some x) e)) k) h
-
--- by the rules on what a program does with its names
-pub names_judged : {E : Type 0} (tree : ProgramTree) (r : Result (Option Refusal) E) (broken : Option CheckError) →
-    refusal_of_declarations tree ≡ None → broken ≡ refusal_of_uses tree → IfOk r (λ found. found ≡ refusal_for_uses broken) → IfOk r (IsTreeJudged tree)
-names_judged tree r broken d h k =
-    IfOk-weaker r (λ found. found ≡ refusal_for_uses broken) (IsTreeJudged tree)
-    (λ found same text read. subst (IsJudged text) (sym same) (uses_judged text tree read d broken h)) k
 
 -- by the program that tokens spell
 pub tokens_judged : {E : Type 0} (ts : List Token) (tree : ProgramTree) (r : Result (Option Refusal) E) →

@@ -1,10 +1,11 @@
 //! The explanation of a refusal.
 
-ghost use Rattle.std.specs.Prelude.{◌≡◌, Some, None, IfOk, option_map};
+ghost use Rattle.std.specs.Prelude.{◌≡◌, ◌×◌, ◌≢◌, Some, None, IfOk, IfSome};
 ghost use Rattle.ss_tree.specs.View.{view_program_tree};
 ghost use Rattle.ss_names.specs.Table.{table};
 ghost use Rattle.ss_tables_rules.specs.Broken.{refusal_of_declarations};
-ghost use Rattle.explain_texts.specs.Judged.{IsJudged, AreJudged, IsTreeJudged, IsWrong, refusal_for_uses, refusal_of};
+ghost use Rattle.ss_engine.specs.Accepting.{IsTreeRefusedWith};
+ghost use Rattle.explain_texts.specs.Judged.{IsJudged, AreJudged, IsTreeJudged, IsWrong, refusal_for_uses};
 
 use crate::declared::explain_declared;
 use crate::notes::add_notes;
@@ -13,38 +14,14 @@ use crate::used::explain_used;
 use explain_cures::syntax::{explain_depth, explain_syntax};
 use explain_pages::{Made, Page};
 use ss_check_rules::{CheckError, judge};
-use ss_engine::Refusal;
-use ss_lex::{LexError, Token, Tokens, tokens};
+use ss_engine::{Refusal, compile_tree};
+use ss_lex::{Token, Tokens, tokens};
 use ss_names::Names;
-use ss_parse::{ParseError, Reach, parse, reach_of};
-use ss_tables::{TableError, Tables};
+use ss_parse::{Reach, parse, reach_of};
+use ss_tables::Tables;
 use ss_tree::program::Program;
 use ss_tree::release::release_tree;
 use std::alloc::{AllocError, Global};
-
-/// What is wrong with a text that is refused for its words or its names.
-#[derive(Clone, Copy, Debug, PartialEq, Eq)]
-pub enum Wrong {
-    Lexed(LexError),
-    Parsed(ParseError),
-    Declared(TableError),
-    Used(CheckError),
-}
-
-// What is wrong with a text that is refused so.
-fn wrong_of(refusal: Option<Refusal>) -> Made<Option<Wrong>>
-    ensures { IfOk result (λ wrong. refusal ≡ option_map refusal_of wrong) }
-{
-    match refusal {
-        None => Ok(None),
-        Some(Refusal::Lexed(error)) => Ok(Some(Wrong::Lexed(error))),
-        Some(Refusal::Parsed(error)) => Ok(Some(Wrong::Parsed(error))),
-        Some(Refusal::Declared(error)) => Ok(Some(Wrong::Declared(error))),
-        Some(Refusal::Used(error)) => Ok(Some(Wrong::Used(error))),
-        Some(Refusal::CodeTooLong) => Err(AllocError),
-        Some(Refusal::Memory) => Err(AllocError),
-    }
-}
 
 // A refusal, once it is explained.
 fn refused(explained: Made<()>, refusal: Refusal) -> Made<Option<Refusal>>
@@ -92,7 +69,7 @@ fn explain_names(
 ) -> Made<Option<Refusal>>
     requires names { names.now ≡ table (view_program_tree program.now) }
     requires declared { refusal_of_declarations (view_program_tree program.now) ≡ None }
-    ensures { IfOk result (IsTreeJudged (view_program_tree program.now)) }
+    ensures { IfOk result (λ found. IfSome found (IsTreeRefusedWith (view_program_tree program.now))) }
 {
     let (broken, locals) = judge(page.alloc(), program, names)?;
     let uses = all_uses(page.alloc(), &program.sections)?;
@@ -112,7 +89,7 @@ fn explain_program(
     tokens: &[Token],
     program: &Program,
 ) -> Made<Option<Refusal>>
-    ensures { IfOk result (IsTreeJudged (view_program_tree program.now)) }
+    ensures { IfOk result (λ found. IfSome found (IsTreeRefusedWith (view_program_tree program.now))) }
 {
     match Tables::of(page.alloc(), program) {
         Ok(tables) => {
@@ -128,16 +105,42 @@ fn explain_program(
     }
 }
 
+// Why the code of a program is refused, if it is. The program is given back.
+fn refusal_of_code(alloc: Global, program: Program) -> Made<Option<Refusal>>
+    ensures { IfOk result (IsTreeJudged (view_program_tree program)) }
+{
+    match compile_tree(alloc, program) {
+        Ok(model) => {
+            model.release();
+            Ok(None)
+        }
+        Err(refusal) => Ok(Some(refusal)),
+    }
+}
+
+// Explains why a program is refused. It adds notes where it breaks no rule. The program is given back.
+fn explain_tree(page: &mut Page<'_>, tokens: &[Token], program: Program) -> Made<Option<Refusal>>
+    ensures { IfOk result (IsTreeJudged (view_program_tree program)) }
+{
+    match explain_program(page, tokens, &program) {
+        Ok(None) => refusal_of_code(page.alloc(), program),
+        Ok(Some(refusal)) => {
+            release_tree(program);
+            Ok(Some(refusal))
+        }
+        Err(error) => {
+            release_tree(program);
+            Err(error)
+        }
+    }
+}
+
 // Explains why the text of these tokens is refused. It adds notes where it is not.
 fn explain_tokens(page: &mut Page<'_>, all: &Tokens) -> Made<Option<Refusal>>
     ensures { IfOk result (AreJudged all.now.list) }
 {
     match parse(page.alloc(), all) {
-        Ok(program) => {
-            let answer = explain_program(page, all.list(), &program);
-            release_tree(program);
-            answer
-        }
+        Ok(program) => explain_tree(page, all.list(), program),
         Err(error) => {
             let explained = explain_reach(page, all.list());
             refused(explained, Refusal::from(error))
@@ -158,23 +161,29 @@ fn explain_whole(page: &mut Page<'_>, text: &[u8]) -> Made<Option<Refusal>>
     }
 }
 
-// Adds the rule of a refusal, if there is one.
-fn add_rule(page: &mut Page<'_>, refusal: &Option<Refusal>) -> Made<()> {
-    match refusal {
-        Some(refusal) => page.rule(refusal.number()),
-        None => Ok(()),
+// Adds the rule of a refusal, and answers the refusal. The error is the one for memory.
+fn ruled(page: &mut Page<'_>, refusal: Refusal) -> Made<Refusal>
+    ensures { IfOk result (λ known. (known ≡ refusal) × (refusal ≢ Refusal.Memory)) }
+{
+    if matches!(refusal, Refusal::Memory) {
+        return Err(AllocError);
     }
+    page.rule(refusal.number())?;
+    Ok(refusal)
 }
 
 /// Explains why a text is refused: the place, what is wrong there, what helps, and the rule with the heading of the manual.
-/// It answers the page and what is wrong. Where a text is not refused for its words or its names that is None, and the page has
-/// notes on what is right and looks odd. The error comes where memory was refused.
-pub fn explain_text<'a>(alloc: Global, text: &'a [u8]) -> Made<(Page<'a>, Option<Wrong>)>
+/// It answers the page and the refusal. Where a text is accepted that is None, and the page has notes on what is right and looks
+/// odd. The error comes where memory was refused.
+pub fn explain_text<'a>(alloc: Global, text: &'a [u8]) -> Made<(Page<'a>, Option<Refusal>)>
     ensures { IfOk result (λ answer. IsWrong text.now answer.1) }
 {
     let mut page = Page::about(alloc, text);
-    let refusal = explain_whole(&mut page, text)?;
-    add_rule(&mut page, &refusal)?;
-    let wrong = wrong_of(refusal)?;
-    Ok((page, wrong))
+    match explain_whole(&mut page, text)? {
+        Some(refusal) => {
+            let known = ruled(&mut page, refusal)?;
+            Ok((page, Some(known)))
+        }
+        None => Ok((page, None)),
+    }
 }

@@ -13,4 +13,4 @@ mod statements;
 mod used;
 
 pub use explain_pages::{Made, Page, Part, line_bytes, unindented};
-pub use explanation::{Wrong, explain_text};
+pub use explanation::explain_text;

@@ -68,7 +68,7 @@ generator_refused text p m k generating.CodeTooLong h l size = record { program 
 generator_refused text p m k generating.Memory h l size = tt
 
 -- the exit of a `?`, by what the error becomes
-pub refused_so : {X : Type 0} (text : List ℕ) (r : Result X Refusal) (cause : Refusal) → IsErrAnd r (λ f. f ≡ cause) → IsRefusedWith text cause → IfErr r (λ f. IsRefusedWith text f)
-refused_so text r cause h k =
+pub refused_so : {X : Type 0} (Says : Refusal → Type 0) (r : Result X Refusal) (cause : Refusal) → IsErrAnd r (λ f. f ≡ cause) → Says cause → IfErr r Says
+refused_so Says r cause h k =
     let p = err_from_is_err_and r h in
-    subst (λ z. IfErr z (λ f. IsRefusedWith text f)) (sym p.1) (subst (IsRefusedWith text) (sym p.2) k)
+    subst (λ z. IfErr z Says) (sym p.1) (subst Says (sym p.2) k)

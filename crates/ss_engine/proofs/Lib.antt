@@ -1,5 +1,5 @@
 mod Common
-mod Fronts
+pub mod Fronts
 mod Meanings
 mod Inputs
 mod Pieces

@@ -91,3 +91,11 @@ IsRefusedWith text (Declared e) = IsMisdeclared text e
 IsRefusedWith text (Used e) = IsIllFormed text e
 IsRefusedWith text CodeTooLong = IsLarge text
 IsRefusedWith text Memory = Unit {0}
+
+-- this code is that of each text with this tree
+abbrev pub IsTreeCompiledTo : ProgramTree → Generated → Type 0
+IsTreeCompiledTo tree code = (text : List ℕ) → IsTreeOf text tree → IsCompiledTo text code
+
+-- each text with this tree is refused so
+abbrev pub IsTreeRefusedWith : ProgramTree → Refusal → Type 0
+IsTreeRefusedWith tree refusal = (text : List ℕ) → IsTreeOf text tree → IsRefusedWith text refusal

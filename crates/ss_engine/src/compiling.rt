@@ -2,7 +2,8 @@
 
 ghost use Rattle.std.specs.Prelude.{◌≡◌, IfOk, IfErr};
 ghost use Rattle.ss_engine.specs.Refusals.{coded, table_refusal, lexed, parsed, used};
-ghost use Rattle.ss_engine.specs.Accepting.{IsCompiledTo, IsRefusedWith};
+ghost use Rattle.ss_tree.specs.View.{view_program_tree};
+ghost use Rattle.ss_engine.specs.Accepting.{IsCompiledTo, IsRefusedWith, IsTreeCompiledTo, IsTreeRefusedWith};
 
 use crate::refusal::Refusal;
 use ss_check::{CheckError, check_tree};
@@ -14,6 +15,7 @@ use ss_lex::{LexError, tokens};
 use ss_parse::{ParseError, parse};
 use ss_program::release::release_checked;
 use ss_tables_rules::TableError;
+use ss_tree::program::Program;
 use std::alloc::Global;
 
 impl From<LexError> for Refusal {
@@ -71,6 +73,23 @@ impl From<CodeError> for Refusal {
     }
 }
 
+/// The program of a tree, ready to run. The tree is given back.
+///
+/// # Errors
+/// Those of `compile` for a text with this tree.
+pub fn compile_tree(alloc: Global, program: Program) -> Result<Model, Refusal>
+    ensures accepted { IfOk result (λ model. IsTreeCompiledTo (view_program_tree program) model) }
+    ensures refused { IfErr result (λ refusal. IsTreeRefusedWith (view_program_tree program) refusal) }
+{
+    laws_of_code();
+    let outcome = check_tree(alloc, program)?;
+    let resolved = outcome?;
+    let made = generate(alloc, &resolved);
+    release_checked(resolved);
+    let code = made?;
+    Ok(Model::new(code))
+}
+
 /// The program of a text, ready to run.
 ///
 /// # Errors
@@ -83,13 +102,7 @@ pub fn compile(alloc: Global, text: &[u8]) -> Result<Model, Refusal>
     ensures accepted { IfOk result (λ model. IsCompiledTo text.now model) }
     ensures refused { IfErr result (λ refusal. IsRefusedWith text.now refusal) }
 {
-    laws_of_code();
     let tokens = tokens(alloc, text)?;
     let program = parse(alloc, &tokens)?;
-    let outcome = check_tree(alloc, program)?;
-    let resolved = outcome?;
-    let made = generate(alloc, &resolved);
-    release_checked(resolved);
-    let code = made?;
-    Ok(Model::new(code))
+    compile_tree(alloc, program)
 }

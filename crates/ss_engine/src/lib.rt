@@ -11,7 +11,7 @@ pub mod session_laws;
 mod simulating;
 pub mod text_laws;
 
-pub use compiling::compile;
+pub use compiling::{compile, compile_tree};
 pub use outcome::{Outcome, outcome_line, outcome_status};
 pub use refusal::Refusal;
 pub use run::run_model;

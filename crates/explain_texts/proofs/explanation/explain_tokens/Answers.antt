@@ -1,12 +1,13 @@
 use Rattle.ss_tree.specs.View.{view_program_tree}
 use Rattle.ss_engine.specs.Refusals.{parsed}
 use Rattle.explain_texts.specs.Judged.{AreJudged}
-use Rattle.explain_texts.proofs.Judging.{parser_refused, said_so, tokens_judged}
+use Rattle.ss_engine.proofs.Fronts.{parser_refused}
+use Rattle.explain_texts.proofs.Judging.{said_so, tokens_judged}
 use Rattle.explain_texts.proofs.explanation.explain_tokens.Goals as goal
 
 pub returns-in-Ok : goal.returns-in-Ok
 returns-in-Ok c =
-    tokens_judged c.args.all.now.list (view_program_tree c.in-Ok.program) c.explain_program-answer.result c.in-Ok.ensures.found c.explain_program-answer.ensures
+    tokens_judged c.args.all.now.list (view_program_tree c.in-Ok.program) c.explain_tree.result c.in-Ok.ensures.found c.explain_tree.ensures
 
 pub returns-in-Err : goal.returns-in-Err
 returns-in-Err c =

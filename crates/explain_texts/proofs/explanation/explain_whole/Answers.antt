@@ -1,6 +1,7 @@
 use Rattle.ss_engine.specs.Refusals.{lexed}
 use Rattle.explain_texts.specs.Judged.{IsJudged}
-use Rattle.explain_texts.proofs.Judging.{lexer_refused, said_so, text_judged}
+use Rattle.ss_engine.proofs.Fronts.{lexer_refused}
+use Rattle.explain_texts.proofs.Judging.{said_so, text_judged}
 use Rattle.explain_texts.proofs.explanation.explain_whole.Goals as goal
 
 pub returns-in-Ok : goal.returns-in-Ok

@@ -1,63 +1,28 @@
-use Rattle.std.proofs.Common.{ap, sym, ◌∙◌, ◌≤◌, Err, subst}
-use Rattle.std.specs.Prelude.{IfOk, IfErr}
-use Rattle.ss_tree.specs.Nodes.{tree_nodes}
+use Rattle.std.proofs.lemmas.Result.{IfOk-weaker, IfErr-weaker}
 use Rattle.ss_tree.specs.View.{view_program_tree as tree_seen}
-use Rattle.ss_program.specs.Nodes.{nodes}
-use Rattle.ss_program.specs.View.{view_program}
-use Rattle.ss_check.specs.Checking.{HasProgram, IsReportedBreach, refusal_of}
-use Rattle.ss_engine.proofs.Common.{code_of, coded, IsFaithful, IsFor, lexed, parsed, used}
-use Rattle.ss_engine.specs.Refusals.{table_refusal}
-use Rattle.ss_engine.specs.Accepting.{IsTreeOf, IsKeptBy, IsProgramOf, IsCompiledTo, IsRefusedWith}
-use Rattle.ss_engine.proofs.Fronts.{lexer_refused, parser_refused, tables_refused, checker_refused, generator_refused, refused_so}
+use Rattle.ss_engine.proofs.Common.{lexed, parsed}
+use Rattle.ss_engine.specs.Accepting.{IsTreeOf, IsCompiledTo, IsRefusedWith, IsTreeCompiledTo, IsTreeRefusedWith}
+use Rattle.ss_engine.proofs.Fronts.{lexer_refused, parser_refused, refused_so}
 use Rattle.ss_engine.proofs.compiling.compile.Goals as goal
 
 pub returns-in_err-tokens-clause-refused : goal.returns-in_err-tokens-clause-refused
 returns-in_err-tokens-clause-refused c =
-    refused_so c.args.text.now c.from_residual.result (lexed c.in_err-tokens.field-0.0) c.from_residual.ensures.1
+    refused_so (IsRefusedWith c.args.text.now) c.from_residual.result (lexed c.in_err-tokens.field-0.0) c.from_residual.ensures.1
     (lexer_refused c.args.text.now c.in_err-tokens.field-0.0 c.in_err-tokens.ensures.refused)
 
 pub returns-in_err-program-clause-refused : goal.returns-in_err-program-clause-refused
 returns-in_err-program-clause-refused c =
-    refused_so c.args.text.now c.from_residual-in_err-program.result (parsed c.in_err-program.field-0.0) c.from_residual-in_err-program.ensures.1
+    refused_so (IsRefusedWith c.args.text.now) c.from_residual-in_err-program.result (parsed c.in_err-program.field-0.0) c.from_residual-in_err-program.ensures.1
     (parser_refused c.args.text.now c.in_ok-tokens.tokens.list c.in_ok-tokens.ensures.found c.in_err-program.field-0.0 c.in_err-program.ensures.refused c.in_err-program.ensures.line)
-
-pub returns-in_err-outcome-clause-refused : goal.returns-in_err-outcome-clause-refused
-returns-in_err-outcome-clause-refused c =
-    let tree = tree_seen c.in_ok-program.program in
-    let read : IsTreeOf c.args.text.now tree = record { tokens = c.in_ok-tokens.tokens.list; are = c.in_ok-tokens.ensures.found; spelled = c.in_ok-program.ensures.found } in
-    refused_so c.args.text.now c.from_residual-in_err-outcome.result (table_refusal c.in_err-outcome.field-0.0) c.from_residual-in_err-outcome.ensures.1
-    (tables_refused c.args.text.now tree read c.in_err-outcome.field-0.0 c.in_err-outcome.ensures.misdeclared)
-
-pub returns-in_err-resolved-clause-refused : goal.returns-in_err-resolved-clause-refused
-returns-in_err-resolved-clause-refused c =
-    let tree = tree_seen c.in_ok-program.program in
-    let read : IsTreeOf c.args.text.now tree = record { tokens = c.in_ok-tokens.tokens.list; are = c.in_ok-tokens.ensures.found; spelled = c.in_ok-program.ensures.found } in
-    let breach = subst (λ r. IfErr r (λ e. IsReportedBreach e (refusal_of tree))) c.in_err-resolved.was c.in_ok-outcome.ensures.refused in
-    refused_so c.args.text.now c.from_residual-in_err-resolved.result (used c.in_err-resolved.field-0.0) c.from_residual-in_err-resolved.ensures.1
-    (checker_refused c.args.text.now tree read c.in_ok-outcome.ensures.declared c.in_err-resolved.field-0.0 breach)
-
-pub returns-in_err-code-clause-refused : goal.returns-in_err-code-clause-refused
-returns-in_err-code-clause-refused c =
-    let tree = tree_seen c.in_ok-program.program in
-    let p = view_program c.in_ok-resolved.resolved in
-    let read : IsTreeOf c.args.text.now tree = record { tokens = c.in_ok-tokens.tokens.list; are = c.in_ok-tokens.ensures.found; spelled = c.in_ok-program.ensures.found } in
-    let becomes : HasProgram tree c.in_ok-resolved.resolved = subst (λ r. IfOk r (λ d. HasProgram tree d)) c.in_ok-resolved.was c.in_ok-outcome.ensures.checked in
-    let keeps : IsKeptBy c.args.text.now tree = record { read = read; declared = c.in_ok-outcome.ensures.declared; kept = becomes.kept } in
-    let meant : IsProgramOf c.args.text.now p = record { tree = tree; keeps = keeps; resolved = becomes.resolved } in
-    refused_so c.args.text.now c.from_residual-in_err-code.result (coded c.in_err-code.field-0.0) c.from_residual-in_err-code.ensures.1
-    (generator_refused c.args.text.now p meant (subst (λ r. IfOk r (λ d. nodes (view_program d) ≤ tree_nodes tree)) c.in_ok-resolved.was c.in_ok-outcome.ensures.nodes) c.in_err-code.field-0.0
-    (λ small e. c.generate-made.ensures.small small (c.in_err-code.was ∙ ap Err e))
-    (λ e. c.generate-made.ensures.too_long (c.in_err-code.was ∙ ap Err e))
-    (c.laws_of_code.ensures.has_size p))
 
 pub returns-clause-accepted : goal.returns-clause-accepted
 returns-clause-accepted c =
     let tree = tree_seen c.in_ok-program.program in
-    let p = view_program c.in_ok-resolved.resolved in
     let read : IsTreeOf c.args.text.now tree = record { tokens = c.in_ok-tokens.tokens.list; are = c.in_ok-tokens.ensures.found; spelled = c.in_ok-program.ensures.found } in
-    let becomes : HasProgram tree c.in_ok-resolved.resolved = subst (λ r. IfOk r (λ d. HasProgram tree d)) c.in_ok-resolved.was c.in_ok-outcome.ensures.checked in
-    let keeps : IsKeptBy c.args.text.now tree = record { read = read; declared = c.in_ok-outcome.ensures.declared; kept = becomes.kept } in
-    let meant : IsProgramOf c.args.text.now p = record { tree = tree; keeps = keeps; resolved = becomes.resolved } in
-    let code_is : IsFor p c.in_ok-code.code = subst (λ r. IfOk r (λ code. IsFor p code)) c.in_ok-code.was c.generate-made.ensures.code in
-    let behaves : IsFaithful p (code_of p) = subst (λ r. IfOk r (λ code. IsFaithful p (code_of p))) c.in_ok-code.was c.generate-made.ensures.behaves in
-    subst (IsCompiledTo c.args.text.now) (sym c.new.ensures) (record { program = p; meant = meant; code_is = code_is; behaves = behaves })
+    IfOk-weaker c.compile_tree.result (IsTreeCompiledTo tree) (IsCompiledTo c.args.text.now) (λ model of_tree. of_tree c.args.text.now read) c.compile_tree.ensures.accepted
+
+pub returns-clause-refused : goal.returns-clause-refused
+returns-clause-refused c =
+    let tree = tree_seen c.in_ok-program.program in
+    let read : IsTreeOf c.args.text.now tree = record { tokens = c.in_ok-tokens.tokens.list; are = c.in_ok-tokens.ensures.found; spelled = c.in_ok-program.ensures.found } in
+    IfErr-weaker c.compile_tree.result (IsTreeRefusedWith tree) (IsRefusedWith c.args.text.now) (λ refusal of_tree. of_tree c.args.text.now read) c.compile_tree.ensures.refused
