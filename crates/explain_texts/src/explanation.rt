@@ -1,17 +1,14 @@
 //! The explanation of a refusal.
 
-ghost use Rattle.std.specs.Prelude.{◌≡◌, ◌×◌, ◌≢◌, Some, None, IfOk, IfSome};
+ghost use Rattle.std.specs.Prelude.{◌≡◌, ◌≢◌, Some, None, IfOk, IfSome};
 ghost use Rattle.ss_tree.specs.View.{view_program_tree};
 ghost use Rattle.ss_names.specs.Table.{table};
 ghost use Rattle.ss_tables_rules.specs.Broken.{refusal_of_declarations};
 ghost use Rattle.ss_engine.specs.Accepting.{IsTreeRefusedWith};
 ghost use Rattle.explain_texts.specs.Judged.{IsJudged, AreJudged, IsTreeJudged, IsWrong, refusal_for_uses};
 
-use crate::declared::explain_declared;
-use crate::notes::add_notes;
-use crate::sections::{Read, all_uses};
-use crate::used::explain_used;
 use explain_cures::syntax::{explain_depth, explain_syntax};
+use explain_names::{Read, add_notes, all_uses, explain_declared, explain_used};
 use explain_pages::{Made, Page};
 use ss_check_rules::{CheckError, judge};
 use ss_engine::{Refusal, compile_tree};

@@ -1,16 +1,7 @@
 //! What is wrong with a text, in words for who wrote it; and what looks odd in one that is right.
 #![tactic(auto)]
 
-mod counts;
-mod declared;
 mod explanation;
-mod locals;
-mod modes;
-mod needs;
-mod notes;
-mod sections;
-mod statements;
-mod used;
 
 pub use explain_pages::{Made, Page, Part, line_bytes, unindented};
 pub use explanation::explain_text;
