@@ -2,7 +2,7 @@
 use Rattle.std.proofs.Common.{◌≡◌, ℕ, ◌+◌, Bool, true, false, not, List, [], ◌∷◌, ◌++◌, length, Some, Ok, Err, ℤ, refl, sym, ap, ◌∙◌, subst, arith, length-append, ◌⊎◌, inl, inr}
 use Rattle.std.proofs.lemmas.Bool.{eqb-true, and_parts, false≢true}
 use Rattle.std.specs.Prelude.{Result as OkOr, slice_get, ◌==◌, ◌&&◌, if◌then◌else◌}
-use Rattle.ss_code_instructions.proofs.Common.{act, after, assigned_attribute, Attribute, attribute, Calculate, calculated, change, Clock, Code, Constant, Core, core_at, did, entity, entity_code, Expression, Fails, Failure, Faulted, FaultKind, Fetch, fetched, Figure, FigureOf, Frame, give_to, Global, height, Held, if_ok, InAttribute, is_due, leaf, let_code, lies_above, Line, Local, look, looked, looked_at, Mode, Moved, OfMember, OfSet, OfSystemSet, onward, Operand, operand, operand_code, or_zero, outcome_then, Part, place, Placed, RunState, settle, Signed, Site, stay, Stays, Store, sure, Taken, TimeOf, ToAttribute, turned, TypeError, Unary, Value, value, Variable, with_cells, with_operand, with_operand_value, with_values, write}
+use Rattle.ss_code_instructions.proofs.Common.{act, after, assigned_attribute, Attribute, attribute, Calculate, calculated, change, Code, Constant, Core, core_at, did, entity, entity_code, Expression, Fails, Failure, Faulted, FaultKind, Fetch, fetched, FigureOf, Frame, give_to, Global, height, Held, if_ok, InAttribute, is_due, leaf, let_code, lies_above, Line, Local, look, looked, looked_at, Mode, Moved, OfMember, OfSet, onward, Operand, operand, operand_code, or_zero, outcome_then, Part, place, Placed, RunState, settle, Signed, Site, stay, Store, sure, TimeOf, ToAttribute, turned, TypeError, Unary, Value, value, Variable, with_cells, with_operand, with_operand_value, with_values, write}
 use Rattle.ss_code_instructions.specs.Facts.{must_look, is_leaf, is_constant, same_variable, is_fetch_of, looks_first}
 use Rattle.ss_code_instructions.specs.Instructions as i
 use Rattle.ss_code_instructions.proofs.Steps.{HasAt, has_front, has_back, Reaches, here, free, at, left_to, arrive}
@@ -21,36 +21,14 @@ variable_same (Local k) (Local j) q = ap Local (eqb-true k j q)
 
 fetch_value : (x : Variable) (e : Expression) (v : Value) (s : Store) → is_fetch_of x e ≡ true → fetched x s ≡ Some v → value e s ≡ Ok v
 fetch_value x (Fetch y) v s q f = ap sure (ap (λ z. fetched z s) (sym (variable_same x y q)) ∙ f)
-fetch_value x (Constant c) v s q f = absurd cc
-fetch_value x (Attribute class field e) v s q f = absurd cc
-fetch_value x (OfSystemSet query set) v s q f = absurd cc
-fetch_value x (OfSet query set e) v s q f = absurd cc
-fetch_value x (OfMember query set e) v s q f = absurd cc
-fetch_value x Clock v s q f = absurd cc
-fetch_value x (TimeOf e) v s q f = absurd cc
-fetch_value x (Figure fold j) v s q f = absurd cc
-fetch_value x (FigureOf fold j e) v s q f = absurd cc
-fetch_value x (Signed sign e) v s q f = absurd cc
-fetch_value x (Unary op e) v s q f = absurd cc
-fetch_value x (Calculate op a b) v s q f = absurd cc
+fetch_value x _ v s q f = absurd cc
 
 pub err_first : {A B : Type 0} (r : OkOr A Failure) (f : A → OkOr B Failure) (t : Failure) → r ≡ Err t → if_ok r f ≡ Err t
 err_first r f t e = ap (λ r. if_ok r f) e
 
 constant_value : (e : Expression) (s : Store) → is_constant e ≡ true → (c : Value) × (value e s ≡ Ok c)
 constant_value (Constant c) s q = (c, refl)
-constant_value (Fetch y) s q = absurd cc
-constant_value (Attribute class field e) s q = absurd cc
-constant_value (OfSystemSet query set) s q = absurd cc
-constant_value (OfSet query set e) s q = absurd cc
-constant_value (OfMember query set e) s q = absurd cc
-constant_value Clock s q = absurd cc
-constant_value (TimeOf e) s q = absurd cc
-constant_value (Figure fold j) s q = absurd cc
-constant_value (FigureOf fold j e) s q = absurd cc
-constant_value (Signed sign e) s q = absurd cc
-constant_value (Unary op e) s q = absurd cc
-constant_value (Calculate op a b) s q = absurd cc
+constant_value _ s q = absurd cc
 
 -- it fails as the look does
 pub first_look : (class : ℕ) (x : Variable) (e : Expression) (v : Value) (s : Store) (t : Failure) → looks_first class x e ≡ true → fetched x s ≡ Some v → entity class v s ≡ Err t → value e s ≡ Err t
@@ -77,11 +55,7 @@ first_look class x (Calculate op a b) v s t q f h = by (λ q. first_look class x
         let c = constant_value a s i in
         ap (λ r. if_ok r (λ x. if_ok (value b s) (λ y. calculated op x y))) c.1
         ∙ err_first (value b s) _ t (right q)
-first_look class x (Constant c) v s t q f h = absurd (false≢true q)
-first_look class x (Fetch y) v s t q f h = absurd (false≢true q)
-first_look class x (OfSystemSet query set) v s t q f h = absurd (false≢true q)
-first_look class x Clock v s t q f h = absurd (false≢true q)
-first_look class x (Figure fold j) v s t q f h = absurd (false≢true q)
+first_look class x _ v s t q f h = absurd (false≢true q)
 
 leaf_if : (e : Expression) → not (is_leaf e) ≡ false → is_leaf e ≡ true
 leaf_if e q = by (is_leaf e) q
@@ -101,31 +75,16 @@ unlooked class (Fetch x) e v s t q p h = by (is_leaf e) refl q
     by : (b : Bool) → is_leaf e ≡ b → (if b then false else not (looks_first class x e)) ≡ false → (value e s ≡ Err t) ⊎ (is_leaf e ≡ true)
     by true i q = inr i
     by false i q = inl (first_look class x e v s t (found (looks_first class x e) q) (sure_is (fetched x s) v p) h)
-unlooked class (Constant c) e v s t q p h = inr (leaf_if e q)
-unlooked class (Attribute k field r) e v s t q p h = inr (leaf_if e q)
-unlooked class (OfSystemSet query set) e v s t q p h = inr (leaf_if e q)
-unlooked class (OfSet query set r) e v s t q p h = inr (leaf_if e q)
-unlooked class (OfMember query set r) e v s t q p h = inr (leaf_if e q)
-unlooked class Clock e v s t q p h = inr (leaf_if e q)
-unlooked class (TimeOf r) e v s t q p h = inr (leaf_if e q)
-unlooked class (Figure fold j) e v s t q p h = inr (leaf_if e q)
-unlooked class (FigureOf fold j r) e v s t q p h = inr (leaf_if e q)
-unlooked class (Signed sign r) e v s t q p h = inr (leaf_if e q)
-unlooked class (Unary op r) e v s t q p h = inr (leaf_if e q)
-unlooked class (Calculate op a b) e v s t q p h = inr (leaf_if e q)
+unlooked class _ e v s t q p h = inr (leaf_if e q)
 
 -- a constant or a variable lies below no cell
 pub low_constant : (x : Operand) (c : Value) → lies_above x (i.Constant c) ≡ false
 low_constant (i.Constant v) c = refl
-low_constant (Held y) c = refl
-low_constant (Taken h) c = refl
-low_constant (Stays h) c = refl
+low_constant _ c = refl
 
 pub low_held : (x : Operand) (y : Variable) → lies_above x (Held y) ≡ false
 low_held (i.Constant v) y = refl
-low_held (Held z) y = refl
-low_held (Taken h) y = refl
-low_held (Stays h) y = refl
+low_held _ y = refl
 
 module _ (code : Code) (n : ℕ) where
   -- an instruction that changes the store by two operands
@@ -168,17 +127,7 @@ module _ (code : Code) (n : ℕ) where
       leaf_faults t (after (after t r) (Constant c)).cells class field r (i.Constant c) v c kind q cells frames w high p h (low_constant (operand t r) c) (λ cs go. refl) has.0
   valued_faults t class field r (Fetch y) v kind q cells frames w high p h leaf_ has =
       leaf_faults t (after (after t r) (Fetch y)).cells class field r (Held y) v (or_zero (fetched y w.store)) kind q cells frames w high p h (low_held (operand t r) y) (λ cs go. refl) has.0
-  valued_faults t class field r (Attribute k f e) v kind q cells frames w high p h leaf_ has = absurd (false≢true leaf_)
-  valued_faults t class field r (OfSystemSet query set) v kind q cells frames w high p h leaf_ has = absurd (false≢true leaf_)
-  valued_faults t class field r (OfSet query set e) v kind q cells frames w high p h leaf_ has = absurd (false≢true leaf_)
-  valued_faults t class field r (OfMember query set e) v kind q cells frames w high p h leaf_ has = absurd (false≢true leaf_)
-  valued_faults t class field r Clock v kind q cells frames w high p h leaf_ has = absurd (false≢true leaf_)
-  valued_faults t class field r (TimeOf e) v kind q cells frames w high p h leaf_ has = absurd (false≢true leaf_)
-  valued_faults t class field r (Figure fold j) v kind q cells frames w high p h leaf_ has = absurd (false≢true leaf_)
-  valued_faults t class field r (FigureOf fold j e) v kind q cells frames w high p h leaf_ has = absurd (false≢true leaf_)
-  valued_faults t class field r (Signed sign e) v kind q cells frames w high p h leaf_ has = absurd (false≢true leaf_)
-  valued_faults t class field r (Unary op e) v kind q cells frames w high p h leaf_ has = absurd (false≢true leaf_)
-  valued_faults t class field r (Calculate op a b) v kind q cells frames w high p h leaf_ has = absurd (false≢true leaf_)
+  valued_faults t class field r _ v kind q cells frames w high p h leaf_ has = absurd (false≢true leaf_)
 
   -- the reference is evaluated, and looked at, before the value
   abbrev let_part : Line → (class field : ℕ) → Expression → Value → Part (Unit {0})

@@ -1,6 +1,6 @@
 -- A member, then an owner, then an instruction that works on both: the member is looked at before where the owner's evaluation may fault.
 use Rattle.std.proofs.Common.{◌≡◌, ℕ, ◌+◌, Bool, true, false, List, [], ◌∷◌, ◌++◌, length, Option, Some, None, Ok, Err, ℤ, refl, sym, ap, ◌∙◌, subst, arith, length-append}
-use Rattle.ss_code_instructions.proofs.Common.{act, after, after_bearer, Attribute, bearer, bearer_code, Calculate, cell_at, Clock, Code, Constant, core_at, did, eq-eqb, Expression, expression_of, Fails, Failure, FaultKind, Fetch, fetched, Figure, FigureOf, fit, Frame, height, if_ok, is_due, leaf, look, looked, looked_at, looked_code, MachineState, may_fault, member, member_value, Moved, OfMember, OfSet, OfSystemSet, onward, operand, operand_code, or_cell, or_zero, outcome_then, owner_value, Part, place, RunState, SetOwner, Signed, Site, stay, Store, TimeOf, turned, TypeError, Unary, Value, value, with_bearer, with_operand_value, with_owner}
+use Rattle.ss_code_instructions.proofs.Common.{act, after, after_bearer, bearer, bearer_code, cell_at, Code, Constant, core_at, did, eq-eqb, Expression, expression_of, Fails, Failure, FaultKind, Fetch, fetched, fit, Frame, height, if_ok, is_due, leaf, look, looked, looked_at, looked_code, MachineState, may_fault, member, member_value, Moved, onward, operand, operand_code, or_cell, or_zero, outcome_then, owner_value, Part, place, RunState, SetOwner, Site, stay, Store, turned, TypeError, Value, value, with_bearer, with_operand_value, with_owner}
 use Rattle.std.specs.Prelude.{slice_get, Result as OkOr, if◌then◌else◌}
 use Rattle.ss_code_instructions.specs.Instructions.{Bearer, Held, Instruction, Operand, Placed, Constant as AConstant, LookMember}
 use Rattle.ss_code_instructions.proofs.Steps.{HasAt, has_front, has_back, Reaches, free, at, arrive}
@@ -17,17 +17,7 @@ top_cell h v cells e = ap (λ (b : Bool). if b then Some v else cell_at h cells)
 pub leaf_stays : (e : Expression) (x : Operand) → leaf e ≡ Some x → stay x ≡ x
 leaf_stays (Constant u) x q = let e : AConstant u ≡ x = cc in subst (λ x. stay x ≡ x) e refl
 leaf_stays (Fetch y) x q = let e : Held y ≡ x = cc in subst (λ x. stay x ≡ x) e refl
-leaf_stays (Attribute class field e) x q = absurd cc
-leaf_stays (OfSystemSet query set) x q = absurd cc
-leaf_stays (OfSet query set e) x q = absurd cc
-leaf_stays (OfMember query set e) x q = absurd cc
-leaf_stays Clock x q = absurd cc
-leaf_stays (TimeOf e) x q = absurd cc
-leaf_stays (Figure fold j) x q = absurd cc
-leaf_stays (FigureOf fold j e) x q = absurd cc
-leaf_stays (Signed sign e) x q = absurd cc
-leaf_stays (Unary op e) x q = absurd cc
-leaf_stays (Calculate op a b) x q = absurd cc
+leaf_stays _ x q = absurd cc
 
 -- an operand that stays gives the value of its expression
 pub stay_reads : (t : Site) (e : Expression) (v : Value) (s : Store) (cells : List Value) (go : Value → List Value → Moved) → length cells ≡ height t → value e s ≡ Ok v → with_operand_value (stay (operand t e)) s (held (leaf e) v cells) go ≡ go v (held (leaf e) v cells)
@@ -49,17 +39,7 @@ pub still : (t : Site) (o : Option Expression) → may_fault o ≡ false → Sti
 still t None q = record { empty = refl; given = λ s. None; gives = λ s cells go. refl }
 still t (Some (Constant v)) q = record { empty = refl; given = λ s. Some v; gives = λ s cells go. refl }
 still t (Some (Fetch x)) q = record { empty = refl; given = λ s. Some (or_zero (fetched x s)); gives = λ s cells go. refl }
-still t (Some (Attribute class field e)) q = absurd cc
-still t (Some (OfSystemSet query set)) q = absurd cc
-still t (Some (OfSet query set e)) q = absurd cc
-still t (Some (OfMember query set e)) q = absurd cc
-still t (Some Clock) q = absurd cc
-still t (Some (TimeOf e)) q = absurd cc
-still t (Some (Figure fold j)) q = absurd cc
-still t (Some (FigureOf fold j e)) q = absurd cc
-still t (Some (Signed sign e)) q = absurd cc
-still t (Some (Unary op e)) q = absurd cc
-still t (Some (Calculate op a b)) q = absurd cc
+still t (Some _) q = absurd cc
 
 -- an operation on a member and an owner looks at the member first
 abbrev pub LooksFirst : {A : Type 0} → (set : ℕ) → (Value → Option Value → Store → OkOr A Failure) → Type 0
