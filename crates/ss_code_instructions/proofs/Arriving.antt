@@ -1,9 +1,10 @@
 -- Whatever input is handed to a machine as it goes on, it finds at each place what the place says, and is never stuck.
-use Rattle.std.proofs.Common.{ℕ, zero, suc, List, sym, subst}
-use Rattle.ss_code_instructions.proofs.Common.{Code, code_of, Core, HasShape, IsFitForCode, IsFittingStore, IsWellTyped, Program, ShapeStays}
+use Rattle.std.proofs.Common.{ℕ, zero, suc, List, [], refl, sym, subst}
+use Rattle.ss_code_instructions.proofs.Common.{Code, code_of, Core, HasShape, IsFitForCode, IsWellTyped, Program, ShapeStays}
 use Rattle.ss_code_instructions.specs.Running.{start, begin_store}
 use Rattle.ss_meaning.specs.Laws.{BeginsFit}
 use Rattle.ss_code_instructions.specs.Reached.{IsReachedAfter, ReachedFits, ReachedGoes, core_with_input, at_core}
+use Rattle.ss_code_instructions.proofs.Valued.{goes_to}
 use Rattle.ss_code_instructions.proofs.ShapeKept.{fits_goes}
 
 -- a state fits as well with another input
@@ -34,17 +35,7 @@ fits_input p code c input f =
 
 module _ (shape : HasShape) (stays : ShapeStays) (begins : BeginsFit) (p : Program) (typed : IsWellTyped p) where
   first_fits : (input : List ℕ) → IsFitForCode p (code_of p) (start (code_of p) input 0).core
-  first_fits input =
-      let at = (shape p typed).first in
-      record {
-        placed = at.placed;
-        fits = record {
-          there = at.there;
-          store = subst (λ ms. IsFittingStore p ms (begin_store (code_of p) input)) (sym at.locals) (begins p input);
-          cells = sym at.cells;
-          frames = tt;
-        };
-      }
+  first_fits input = goes_to p typed (code_of p) p.locals 0 [] [] [] (begin_store (code_of p) input) (shape p typed).first (begins p input) refl tt
 
   in_fits : (n : ℕ) (c : Core) → IsReachedAfter n (code_of p) c → IsFitForCode p (code_of p) c
   in_fits zero c h = subst (IsFitForCode p (code_of p)) (sym h.1) (first_fits h.0)

@@ -57,25 +57,18 @@ first_look class x (Calculate op a b) v s t q f h = by (λ q. first_look class x
         ∙ err_first (value b s) _ t (right q)
 first_look class x _ v s t q f h = absurd (false≢true q)
 
-leaf_if : (e : Expression) → not (is_leaf e) ≡ false → is_leaf e ≡ true
-leaf_if e q = by (is_leaf e) q
-  where
-    by : (b : Bool) → not b ≡ false → b ≡ true
-    by true q = refl
-    by false q = absurd cc
+not_false : (b : Bool) → not b ≡ false → b ≡ true
+not_false true q = refl
+not_false false q = absurd cc
 
 -- where a reference is not looked at before, the value is a constant or a variable, or fails as the look does
 pub unlooked : (class : ℕ) (r e : Expression) (v : Value) (s : Store) (t : Failure) → must_look class r e ≡ false → value r s ≡ Ok v → entity class v s ≡ Err t → (value e s ≡ Err t) ⊎ (is_leaf e ≡ true)
 unlooked class (Fetch x) e v s t q p h = by (is_leaf e) refl q
   where
-    found : (b : Bool) → not b ≡ false → b ≡ true
-    found true q = refl
-    found false q = absurd cc
-
     by : (b : Bool) → is_leaf e ≡ b → (if b then false else not (looks_first class x e)) ≡ false → (value e s ≡ Err t) ⊎ (is_leaf e ≡ true)
     by true i q = inr i
-    by false i q = inl (first_look class x e v s t (found (looks_first class x e) q) (sure_is (fetched x s) v p) h)
-unlooked class _ e v s t q p h = inr (leaf_if e q)
+    by false i q = inl (first_look class x e v s t (not_false (looks_first class x e) q) (sure_is (fetched x s) v p) h)
+unlooked class _ e v s t q p h = inr (not_false (is_leaf e) q)
 
 -- a constant or a variable lies below no cell
 pub low_constant : (x : Operand) (c : Value) → lies_above x (i.Constant c) ≡ false
@@ -139,9 +132,8 @@ module _ (code : Code) (n : ℕ) where
   spot_then l class field e (Ok v) w = by (entity class v w.store)
     where
       by : (m : OkOr ℤ Failure) → outcome_then (looked l m w) (λ n w. outcome_then (look l (value e) w) (write l (InAttribute class field v))) ≡ outcome_then (looked l (turned (InAttribute class field) (turned (λ n. v) m)) w) (λ p w. outcome_then (look l (value e) w) (write l p))
-      by (Ok n) = refl
       by (Err (Fails kind)) = refl
-      by (Err TypeError) = refl
+      by _ = refl
 
   pub let_attribute_runs : (t : Site) (class field : ℕ) (r e : Expression) → Runs code n (height t) same (let_code t (ToAttribute class field r) e) done (give_to t.line (ToAttribute class field r) (look t.line (value e)))
   let_attribute_runs t class field r e = record { by = λ p cells frames w high has in_. choose p cells frames w high in_ (must_look class r e) refl has }

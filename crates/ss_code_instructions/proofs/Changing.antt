@@ -75,9 +75,8 @@ module _ (code : Code) (n : ℕ) where
   change_is l sign class field v z w (Ok n) e = of (attribute class field v w.store)
     where
       sum : (r : OkOr Value Failure) → outcome_then (looked l (if_ok r (λ u. assigned_attribute class field v u w.store)) w) settle ≡ outcome_then (looked l r w) (write l (InAttribute class field v))
-      sum (Ok u) = refl
       sum (Err (Fails kind)) = refl
-      sum (Err TypeError) = refl
+      sum _ = refl
 
       of : (a : OkOr Value Failure) → outcome_then (looked l (if_ok a (λ x. if_ok (calculated (operator_of sign) x z) (λ u. assigned_attribute class field v u w.store))) w) settle ≡ outcome_then (looked l (if_ok a (λ x. calculated (operator_of sign) x z)) w) (write l (InAttribute class field v))
       of (Ok x) = sum (calculated (operator_of sign) x z)

@@ -12,9 +12,8 @@ use Rattle.ss_code_instructions.proofs.Members.{member_owner_run}
 use Rattle.ss_code_instructions.proofs.Branching.{both_lands, either_lands, not_lands}
 
 turned_did : {A B : Type 0} (l : Line) (r : OkOr A Failure) (g : A → B) (go : B → Moved) → did l r (λ a. go (g a)) ≡ did l (turned g r) go
-turned_did l (Ok a) g go = refl
 turned_did l (Err (Fails k)) g go = refl
-turned_did l (Err TypeError) g go = refl
+turned_did l _ g go = refl
 
 -- where the first of two fails
 first_fails : {A B : Type 0} (r : OkOr A Failure) (f : A → OkOr B Failure) (kind : FaultKind) → r ≡ Err (Fails kind) → if_ok r f ≡ Err (Fails kind)
@@ -33,9 +32,8 @@ module _ (code : Code) (n : ℕ) (t : Site) where
   }
     where
       last : (r : OkOr Bool Failure) (w : RunState) → outcome_then (looked t.line r w) (λ b. WentOn (not_if negated b)) ≡ looked t.line (turned (not_if negated) r) w
-      last (Ok b) w = refl
       last (Err (Fails kind)) w = refl
-      last (Err TypeError) w = refl
+      last _ w = refl
 
       owned : (v : Value) (r : OkOr (Option Value) Failure) (w : RunState) → outcome_then (looked t.line r w) (λ u w. outcome_then (look t.line (is_in set v u) w) (λ b. WentOn (not_if negated b))) ≡ looked t.line (if_ok r (λ u. turned (not_if negated) (is_in set v u w.store))) w
       owned v (Ok u) w = last (is_in set v u w.store) w

@@ -12,7 +12,7 @@ use Rattle.ss_base.specs.declared.layout.ClassKind.TheVariants.{Permanent, Tempo
 use Rattle.ss_base.specs.declared.layout.Discipline.TheVariants.{Fifo, Lifo, Ranked}
 use Rattle.ss_base.specs.declared.layout.Layout.{Layout}
 use Rattle.ss_base.specs.declared.layout.RankKey.{RankKey}
-use Rattle.ss_world.specs.Sets.{member_in, member_class, joiner, owner, first_in, last_in, put_before, put_after, less, with_list_of, put_in, put_beside, taken_out, filed_first, filed_last, filed_before, filed_after, removed, AreMembersApart}
+use Rattle.ss_world.specs.Sets.{member_in, member_class, joiner, owner, first_in, last_in, put_before, put_after, less, with_list_of, put_in, put_beside, taken_out, filed_first, filed_last, filed_before, filed_after, removed}
 use Rattle.ss_meaning.specs.Fitting.{class_of_record, living, made, IsIndex, IsLivingAs, IsLiving}
 use Rattle.ss_meaning.proofs.Fine.{Sane, sane_then}
 use Rattle.ss_meaning.proofs.Heaps.{HasRecord, IsEntityAs, entity_known, entity_lives, notice_known, set_length}
@@ -70,10 +70,6 @@ joiner_lives h s (pos n) =
 joiner_lives h s (negsuc n) =
     sane_then (λ n. IsLiving h (member_class h.layout s) (pos n)) (entity_in h (member_class h.layout s) (negsuc n)) (λ r. Ok 0) (entity_known h (member_class h.layout s) (negsuc n)) (λ r q.
     absurd (no_negative (kind_of h.layout (member_class h.layout s)) h (member_class h.layout s) n r q))
-
--- so it is where sets are apart
-pub apart_joined : (h : State) → AreMembersApart h → Joined h
-apart_joined h a s o x i m = subst (Sane (λ n. IsLiving h (member_class h.layout s) (pos n))) (a.members s o x i m).1 (joiner_lives h s (pos x))
 
 -- and where there is no entity
 pub first_joined : (l : Layout) → Joined (first_state l)

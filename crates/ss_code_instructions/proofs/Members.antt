@@ -88,6 +88,10 @@ module _ (code : Code) (n : ℕ) where
           ∙ ap (λ z. did t.line z (next (p + length c) (held (leaf e) v cells) frames w.store cells)) (first v (s.given w.store) w.store kind z))
           breaks
 
+      member_then : (r : OkOr Value Failure) → outcome_then (looked t.line r w) (λ v w. outcome_then (look t.line (λ s. turned (λ n. v) (member set v s)) w) (λ v w. outcome_then (look t.line (owner_value o) w) (λ u w. outcome_then (look t.line (op v u) w) go))) ≡ outcome_then (looked t.line (if_ok r (looked_at (λ x. member set x w.store))) w) (λ v w. outcome_then (look t.line (owner_value o) w) (λ u w. outcome_then (look t.line (op v u) w) go))
+      member_then (Err (Fails kind)) = refl
+      member_then _ = refl
+
       by : (b : Bool) → may_fault y ≡ b → HasAt code.places p (looked_code t b e (LookMember set) ++ with_owner (after t e) o (make (operand t e))) → ((q : ℕ) (cells0 : List Value) (a : A) → q + 1 ≡ p + length (looked_code t b e (LookMember set) ++ with_owner (after t e) o (make (operand t e))) → Leads code w (next q cells0 frames w.store cells a) (arrive k frames (go a w))) → Reaches code (at p cells frames w) (arrive k frames (outcome_then (look t.line (member_value set e) w) (λ v w. outcome_then (look t.line (owner_value o) w) (λ u w. outcome_then (look t.line (op v u) w) go))))
       by false q h g =
           let rest = with_owner (after t e) o (make (operand t e)) in
@@ -95,11 +99,6 @@ module _ (code : Code) (n : ℕ) where
           subst (λ z. Reaches code (at p cells frames w) (arrive k frames z)) (member_then (value e w.store))
           (one_join code n t e (evaluates code n t e) rest k (λ v w. outcome_then (look t.line (λ s. turned (λ n. v) (member set v s)) w) (λ v w. outcome_then (look t.line (owner_value o) w) (λ u w. outcome_then (look t.line (op v u) w) go))) p cells frames w high h in_ (λ v r h'.
           unlooked v r q (member set v w.store) refl h' (λ j cells0 a m. g j cells0 a (m ∙ len))))
-        where
-          member_then : (r : OkOr Value Failure) → outcome_then (looked t.line r w) (λ v w. outcome_then (look t.line (λ s. turned (λ n. v) (member set v s)) w) (λ v w. outcome_then (look t.line (owner_value o) w) (λ u w. outcome_then (look t.line (op v u) w) go))) ≡ outcome_then (looked t.line (if_ok r (looked_at (λ x. member set x w.store))) w) (λ v w. outcome_then (look t.line (owner_value o) w) (λ u w. outcome_then (look t.line (op v u) w) go))
-          member_then (Ok v) = refl
-          member_then (Err (Fails kind)) = refl
-          member_then (Err TypeError) = refl
       by true q h g =
           let rest = with_owner (after t e) o (make (operand t e)) in
           let look_ : Placed = place (after t e) (LookMember set (stay (operand t e))) in
@@ -115,8 +114,3 @@ module _ (code : Code) (n : ℕ) where
           (subst (λ z. Leads code w (did t.line (member set v w.store) (λ _. onward (held (leaf e) v cells) (core_at (p + length c) (held (leaf e) v cells) frames w.store) w.store)) (arrive k frames z)) (turned_then t.line (member set v w.store) (λ n. v) (λ v w. outcome_then (look t.line (owner_value o) w) (λ u w. outcome_then (look t.line (op v u) w) go)) w)
           (did_leads code t.line (member set v w.store) _ w k frames (λ n w. outcome_then (look t.line (owner_value o) w) (λ u w. outcome_then (look t.line (op v u) w) go)) (λ m z.
           onwards (owned v r (p + length c + 1) (p + length (front ++ rest)) len h1 (λ j cells0 a s. g j cells0 a s)))))))
-        where
-          member_then : (r : OkOr Value Failure) → outcome_then (looked t.line r w) (λ v w. outcome_then (look t.line (λ s. turned (λ n. v) (member set v s)) w) (λ v w. outcome_then (look t.line (owner_value o) w) (λ u w. outcome_then (look t.line (op v u) w) go))) ≡ outcome_then (looked t.line (if_ok r (looked_at (λ x. member set x w.store))) w) (λ v w. outcome_then (look t.line (owner_value o) w) (λ u w. outcome_then (look t.line (op v u) w) go))
-          member_then (Ok v) = refl
-          member_then (Err (Fails kind)) = refl
-          member_then (Err TypeError) = refl

@@ -47,9 +47,8 @@ computes code l to r p cells cells0 frames w h =
     (delivers code l to (turned {B = Value × Store} (λ v. (v, w.store)) r) p cells cells0 frames w h)
   where
     back : (r : OkOr Value Failure) → outcome_then (looked l (turned {B = Value × Store} (λ v. (v, w.store)) r) w) settle_with ≡ looked l r w
-    back (Ok v) = refl
     back (Err (Fails kind)) = refl
-    back (Err TypeError) = refl
+    back _ = refl
 
 -- ## Operands
 

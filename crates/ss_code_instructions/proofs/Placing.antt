@@ -63,9 +63,8 @@ module _ (code : Code) (n : ℕ) where
       onwards (subst (λ j. Reaches code (at j (held (leaf e) v cells) frames w) (arrive k frames (go v w))) (sym end) (f v r h1)))))))
     where
       member_then : (r : OkOr Value Failure) → outcome_then (looked t.line r w) (λ v w. outcome_then (looked t.line (turned (λ n. v) (member set v w.store)) w) go) ≡ outcome_then (looked t.line (if_ok r (looked_at (λ x. member set x w.store))) w) go
-      member_then (Ok v) = refl
       member_then (Err (Fails kind)) = refl
-      member_then (Err TypeError) = refl
+      member_then _ = refl
 
   -- ## Where no other member is beside it
 

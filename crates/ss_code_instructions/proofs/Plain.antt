@@ -1,7 +1,7 @@
 -- Statements of one operand and one instruction: DESTROY, CANCEL, SKIP; and CREATE EVERY and RESET.
-use Rattle.std.proofs.Common.{◌≡◌, ℕ, ◌+◌, false, List, [], ◌∷◌, ◌++◌, length, Option, Ok, Err, refl, ◌∙◌, subst, arith, length-append}
+use Rattle.std.proofs.Common.{◌≡◌, ℕ, ◌+◌, false, List, [], ◌∷◌, ◌++◌, length, Option, Err, refl, ◌∙◌, subst, arith, length-append}
 use Rattle.std.specs.Prelude.{Result as OkOr}
-use Rattle.ss_code_instructions.proofs.Common.{act, after, after_bearer, bearer, bearer_code, change, Code, core_at, CountedClass, creates_code, did, empty_lines, Expression, Fails, Failure, Frame, height, if_ok, Instruction, is_due, leaf, look, looked, MachineState, made_all, onward, Operand, operand, operand_code, outcome_then, place, Placed, reset, Restart, restarts_code, RunState, send, Sends, settle, Site, Store, TypeError, unscheduled, Value, value, value_if_any, with_operand, with_operand_value, without}
+use Rattle.ss_code_instructions.proofs.Common.{act, after, after_bearer, bearer, bearer_code, change, Code, core_at, CountedClass, creates_code, did, empty_lines, Expression, Fails, Failure, Frame, height, if_ok, Instruction, is_due, leaf, look, looked, MachineState, made_all, onward, Operand, operand, operand_code, outcome_then, place, Placed, reset, Restart, restarts_code, RunState, send, Sends, settle, Site, Store, unscheduled, Value, value, value_if_any, with_operand, with_operand_value, without}
 use Rattle.ss_meaning.specs.Statements.{create_every, destroy, cancel, restart_each}
 use Rattle.ss_code_instructions.specs.Instructions as i
 use Rattle.ss_code_instructions.proofs.Steps.{Comes, Reaches, here, at, arrive}
@@ -50,9 +50,8 @@ module _ (code : Code) (n : ℕ) where
   }
     where
       lines_then : (r : OkOr Value Failure) (w : RunState) → outcome_then (looked t.line r w) (λ v w. outcome_then (looked t.line (empty_lines v) w) send) ≡ outcome_then (looked t.line (if_ok r empty_lines) w) send
-      lines_then (Ok v) w = refl
       lines_then (Err (Fails kind)) w = refl
-      lines_then (Err TypeError) w = refl
+      lines_then _ w = refl
 
   pub creates_run : (t : Site) (cs : List CountedClass) → Runs code n (height t) same (creates_code t cs) done (create_every t.line cs)
   creates_run t [] = none code n (height t) tt

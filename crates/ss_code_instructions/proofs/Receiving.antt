@@ -130,9 +130,8 @@ module _ (code : Code) (n : ℕ) where
       spot_first l class field m (Ok v) w = by (entity class v w.store)
         where
           by : (k : OkOr ℤ Failure) → outcome_then (looked l k w) (λ a w. outcome_then (m w) (write l (InAttribute class field v))) ≡ outcome_then (looked l (turned (InAttribute class field) (turned (λ n. v) k)) w) (λ q w. outcome_then (m w) (write l q))
-          by (Ok a) = refl
           by (Err (Fails kind)) = refl
-          by (Err TypeError) = refl
+          by _ = refl
 
   pub to_place_runs : (t : Site) (p : Place) (mode : Mode) (source : Site → To → List Placed) (m : Part Value) → Quietly m → Sources source t.line m → Runs code n (height t) same (to_place_code t p mode source) done (give_to t.line p m)
   to_place_runs t (ToVariable x) mode source m quiet r = variable_runs code n t x (source t) m (λ to tops. r t to refl tops)

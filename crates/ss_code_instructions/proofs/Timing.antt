@@ -96,6 +96,5 @@ module _ (code : Code) (n : ℕ) where
       onwards (subst (λ j. Reaches code (at j (held (leaf e) v cells) frames w) (arrive k frames (go v w))) (sym end) (f v r h1)))))))
     where
       entity_then : (r : OkOr Value Failure) → outcome_then (looked t.line r w) (λ v w. outcome_then (looked t.line (turned (λ (n : ℤ). v) (entity class v w.store)) w) go) ≡ outcome_then (looked t.line (if_ok r (looked_at (λ x. entity class x w.store))) w) go
-      entity_then (Ok v) = refl
       entity_then (Err (Fails kind)) = refl
-      entity_then (Err TypeError) = refl
+      entity_then _ = refl
