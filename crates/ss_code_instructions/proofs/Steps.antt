@@ -35,6 +35,28 @@ has_all {A} (i ∷ is) pre =
     let rest' = subst (λ l. HasAt l (length (pre ++ i ∷ [])) is) (append_assoc pre (i ∷ []) is) rest in
     (here, subst (λ m. HasAt (pre ++ i ∷ is) m is) n rest')
 
+-- what holds of each item of a list and of its place, where the first has this one
+module _ {A : Type 0} (P : ℕ → A → Type 0) where
+  abbrev pub EachAt : ℕ → List A → Type 0
+  EachAt q [] = Unit {0}
+  EachAt q (x ∷ c) = P q x × EachAt (q + 1) c
+
+  pub each_append : (q : ℕ) (c d : List A) → EachAt q c → EachAt (q + length c) d → EachAt q (c ++ d)
+  each_append q [] d h k = let e : q + 0 ≡ q = omega arith in subst (λ j. EachAt j d) e k
+  each_append q (x ∷ c) d h k =
+      let e : q + length (x ∷ c) ≡ q + 1 + length c = omega arith in
+      (h.0, each_append (q + 1) c d h.1 (subst (λ j. EachAt j d) e k))
+
+  pub each_get : (q : ℕ) (c : List A) → EachAt q c → (k : ℕ) (x : A) → slice_get c k ≡ Some x → P (q + k) x
+  each_get q [] h k x e = absurd cc
+  each_get q (y ∷ c) h zero x e =
+      let same : y ≡ x = cc in
+      let j : q ≡ q + 0 = omega arith in
+      subst (λ j. P j x) j (subst (P q) same h.0)
+  each_get q (y ∷ c) h (suc k) x e =
+      let j : q + 1 + k ≡ q + suc k = omega arith in
+      subst (λ j. P j x) j (each_get (q + 1) c h.1 k x e)
+
 -- where a run leads: to a state, or to its end; or nothing is promised
 pub data Goal : Type 0 where
   Comes : MachineState → Goal
