@@ -90,17 +90,17 @@ number_is h (pos zero) r q = absurd q
 number_is h (pos (suc i)) r q = let one : suc i - 1 ≡ i = omega arith in subst (λ k. slice_get h.records k ≡ Some (Some r)) (sym one) q
 number_is h (negsuc k) r q = absurd q
 
--- other records, in which what lived goes on to live
-lives_by_records : (k : ClassKind) (h : State) (rs : List (Option Record)) (c x : ℕ) → ((i : ℕ) → x ≡ suc i → class_of_record (slice_get h.records i) ≡ Some c → class_of_record (slice_get rs i) ≡ Some c) → IsLivingAs k h c (pos x) → IsLivingAs k (record h { records = rs }) c (pos x)
-lives_by_records Permanent h rs c x f q = q
-lives_by_records Temporary h rs c zero f q = absurd cc
-lives_by_records Temporary h rs c (suc i) f q = f i refl q
-lives_by_records Notice h rs c zero f q = absurd cc
-lives_by_records Notice h rs c (suc i) f q = f i refl q
+-- another state, in which what lived goes on to live
+lives_by : (k : ClassKind) (h g : State) (c x : ℕ) → (k ≡ Permanent → IsIndex (made h c) (pos x) → IsIndex (made g c) (pos x)) → ((i : ℕ) → x ≡ suc i → class_of_record (slice_get h.records i) ≡ Some c → class_of_record (slice_get g.records i) ≡ Some c) → IsLivingAs k h c (pos x) → IsLivingAs k g c (pos x)
+lives_by Permanent h g c x p f q = p refl q
+lives_by Temporary h g c zero p f q = absurd cc
+lives_by Temporary h g c (suc i) p f q = f i refl q
+lives_by Notice h g c zero p f q = absurd cc
+lives_by Notice h g c (suc i) p f q = f i refl q
 
 recorded : (h : State) (i : ℕ) (r q : Record) → slice_get h.records i ≡ Some (Some r) → q.class ≡ r.class → Joined h → Joined (record h { records = slice_set h.records i (Some q) })
 recorded h i r q g c j s o x k m =
-    lives_by_records (kind_of h.layout (member_class h.layout s)) h (slice_set h.records i (Some q)) (member_class h.layout s) x (λ y e p. class_stays h.records i r q g c y ∙ p) (j s o x k m)
+    lives_by (kind_of h.layout (member_class h.layout s)) h (record h { records = slice_set h.records i (Some q) }) (member_class h.layout s) x (λ _ p. p) (λ y e p. class_stays h.records i r q g c y ∙ p) (j s o x k m)
 
 -- other records of permanent entities, as many of each class
 row_set : (o : Option (Option (List Record))) (i : ℕ) (r : Record) → length (records_in (Some (with_indexed o i r))) ≡ length (records_in o)
@@ -115,17 +115,10 @@ rows_set (o ∷ ps) zero i r (suc k) = refl
 rows_set (o ∷ ps) (suc c) i r zero = refl
 rows_set (o ∷ ps) (suc c) i r (suc k) = rows_set ps c i r k
 
-lives_by_rows : (k : ClassKind) (h : State) (ps : List (Option (List Record))) (c x : ℕ) → (k ≡ Permanent → IsIndex (made h c) (pos x) → IsIndex (length (records_in (slice_get ps c))) (pos x)) → IsLivingAs k h c (pos x) → IsLivingAs k (record h { permanents = ps }) c (pos x)
-lives_by_rows Permanent h ps c x f q = f refl q
-lives_by_rows Temporary h ps c zero f q = absurd cc
-lives_by_rows Temporary h ps c (suc i) f q = q
-lives_by_rows Notice h ps c zero f q = absurd cc
-lives_by_rows Notice h ps c (suc i) f q = q
-
 indexed_set : (h : State) (c n : ℕ) (r : Record) → Joined h → Joined (with_entity_of_kind h Permanent c n r)
 indexed_set h c n r j s o x k m =
-    lives_by_rows (kind_of h.layout (member_class h.layout s)) h (slice_set h.permanents c (with_indexed (slice_get h.permanents c) n r)) (member_class h.layout s) x
-    (λ _ p. subst (λ y. IsIndex y (pos x)) (sym (rows_set h.permanents c n r (member_class h.layout s))) p) (j s o x k m)
+    lives_by (kind_of h.layout (member_class h.layout s)) h (with_entity_of_kind h Permanent c n r) (member_class h.layout s) x
+    (λ _ p. subst (λ y. IsIndex y (pos x)) (sym (rows_set h.permanents c n r (member_class h.layout s))) p) (λ i e p. p) (j s o x k m)
 
 -- ## Assigning
 
@@ -153,7 +146,7 @@ class_before (x ∷ xs) y (suc i) c q = class_before xs y i c q
 
 with_created_joined : (h : State) (c : ℕ) → Joined h → Joined (with_created h c)
 with_created_joined h c j s o x k m =
-    lives_by_records (kind_of h.layout (member_class h.layout s)) h (h.records ++ Some (first_record h.layout c) ∷ []) (member_class h.layout s) x
+    lives_by (kind_of h.layout (member_class h.layout s)) h (with_created h c) (member_class h.layout s) x (λ _ p. p)
     (λ i e p. class_before h.records (Some (first_record h.layout c)) i (member_class h.layout s) p) (j s o x k m)
 
 pub created_joined : (h : State) (c : ℕ) → Joined h → Sane (λ (b : ℤ × State). Joined b.1) (created h c)
@@ -179,7 +172,7 @@ none_made (Some (Some rs)) (suc i) q p = absurd (true≢false q)
 
 with_made_joined : (h : State) (c n : ℕ) → is_made h c ≡ false → Joined h → Joined (with_made h c n)
 with_made_joined h c n q j s o x k m =
-    lives_by_rows (kind_of h.layout (member_class h.layout s)) h (slice_set h.permanents c (Some (replicate n (first_record h.layout c)))) (member_class h.layout s) x (λ _ p. rows (member_class h.layout s) (c == member_class h.layout s) refl p) (j s o x k m)
+    lives_by (kind_of h.layout (member_class h.layout s)) h (with_made h c n) (member_class h.layout s) x (λ _ p. rows (member_class h.layout s) (c == member_class h.layout s) refl p) (λ i e p. p) (j s o x k m)
   where
     rows : (d : ℕ) (b : Bool) → (c == d) ≡ b → IsIndex (made h d) (pos x) → IsIndex (length (records_in (slice_get (slice_set h.permanents c (Some (replicate n (first_record h.layout c)))) d))) (pos x)
     rows d true e p = absurd (none_made (slice_get h.permanents c) x q (subst (λ d. IsIndex (made h d) (pos x)) (sym (eqb-true c d e)) p))
@@ -201,13 +194,6 @@ created_all_joined h c z j = by (is_made h c) refl
     by false q = many q z
 
 -- ## Other members
-
-lives_by_lists : (k : ClassKind) (h : State) (ms : List Members) (c x : ℕ) → IsLivingAs k h c (pos x) → IsLivingAs k (record h { lists = ms }) c (pos x)
-lives_by_lists Permanent h ms c x q = q
-lives_by_lists Temporary h ms c zero q = absurd cc
-lives_by_lists Temporary h ms c (suc i) q = q
-lives_by_lists Notice h ms c zero q = absurd cc
-lives_by_lists Notice h ms c (suc i) q = q
 
 -- the members of a set once one of the lists is another
 members_with : (ms : List Members) (s o : ℕ) (l : List ℕ) (s' o' x : ℕ) → IsInList x (members_of (with_members ms s o l) s' o') → ((s ≡ s') × IsInList x l) ⊎ IsInList x (members_of ms s' o')
@@ -238,7 +224,7 @@ members_with (y ∷ ms) s o l s' o' x m = by ((y.set == s) && (y.owner == o)) re
 -- another list, whose members live
 listed : (h : State) (s o : ℕ) (l : List ℕ) → ((x : ℕ) → s < length h.layout.sets → IsInList x l → IsLiving h (member_class h.layout s) (pos x)) → Joined h → Joined (with_list_of h s o l)
 listed h s o l f j s' o' x k m =
-    lives_by_lists (kind_of h.layout (member_class h.layout s')) h (with_members h.lists s o l) (member_class h.layout s') x (by (members_with h.lists s o l s' o' x m))
+    lives_by (kind_of h.layout (member_class h.layout s')) h (with_list_of h s o l) (member_class h.layout s') x (λ _ p. p) (λ i e p. p) (by (members_with h.lists s o l s' o' x m))
   where
     by : ((s ≡ s') × IsInList x l) ⊎ IsInList x (members_of h.lists s' o') → IsLiving h (member_class h.layout s') (pos x)
     by (inl g) = subst (λ d. IsLiving h (member_class h.layout d) (pos x)) g.0 (f x (subst (λ d. d < length h.layout.sets) (sym g.0) k) g.1)
@@ -274,15 +260,6 @@ beside_joined put p h s o x k lives j = by (is_filed h.lists s x) (contains (mem
 puts_first : Puts (λ y l. y ∷ l)
 puts_first x l y m = m
 
-puts_last : Puts (λ y l. l ++ y ∷ [])
-puts_last x [] y m = m
-puts_last x (z ∷ zs) y (inl e) = inr (inl e)
-puts_last x (z ∷ zs) y (inr m) = by (puts_last x zs y m)
-  where
-    by : (x ≡ y) ⊎ IsInList y zs → (x ≡ y) ⊎ IsInList y (z ∷ zs)
-    by (inl e) = inl e
-    by (inr m) = inr (inr m)
-
 -- after an item that stays
 passed : (x z y : ℕ) (zs : List ℕ) (l : List ℕ) → (IsInList y l → (x ≡ y) ⊎ IsInList y zs) → IsInList y (z ∷ l) → (x ≡ y) ⊎ IsInList y (z ∷ zs)
 passed x z y zs l f (inl e) = inr (inl e)
@@ -292,13 +269,18 @@ passed x z y zs l f (inr m) = by (f m)
     by (inl e) = inl e
     by (inr m) = inr (inr m)
 
+puts_last : Puts (λ y l. l ++ y ∷ [])
+puts_last x [] y m = m
+puts_last x (z ∷ zs) y m = passed x z y zs (zs ++ x ∷ []) (λ g. puts_last x zs y g) m
+
+-- before an item, or after it
+either_side : (b : Bool) (x z y : ℕ) (zs l : List ℕ) → (IsInList y l → (x ≡ y) ⊎ IsInList y zs) → IsInList y (cond b (x ∷ (z ∷ zs)) (z ∷ l)) → (x ≡ y) ⊎ IsInList y (z ∷ zs)
+either_side true x z y zs l f m = m
+either_side false x z y zs l f m = passed x z y zs l f m
+
 puts_before : (k : ℕ) → Puts (put_before k)
 puts_before k x [] y m = m
-puts_before k x (z ∷ zs) y m = by (z == k) (λ g. puts_before k x zs y g) m
-  where
-    by : (b : Bool) → (IsInList y (put_before k x zs) → (x ≡ y) ⊎ IsInList y zs) → IsInList y (cond b (x ∷ (z ∷ zs)) (z ∷ put_before k x zs)) → (x ≡ y) ⊎ IsInList y (z ∷ zs)
-    by true f m = m
-    by false f m = passed x z y zs (put_before k x zs) f m
+puts_before k x (z ∷ zs) y m = either_side (z == k) x z y zs (put_before k x zs) (λ g. puts_before k x zs y g) m
 
 puts_after : (k : ℕ) → Puts (put_after k)
 puts_after k x [] y m = m
@@ -310,11 +292,7 @@ puts_after k x (z ∷ zs) y m = by (z == k) (λ g. puts_after k x zs y g) m
 
 puts_ranked : (h : State) (c : ℕ) (ks : List RankKey) → Puts (put_ranked h c ks)
 puts_ranked h c ks x [] y m = m
-puts_ranked h c ks x (z ∷ zs) y m = by (ranks_after h c ks (pos z) (pos x)) (λ g. puts_ranked h c ks x zs y g) m
-  where
-    by : (b : Bool) → (IsInList y (put_ranked h c ks x zs) → (x ≡ y) ⊎ IsInList y zs) → IsInList y (cond b (x ∷ (z ∷ zs)) (z ∷ put_ranked h c ks x zs)) → (x ≡ y) ⊎ IsInList y (z ∷ zs)
-    by true f m = m
-    by false f m = passed x z y zs (put_ranked h c ks x zs) f m
+puts_ranked h c ks x (z ∷ zs) y m = either_side (ranks_after h c ks (pos z) (pos x)) x z y zs (put_ranked h c ks x zs) (λ g. puts_ranked h c ks x zs y g) m
 
 -- a member that is looked at, and an owner
 with_member : {B : Type 0} (Q : B → Type 0) (h : State) (s : ℕ) (o x : ℤ) (go : ℕ → ℕ → Result B FaultKind) → ((n m : ℕ) → IsLiving h (member_class h.layout s) (pos n) → Sane Q (go n m)) → Sane Q (and_then (joiner h s x) (λ n. and_then (owner h s o) (λ m. go n m)))
@@ -425,7 +403,7 @@ in_set_so (u ∷ ts) b (suc k) d ms c x t q e g f =
 -- what is in no set goes
 cut_joined : (h : State) (c i : ℕ) (r : Record) → slice_get h.records i ≡ Some (Some r) → r.class ≡ c → in_a_set h.layout.sets 0 h.lists c (suc i) ≡ false → Joined h → Joined (record h { records = slice_set h.records i None })
 cut_joined h c i r g own apart j s o x k m =
-    lives_by_records (kind_of h.layout (member_class h.layout s)) h (slice_set h.records i None) (member_class h.layout s) x (λ n e p. by n e p (i == n) refl) (j s o x k m)
+    lives_by (kind_of h.layout (member_class h.layout s)) h (record h { records = slice_set h.records i None }) (member_class h.layout s) x (λ _ p. p) (λ n e p. by n e p (i == n) refl) (j s o x k m)
   where
     -- it is no member of this set
     never : (n : ℕ) → x ≡ suc n → i ≡ n → class_of_record (slice_get h.records n) ≡ Some (member_class h.layout s) → ⊥

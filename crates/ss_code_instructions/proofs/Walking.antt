@@ -85,22 +85,18 @@ due_is : {A : Type 0} (r : OkOr A FaultKind) (a : A) → due r ≡ Ok a → r �
 due_is (Ok b) a e = let p : b ≡ a = cc in ap Ok p
 due_is (Err kind) a e = absurd cc
 
+-- what an operation finds, where it is not 0
+found_member : (h : State) (set : ℕ) (x : ℤ) (f : ℕ → ℕ) → ((n : ℕ) → (f n ≡ 0 → ⊥) → (p : ℕ) × IsInList (f n) (members_of h.lists set p)) → (r : OkOr ℕ FaultKind) → and_then r (λ n. Ok (pos (f n))) ≡ Ok x → is_none x ≡ false → IsMember h set x
+found_member h set x f lies (Ok n) e some =
+    let p : pos (f n) ≡ x = cc in
+    let m = lies n (some_number (f n) (ap is_none p ∙ some)) in
+    (m.0, f n, p, m.1)
+found_member h set x f lies (Err kind) e some = absurd cc
+
 -- the first and the last
 outset_member : (reverse : Bool) (h : State) (set : ℕ) (m x : ℤ) → outset reverse h set m ≡ Ok x → is_none x ≡ false → IsMember h set x
-outset_member false h set m x e some = by (owner_there h set m) e
-  where
-    by : (r : OkOr ℕ FaultKind) → and_then r (λ n. Ok (pos (head0 (members_of h.lists set n)))) ≡ Ok x → IsMember h set x
-    by (Ok n) e =
-        let p : pos (head0 (members_of h.lists set n)) ≡ x = cc in
-        (n, head0 (members_of h.lists set n), p, head_in (members_of h.lists set n) (some_number (head0 (members_of h.lists set n)) (ap is_none p ∙ some)))
-    by (Err kind) e = absurd cc
-outset_member true h set m x e some = by (owner_there h set m) e
-  where
-    by : (r : OkOr ℕ FaultKind) → and_then r (λ n. Ok (pos (last_or 0 (members_of h.lists set n)))) ≡ Ok x → IsMember h set x
-    by (Ok n) e =
-        let p : pos (last_or 0 (members_of h.lists set n)) ≡ x = cc in
-        (n, last_or 0 (members_of h.lists set n), p, last_in_list (members_of h.lists set n) (some_number (last_or 0 (members_of h.lists set n)) (ap is_none p ∙ some)))
-    by (Err kind) e = absurd cc
+outset_member false h set m x e some = found_member h set x (λ n. head0 (members_of h.lists set n)) (λ n k. (n, head_in (members_of h.lists set n) k)) (owner_there h set m) e some
+outset_member true h set m x e some = found_member h set x (λ n. last_or 0 (members_of h.lists set n)) (λ n k. (n, last_in_list (members_of h.lists set n) k)) (owner_there h set m) e some
 
 -- what follows a member, and what precedes one
 follower_member : (ms : List Row) (set n : ℕ) (o : Option ℕ) → (follower n (members_by ms set o) ≡ 0 → ⊥) → (p : ℕ) × IsInList (follower n (members_by ms set o)) (members_of ms set p)
@@ -112,22 +108,8 @@ precursor_member ms set n None h = absurd (h refl)
 precursor_member ms set n (Some p) h = (p, precursor_in n (members_of ms set p) h)
 
 beside_member : (reverse : Bool) (h : State) (set : ℕ) (y x : ℤ) → beside reverse h set y ≡ Ok x → is_none x ≡ false → IsMember h set x
-beside_member false h set y x e some = by (joiner h set y) e
-  where
-    by : (r : OkOr ℕ FaultKind) → and_then r (λ n. Ok (pos (follower n (companions h.lists set n)))) ≡ Ok x → IsMember h set x
-    by (Ok n) e =
-        let p : pos (follower n (companions h.lists set n)) ≡ x = cc in
-        let m = follower_member h.lists set n (owner_of h.lists set n) (some_number (follower n (companions h.lists set n)) (ap is_none p ∙ some)) in
-        (m.0, follower n (companions h.lists set n), p, m.1)
-    by (Err kind) e = absurd cc
-beside_member true h set y x e some = by (joiner h set y) e
-  where
-    by : (r : OkOr ℕ FaultKind) → and_then r (λ n. Ok (pos (precursor 0 n (companions h.lists set n)))) ≡ Ok x → IsMember h set x
-    by (Ok n) e =
-        let p : pos (precursor 0 n (companions h.lists set n)) ≡ x = cc in
-        let m = precursor_member h.lists set n (owner_of h.lists set n) (some_number (precursor 0 n (companions h.lists set n)) (ap is_none p ∙ some)) in
-        (m.0, precursor 0 n (companions h.lists set n), p, m.1)
-    by (Err kind) e = absurd cc
+beside_member false h set y x e some = found_member h set x (λ n. follower n (companions h.lists set n)) (λ n k. follower_member h.lists set n (owner_of h.lists set n) k) (joiner h set y) e some
+beside_member true h set y x e some = found_member h set x (λ n. precursor 0 n (companions h.lists set n)) (λ n k. precursor_member h.lists set n (owner_of h.lists set n) k) (joiner h set y) e some
 
 before_end : {A : Type 0} (xs : List A) (k : ℕ) (a : A) → slice_get xs k ≡ Some a → k < length xs
 before_end [] k a q = absurd cc
