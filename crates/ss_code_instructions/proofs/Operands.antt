@@ -1,11 +1,11 @@
 -- What an instruction finds in its operands, and what it leaves at its target.
-use Rattle.std.proofs.Common.{◌≡◌, ℕ, suc, ◌+◌, Bool, false, List, [], ◌∷◌, ◌++◌, length, Option, Some, None, Ok, Err, refl, sym, ap, ◌∙◌, subst, arith, ◌⊎◌, inl, inr, if◌then◌else◌}
+use Rattle.std.proofs.Common.{◌≡◌, ℕ, suc, ◌+◌, Bool, false, List, [], ◌∷◌, ◌++◌, length, Option, Some, None, Ok, Err, refl, sym, ap, ◌∙◌, subst, arith, length-append, ◌⊎◌, inl, inr, if◌then◌else◌}
 use Rattle.std.proofs.lemmas.Bool.{eq-eqb, le-ltb}
 use Rattle.std.specs.Prelude.{nat_lt, Result as OkOr}
-use Rattle.ss_code_instructions.proofs.Common.{after, assigned_variable, change, Code, Constant, core_at, deliver, deliver_with, did, Expression, expression_code, expression_mode, Fails, Failure, FaultKind, Fetch, fetched, Frame, height, Held, Into, leaf, lies_above, Line, look, looked, MachineState, Mode, Moved, next, Onto, onward, Operand, operand, operand_code, or_cell, or_in_cell, or_zero, outcome_then, Part, place, Placed, RunState, settle, settle_with, Site, Stays, Store, sure, Taken, Target, turned, TypeError, unless_leaf, Value, value, Variable, WentOn, where_fit, with_operand_value, with_values, Written}
+use Rattle.ss_code_instructions.proofs.Common.{act, after, assigned_variable, change, Code, Constant, core_at, deliver, deliver_with, did, Expression, expression_code, expression_mode, Fails, Failure, FaultKind, Fetch, fetched, Frame, height, Held, Instruction, Into, is_due, leaf, lies_above, Line, look, looked, MachineState, Mode, Moved, next, Onto, onward, Operand, operand, operand_code, or_cell, or_in_cell, or_zero, outcome_then, Part, place, Placed, RunState, settle, settle_with, Site, Stays, Store, sure, Taken, Target, turned, TypeError, unless_leaf, Value, value, Variable, WentOn, where_fit, with_operand, with_operand_value, with_values, Written}
 use Rattle.ss_code_instructions.specs.Instructions as i
 use Rattle.ss_code_instructions.proofs.Steps.{HasAt, has_front, has_back, Comes, Reaches, here, free, reaches_on, at, arrive}
-use Rattle.ss_code_instructions.proofs.Parts.{Within, Leads, onwards, breaks, whatever, at_the_height, Runs, same, put_on}
+use Rattle.ss_code_instructions.proofs.Parts.{Within, Leads, step_leads, onwards, breaks, whatever, at_the_height, Runs, same, put_on}
 
 -- ## Targets
 
@@ -176,6 +176,22 @@ module _ (code : Code) (n : ℕ) where
       join_look (at place cells frames w) (λ v w'. at (place + length (operand_code t e)) (held (leaf e) v cells) frames w') k frames t.line (value e w.store) w go
       (r.by place cells frames w high (has_front code.places place (operand_code t e) rest has) in_)
       (λ v q. f v q (has_back code.places place (operand_code t e) rest has))
+
+  -- an operand, and an instruction that reads it
+  pub read_runs : {B : Type 0} (t : Site) (e : Expression) → Evaluates t e → (make : Operand → Instruction) (put : B → List Value → List Value) (go : ℕ → List Value → List Frame → Store → Value → List Value → Moved) (f : Value → Part B) → ((x : Operand) → is_due (make x) ≡ false) → ((x : Operand) (p : ℕ) (cells : List Value) (frames : List Frame) (s : Store) → act code t.line (make x) (core_at p cells frames s) ≡ with_operand_value x s cells (go p cells frames s)) → ((v : Value) (p : ℕ) (cells cells0 : List Value) (frames : List Frame) (w : RunState) → length cells ≡ height t → Leads code w (go p cells0 frames w.store v cells) (arrive (λ b w'. at (p + 1) (put b cells) frames w') frames (f v w))) → Runs code n (height t) same (with_operand t e make) put (λ w. outcome_then (look t.line (value e) w) f)
+  read_runs {B} t e r make put go f calm acts leads = record {
+    by = λ p cells frames w high has in_.
+        let c : List Placed = operand_code t e in
+        let last : Placed = place (after t e) (make (operand t e)) in
+        let end : p + length c + 1 ≡ p + length (c ++ last ∷ []) = omega (arith, length-append c (last ∷ [])) in
+        let ends : B → RunState → MachineState = λ b w'. at (p + length (c ++ last ∷ [])) (put b cells) frames w' in
+        one_join t e r (last ∷ []) ends f p cells frames w high has in_ (λ v found has'.
+        step_leads code last (core_at (p + length c) (held (leaf e) v cells) frames w.store) w _ _ has'.0 (calm (operand t e))
+        (acts (operand t e) (p + length c) (held (leaf e) v cells) frames w.store
+        ∙ reads t e v w.store cells (go (p + length c) (held (leaf e) v cells) frames w.store) high found)
+        (subst (λ j. Leads code w (go (p + length c) (held (leaf e) v cells) frames w.store v cells) (arrive (λ b w'. at j (put b cells) frames w') frames (f v w))) end
+        (leads v (p + length c) cells (held (leaf e) v cells) frames w high)));
+  }
 
   -- two operands, and what follows
   pub two_join : {B : Type 0} (t : Site) (a b : Expression) → Evaluates t a → Evaluates (after t a) b → (rest : List Placed) (k : B → RunState → MachineState) (go : Value → Value → Part B) (place : ℕ) (cells : List Value) (frames : List Frame) (w : RunState) → length cells ≡ height t → HasAt code.places place (operand_code t a ++ (operand_code (after t a) b ++ rest)) → Within code n w → ((x y : Value) → value a w.store ≡ Ok x → value b w.store ≡ Ok y → HasAt code.places (place + length (operand_code t a) + length (operand_code (after t a) b)) rest → Reaches code (at (place + length (operand_code t a) + length (operand_code (after t a) b)) (held (leaf b) y (held (leaf a) x cells)) frames w) (arrive k frames (go x y w))) → Reaches code (at place cells frames w) (arrive k frames (outcome_then (look t.line (value a) w) (λ x w. outcome_then (look t.line (value b) w) (go x))))
