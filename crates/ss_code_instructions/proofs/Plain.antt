@@ -1,14 +1,14 @@
 -- Statements of one operand and one instruction: DESTROY, CANCEL, SKIP; and CREATE EVERY and RESET.
-use Rattle.std.proofs.Common.{◌≡◌, ℕ, ◌+◌, false, List, [], ◌∷◌, ◌++◌, length, Option, Err, refl, subst, arith, length-append}
+use Rattle.std.proofs.Common.{◌≡◌, ℕ, ◌+◌, false, List, [], ◌∷◌, ◌++◌, Option, Err, refl}
 use Rattle.std.specs.Prelude.{Result as OkOr}
-use Rattle.ss_code_instructions.proofs.Common.{act, after_bearer, bearer, bearer_code, change, Code, core_at, CountedClass, creates_code, did, empty_lines, Expression, Fails, Failure, Frame, height, if_ok, Instruction, is_due, look, looked, MachineState, made_all, onward, Operand, outcome_then, place, Placed, reset, Restart, restarts_code, RunState, send, Sends, settle, Site, Store, unscheduled, Value, value, value_if_any, with_operand, with_operand_value, without}
+use Rattle.ss_code_instructions.proofs.Common.{act, after_bearer, bearer, bearer_code, change, Code, core_at, CountedClass, creates_code, did, empty_lines, Expression, Fails, Failure, Frame, height, if_ok, Instruction, is_due, look, looked, made_all, onward, Operand, outcome_then, place, reset, Restart, restarts_code, RunState, send, Sends, settle, Site, Store, unscheduled, Value, value, value_if_any, with_operand, with_operand_value, without}
 use Rattle.ss_meaning.specs.Statements.{create_every, destroy, cancel, restart_each}
 use Rattle.ss_code_instructions.specs.Instructions as i
-use Rattle.ss_code_instructions.proofs.Steps.{Comes, Reaches, here, at}
-use Rattle.ss_code_instructions.proofs.Parts.{onwards, writes, step_leads, did_leads, Runs, same, done, alike, none, seq, change_runs}
+use Rattle.ss_code_instructions.proofs.Steps.{here, at}
+use Rattle.ss_code_instructions.proofs.Parts.{onwards, writes, did_leads, Runs, same, done, at_end, alike, none, seq, change_runs}
 use Rattle.ss_code_instructions.proofs.Operands.{read_runs}
 use Rattle.ss_code_instructions.proofs.Expressions.{evaluates}
-use Rattle.ss_code_instructions.proofs.Looking.{bearer_join}
+use Rattle.ss_code_instructions.proofs.Looking.{bearer_lands}
 
 module _ (code : Code) (n : ℕ) where
   -- an operand, and an instruction that changes the store by it
@@ -43,18 +43,9 @@ module _ (code : Code) (n : ℕ) where
 
   -- a statistic starts afresh
   restart_runs : (t : Site) (j : ℕ) (o : Option Expression) → Runs code n (height t) same (bearer_code t o ++ place (after_bearer t o) (i.Reset j (bearer t o)) ∷ []) done (λ w. outcome_then (look t.line (value_if_any o) w) (λ x. change t.line (reset j x)))
-  restart_runs t j o = record {
-    by = λ p cells frames w high has in_.
-        let ce : List Placed = bearer_code t o in
-        let last : Placed = place (after_bearer t o) (i.Reset j (bearer t o)) in
-        let end : p + length ce + 1 ≡ p + length (ce ++ last ∷ []) = omega (arith, length-append ce (last ∷ [])) in
-        let k : Unit {0} → RunState → MachineState = λ u w'. at (p + length (ce ++ last ∷ [])) cells frames w' in
-        bearer_join code n t o (last ∷ []) k (λ x. change t.line (reset j x)) p cells frames w high has in_ (λ x on_top q found has'.
-        step_leads code last (core_at (p + length ce) (on_top cells) frames w.store) w _ _ has'.0 refl
-        (found.reads cells (λ x below. did t.line (reset j x w.store) (λ u. onward below (core_at (p + length ce) (on_top cells) frames w.store) u)) high)
-        (did_leads code t.line (reset j x w.store) (λ u. onward cells (core_at (p + length ce) (on_top cells) frames w.store) u) w k frames settle (λ u done_.
-        onwards (subst (λ m. Reaches code (at (p + length ce + 1) cells frames (record w { store = u })) (Comes (at m cells frames (record w { store = u })))) end here))));
-  }
+  restart_runs t j o =
+      bearer_lands code n t o (i.Reset j) at_end done (λ p cells0 frames s x below. did t.line (reset j x s) (λ u. onward below (core_at p cells0 frames s) u)) (λ x. change t.line (reset j x)) (λ x. refl) (λ x p cells frames s. refl) (λ x p cells cells0 frames w high.
+      did_leads code t.line (reset j x w.store) (λ u. onward cells (core_at p cells0 frames w.store) u) w (λ u w'. at (p + 1) cells frames w') frames settle (λ u done_. onwards here))
 
   pub restarts_run : (t : Site) (rs : List Restart) → Runs code n (height t) same (restarts_code t rs) done (restart_each t.line rs)
   restarts_run t [] = none code n (height t) tt
