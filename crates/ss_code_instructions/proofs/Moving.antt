@@ -1,7 +1,7 @@
 -- Where an instruction leads: what holds of each state that it may lead to.
 use Rattle.std.proofs.Common.{◌≡◌, ℕ, zero, suc, ◌==◌, Bool, true, false, List, [], ◌∷◌, ◌++◌, length, Option, Some, None, Ok, Err, ℤ, refl, ap, subst}
 use Rattle.std.specs.Prelude.{Result, if◌then◌else◌}
-use Rattle.ss_code_instructions.proofs.Common.{at_height, Breaks, cell_at, Core, did, Done, Fails, Failure, fetched, fit, Goes, lies_above, Line, MachineState, Moved, or_zero, Rest, Sends, Store, Stuck, take_off, Text, To, TypeError, Value, Walk, when_due, Whole, with_bearer, with_block, with_loop, with_operand_value, with_position, with_rest, with_top_number, with_topmost, with_values, with_walk_in_cells}
+use Rattle.ss_code_instructions.proofs.Common.{at_height, cell_at, Core, did, Done, Fails, Failure, fetched, fit, Goes, lies_above, Line, MachineState, Moved, or_zero, Rest, Sends, Store, Stuck, take_off, Text, To, TypeError, Value, Walk, when_due, Whole, with_bearer, with_block, with_loop, with_operand_value, with_position, with_rest, with_top_number, with_topmost, with_values, with_walk_in_cells}
 use Rattle.ss_code_instructions.specs.Instructions.{Bearer, Before, FilingPlace, First, Held, Last, Operand, Ranked, Stays, Taken, Constant, After}
 use Rattle.ss_meaning.specs.Sets.{ByRule, Foremost, Hindmost, JustAfter, JustBefore, Filing as Position}
 use Rattle.ss_code_instructions.proofs.Keeping.{Only}
@@ -87,8 +87,7 @@ module _ (Good : Core → Type 0) where
   rested r t (Sends bytes c) x k e =
       let q : record { core = c; report = r ++ bytes; ticks = t } ≡ x = cc in subst (λ (y : MachineState). Good y.core × (y.ticks ≡ t)) q (k, refl)
   rested r t (Rest Done) x k e = absurd cc
-  rested r t (Rest (Breaks kind l)) x k e = absurd cc
-  rested r t Stuck x k e = absurd cc
+  rested r t _ x k e = absurd cc
 
   pub after_step : (b : Bool) (r : List ℕ) (t : ℕ) (m : Moved) (x : MachineState) → Every m → when_due b r t m ≡ Goes x → Good x.core × AreTicks b t x.ticks
   after_step false r t m x k e = rested r t m x k e

@@ -26,22 +26,17 @@ position_by (Some disciplines.Fifo) = Hindmost
 position_by (Some disciplines.Lifo) = Foremost
 position_by (Some (disciplines.Ranked keys)) = ByRule
 
+-- filed alike once the member and the owner are known
+filed_alike : (f : Filing) (set : ℕ) (s : Store) → ((m n : ℤ) → filed_by ByRule set m n s ≡ filed_by f set m n s) → (n m : OkOr ℤ Failure) → if_ok n (λ n. if_ok m (λ m. if_ok (filed_by ByRule set m n s) (recounted set m s))) ≡ if_ok n (λ n. if_ok m (λ m. if_ok (filed_by f set m n s) (recounted set m s)))
+filed_alike f set s e (Err t) m = refl
+filed_alike f set s e (Ok n) (Err t) = refl
+filed_alike f set s e (Ok n) (Ok m) = ap (λ r. if_ok r (recounted set m s)) (e m n)
+
 -- that is where the discipline has it
 by_rule : (d : Option Discipline) (set : ℕ) (x : Value) (o : Option Value) (s : Store) → slice_get s.world.setting.disciplines set ≡ d → filed_in ByRule set x o s ≡ filed_in (position_by d) set x o s
-by_rule None set x o s q = refl
-by_rule (Some (disciplines.Ranked keys)) set x o s q = refl
-by_rule (Some disciplines.Fifo) set x o s q = at_end (member set x s) (owner_number set o s)
-  where
-    at_end : (n m : OkOr ℤ Failure) → if_ok n (λ n. if_ok m (λ m. if_ok (filed_by ByRule set m n s) (recounted set m s))) ≡ if_ok n (λ n. if_ok m (λ m. if_ok (filed_by Hindmost set m n s) (recounted set m s)))
-    at_end (Err t) m = refl
-    at_end (Ok n) (Err t) = refl
-    at_end (Ok n) (Ok m) = ap (λ d. if_ok (if_ok (sure d) (λ d. where_fit (is_fit s.world.heap.layout set d) (due (filed s.world.heap d set m n)))) (recounted set m s)) q
-by_rule (Some disciplines.Lifo) set x o s q = at_front (member set x s) (owner_number set o s)
-  where
-    at_front : (n m : OkOr ℤ Failure) → if_ok n (λ n. if_ok m (λ m. if_ok (filed_by ByRule set m n s) (recounted set m s))) ≡ if_ok n (λ n. if_ok m (λ m. if_ok (filed_by Foremost set m n s) (recounted set m s)))
-    at_front (Err t) m = refl
-    at_front (Ok n) (Err t) = refl
-    at_front (Ok n) (Ok m) = ap (λ d. if_ok (if_ok (sure d) (λ d. where_fit (is_fit s.world.heap.layout set d) (due (filed s.world.heap d set m n)))) (recounted set m s)) q
+by_rule (Some disciplines.Fifo) set x o s q = filed_alike Hindmost set s (λ m n. ap (λ d. if_ok (sure d) (λ d. where_fit (is_fit s.world.heap.layout set d) (due (filed s.world.heap d set m n)))) q) (member set x s) (owner_number set o s)
+by_rule (Some disciplines.Lifo) set x o s q = filed_alike Foremost set s (λ m n. ap (λ d. if_ok (sure d) (λ d. where_fit (is_fit s.world.heap.layout set d) (due (filed s.world.heap d set m n)))) q) (member set x s) (owner_number set o s)
+by_rule _ set x o s q = refl
 
 module _ (code : Code) (n : ℕ) where
   -- ## Where no other member is beside it
