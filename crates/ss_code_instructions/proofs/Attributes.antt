@@ -2,14 +2,14 @@
 use Rattle.std.proofs.Common.{◌≡◌, ℕ, ◌+◌, Bool, true, false, not, List, [], ◌∷◌, ◌++◌, length, Some, Ok, Err, ℤ, refl, sym, ap, ◌∙◌, subst, arith, length-append, ◌⊎◌, inl, inr}
 use Rattle.std.proofs.lemmas.Bool.{eqb-true, and_parts, false≢true}
 use Rattle.std.specs.Prelude.{Result as OkOr, slice_get, ◌==◌, ◌&&◌, if◌then◌else◌}
-use Rattle.ss_code_instructions.proofs.Common.{act, after, assigned_attribute, Attribute, attribute, Calculate, calculated, change, Code, Constant, Core, core_at, did, entity, entity_code, Expression, Fails, Failure, Faulted, FaultKind, Fetch, fetched, FigureOf, Frame, give_to, Global, height, Held, if_ok, InAttribute, is_due, leaf, let_code, lies_above, Line, Local, look, looked, looked_at, Mode, Moved, OfMember, OfSet, onward, Operand, operand, operand_code, or_zero, outcome_then, Part, place, Placed, RunState, settle, Signed, Site, stay, Store, sure, TimeOf, ToAttribute, turned, TypeError, Unary, Value, value, Variable, with_cells, with_operand, with_operand_value, with_values, write}
+use Rattle.ss_code_instructions.proofs.Common.{act, after, assigned_attribute, Attribute, attribute, Calculate, calculated, change, Code, Constant, Core, core_at, did, entity, entity_code, Expression, Fails, Failure, Faulted, FaultKind, Fetch, fetched, FigureOf, Frame, give_to, Global, height, Held, if_ok, InAttribute, is_due, leaf, let_code, lies_above, Line, Local, look, looked, looked_at, Mode, Moved, OfMember, OfSet, onward, Operand, operand, operand_code, or_zero, outcome_then, Part, place, Placed, RunState, settle, Signed, Site, Store, sure, TimeOf, ToAttribute, turned, TypeError, Unary, Value, value, Variable, with_cells, with_operand, with_operand_value, with_values, write}
 use Rattle.ss_code_instructions.specs.Facts.{must_look, is_leaf, is_constant, same_variable, is_fetch_of, looks_first}
 use Rattle.ss_code_instructions.specs.Instructions as i
-use Rattle.ss_code_instructions.proofs.Steps.{HasAt, has_front, has_back, Reaches, here, free, at, left_to, arrive}
-use Rattle.ss_code_instructions.proofs.Parts.{Within, onwards, breaks, step_leads, did_leads, Runs, same, done}
+use Rattle.ss_code_instructions.proofs.Steps.{HasAt, Reaches, here, free, at, left_to, arrive}
+use Rattle.ss_code_instructions.proofs.Parts.{Within, onwards, breaks, step_leads, did_leads, Runs, same, done, turned_then}
 use Rattle.ss_code_instructions.proofs.Operands.{held, held_height, sure_is, reads, reads_both, one_join}
 use Rattle.ss_code_instructions.proofs.Expressions.{evaluates}
-use Rattle.ss_code_instructions.proofs.Members.{stay_reads}
+use Rattle.ss_code_instructions.proofs.Members.{looked_join}
 
 -- ## A value whose evaluation begins with the look at the entity
 
@@ -158,17 +158,9 @@ module _ (code : Code) (n : ℕ) where
                   (valued t class field r e v j end cells frames w in_ high found len h)
               by (inr f) = valued_faults t class field r e v kind j cells frames w high found known f h
       choose p cells frames w high in_ true q has =
-          let c : List Placed = operand_code t r in
-          let look_ : Placed = place (after t r) (i.LookEntity class (stay (operand t r))) in
-          let front : List Placed = c ++ look_ ∷ [] in
+          let front : List Placed = entity_code t true class r in
           let rest : List Placed = value_code t class field r e in
-          let end : p + length c + 1 + length rest ≡ p + length (front ++ rest) = omega (arith, length-append front rest, length-append c (look_ ∷ [])) in
-          let middle : p + length front ≡ p + length c + 1 = omega (arith, length-append c (look_ ∷ [])) in
-          let h0 = has_front code.places p front rest has in
-          let h1 = subst (λ j. HasAt code.places j rest) middle (has_back code.places p front rest has) in
-          subst (λ o. Reaches code (at p cells frames w) (arrive (λ o w'. at (p + length (front ++ rest)) cells frames w') frames o)) (spot_then t.line class field e (value r w.store) w)
-          (one_join code n t r (evaluates code n t r) (look_ ∷ []) (λ o w'. at (p + length (front ++ rest)) cells frames w') (let_part t.line class field e) p cells frames w high h0 in_ (λ v found has'.
-          step_leads code look_ (core_at (p + length c) (held (leaf r) v cells) frames w.store) w _ _ has'.0 refl
-          (stay_reads t r v w.store cells (λ x below. did t.line (entity class x w.store) (λ _. onward below (core_at (p + length c) (held (leaf r) v cells) frames w.store) w.store)) high found)
-          (did_leads code t.line (entity class v w.store) _ w (λ o w'. at (p + length (front ++ rest)) cells frames w') frames (λ n w. outcome_then (look t.line (value e) w) (write t.line (InAttribute class field v))) (λ m known.
-          onwards (valued t class field r e v (p + length c + 1) (p + length (front ++ rest)) cells frames w in_ high found end h1)))))
+          let end : p + length front + length rest ≡ p + length (front ++ rest) = omega (arith, length-append front rest) in
+          subst (λ o. Reaches code (at p cells frames w) (arrive (λ o w'. at (p + length (front ++ rest)) cells frames w') frames o)) (turned_then t.line (if_ok (value r w.store) (looked_at (λ x. entity class x w.store))) (InAttribute class field) (λ q w. outcome_then (look t.line (value e) w) (write t.line q)) w)
+          (looked_join code n t r (i.LookEntity class) (entity class) (λ x. refl) (λ x p cells frames s. refl) rest (λ o w'. at (p + length (front ++ rest)) cells frames w') (λ v w. outcome_then (look t.line (value e) w) (write t.line (InAttribute class field v))) p cells frames w high has in_ (λ v found has'.
+          valued t class field r e v (p + length front) (p + length (front ++ rest)) cells frames w in_ high found end has'))
