@@ -1,14 +1,14 @@
 -- LET, ADD and SUBTRACT, for each place that they assign.
-use Rattle.std.proofs.Common.{◌≡◌, ℕ, ◌+◌, Bool, true, false, List, ◌∷◌, ◌++◌, length, Option, Some, None, refl, sym, subst, arith, length-append}
+use Rattle.std.proofs.Common.{◌≡◌, ℕ, ◌+◌, Bool, true, false, List, ◌++◌, length, Option, Some, None, refl, sym, subst, arith, length-append}
 use Rattle.std.specs.Prelude.{if◌then◌else◌}
 use Rattle.ss_code_instructions.proofs.Common.{above, after, assigned_variable, calculated, change_by, change_code, Code, core_at, count_code, CountedClass, deliver, did, Expression, expression_code, fetched, Frame, give_to, Global, height, if_ok, InCount, Integer, InVariable, is_kept, leaf, let_code, look, looked, next, onward, operand, operand_code, operator_of, or_zero, outcome_then, Part, Place, RunState, settle, Sign, Site, sure, ToAttribute, ToCount, ToVariable, Value, value, Variable, with_operand, with_operand_value, write}
-use Rattle.ss_code_instructions.specs.Instructions.{Held, Placed, Taken, Target as To}
+use Rattle.ss_code_instructions.specs.Instructions.{Held, Placed, Target as To}
 use Rattle.ss_code_instructions.specs.Instructions as i
-use Rattle.ss_code_instructions.proofs.Steps.{has_front, has_back, Reaches, here, at, arrive, join}
-use Rattle.ss_code_instructions.proofs.Parts.{Leads, onwards, whatever, did_leads, at_the_height, Runs, same, done, went, then_then, alike}
+use Rattle.ss_code_instructions.proofs.Steps.{Reaches, here, at, arrive}
+use Rattle.ss_code_instructions.proofs.Parts.{Leads, onwards, whatever, did_leads, Runs, same, done, put_on, went, then_then, seq, alike}
 use Rattle.ss_code_instructions.proofs.Operands.{on, Tops, put_then, computes, held, reads, read_runs, one_join}
 use Rattle.ss_code_instructions.proofs.Expressions.{leaves, evaluates}
-use Rattle.ss_code_instructions.proofs.Assigning.{written_goal, variable_runs, count_run}
+use Rattle.ss_code_instructions.proofs.Assigning.{written_goal, variable_runs, count_run, count_taken}
 use Rattle.ss_code_instructions.proofs.Attributes.{let_attribute_runs}
 use Rattle.ss_code_instructions.proofs.Changing.{change_attribute_runs}
 
@@ -60,18 +60,7 @@ module _ (code : Code) (n : ℕ) where
   change_count_runs : (t : Site) (sign : Sign) (c : CountedClass) (e : Expression) → Runs code n (height t) same (change_code t sign (ToCount c) e) done (change_by t.line sign (ToCount c) e)
   change_count_runs t sign c e =
       alike code n (height t) (λ w. then_then (look t.line (value e) w) (λ y. look t.line (λ s. if_ok (sure (fetched (Global c.variable) s)) (λ v. calculated (operator_of sign) v y))) (write t.line (InCount c)))
-      (record {
-        by = λ p cells frames w high has in_.
-            let ce : List Placed = with_operand t e (λ y. i.Calculate (operator_of sign) (Held (Global c.variable)) y (next t)) in
-            let last : List Placed = count_code (above t Integer) c (Taken (height t)) in
-            let end : p + length ce + 2 ≡ p + length (ce ++ last) = omega (arith, length-append ce last) in
-            join (at p cells frames w) (λ v w'. at (p + length ce) (v ∷ cells) frames w') (λ o w'. at (p + length (ce ++ last)) cells frames w') frames (sum_part t sign (Global c.variable) e w) (write t.line (InCount c))
-            (subst (λ o. Reaches code (at p cells frames w) (arrive (λ v w'. at (p + length ce) (v ∷ cells) frames w') frames o)) (went (sum_part t sign (Global c.variable) e w))
-            ((sum_runs t sign (Global c.variable) e (next t) refl).by p cells frames w high (has_front code.places p ce last has) in_))
-            (λ v w' k.
-            subst (λ j. Reaches code (at (p + length ce) (v ∷ cells) frames w') (arrive (λ o w'. at j cells frames w') frames (write t.line (InCount c) v w'))) end
-            (count_run code (above t Integer) c (Taken (height t)) v (p + length ce) (v ∷ cells) cells frames w' (λ go. at_the_height (height t) cells (go v cells) high) (has_back code.places p ce last has)));
-      })
+      (seq code n (height t) {mid = put_on} (alike code n (height t) (λ w. went (sum_part t sign (Global c.variable) e w)) (sum_runs t sign (Global c.variable) e (next t) refl)) (λ v. count_taken code n t Integer c v))
 
   pub change_runs_at : (t : Site) (sign : Sign) (p : Place) (e : Expression) → Runs code n (height t) same (change_code t sign p e) done (change_by t.line sign p e)
   change_runs_at t sign (ToVariable x) e =

@@ -1,16 +1,16 @@
 -- The code of a place that takes what an instruction leaves: READ and CREATE.
 use Rattle.std.proofs.Common.{◌≡◌, ℕ, ◌+◌, false, List, [], ◌∷◌, ◌++◌, length, Option, Some, None, Ok, Err, refl, sym, ap, ◌∙◌, subst, arith, length-append, ◌⊎◌, inl, inr}
 use Rattle.std.specs.Prelude.{slice_get, Result as OkOr}
-use Rattle.ss_code_instructions.proofs.Common.{above, act, after, assigned_attribute, class_at, Clock, Code, Constant, core_at, count_code, CountedClass, created, deliver_with, due, entity, entity_code, Expression, Fails, Failure, Fetch, fetched, Frame, get, Global, height, if_ok, InAttribute, InCount, InputTarget, Integer, is_due, is_single, leaf, Line, Local, looked, looked_at, MachineState, made_one, Mode, Moved, next, operand, or_cell, outcome_then, Part, Place, place, reads_code, RunState, settle_with, Site, Store, sure, to_place_code, ToAttribute, ToCount, ToVariable, TypeError, Value, value, value_given, Variable, WentOn, with_new, with_operand_value, with_values, write}
+use Rattle.ss_code_instructions.proofs.Common.{above, act, after, assigned_attribute, class_at, Clock, Code, Constant, core_at, CountedClass, created, deliver_with, due, entity, entity_code, Expression, Fails, Failure, Fetch, fetched, Frame, get, Global, height, if_ok, InAttribute, InputTarget, Integer, is_due, is_single, leaf, Line, Local, looked, looked_at, MachineState, made_one, Mode, Moved, next, operand, or_cell, outcome_then, Part, Place, place, reads_code, RunState, settle_with, Site, Store, sure, to_place_code, ToAttribute, ToCount, ToVariable, TypeError, Value, value, value_given, Variable, WentOn, with_new, with_operand_value, with_values, write}
 use Rattle.ss_code_instructions.specs.Instructions.{Instruction, Operand, Placed, Taken, Target as To}
 use Rattle.ss_meaning.specs.Statements.{give_to, read_value, with_input, read_each}
 use Rattle.ss_code_instructions.specs.Instructions as i
 use Rattle.ss_code_instructions.proofs.Keeping.{Only, Says, made, fitting}
-use Rattle.ss_code_instructions.proofs.Steps.{has_front, has_back, Reaches, at, arrive, join, join_known}
-use Rattle.ss_code_instructions.proofs.Parts.{step_leads, at_the_height, Runs, same, done, went, seq, none, turned_then}
+use Rattle.ss_code_instructions.proofs.Steps.{has_front, has_back, Reaches, at, arrive, join_known}
+use Rattle.ss_code_instructions.proofs.Parts.{step_leads, at_the_height, Runs, same, done, put_on, went, seq, alike, none, turned_then}
 use Rattle.ss_code_instructions.proofs.Operands.{on, Tops, put_then, delivers, held, held_height, leaf_is, leaf_reads, not_above}
 use Rattle.ss_code_instructions.proofs.Members.{looked_join}
-use Rattle.ss_code_instructions.proofs.Assigning.{variable_runs, count_run}
+use Rattle.ss_code_instructions.proofs.Assigning.{variable_runs, count_taken}
 use Rattle.ss_code_instructions.proofs.Attributes.{two_change}
 use Rattle.ss_code_instructions.proofs.Changing.{by_order}
 
@@ -79,18 +79,8 @@ module _ (code : Code) (n : ℕ) where
   Sources source l m = (u : Site) (to : To) → u.line ≡ l → Tops to (height u) → Runs code n (height u) same (source u to) (on to) (λ w. outcome_then (m w) (put_then l to))
 
   to_count_runs : (t : Site) (mode : Mode) (c : CountedClass) (source : Site → To → List Placed) (m : Part Value) → Sources source t.line m → Runs code n (height t) same (to_place_code t (ToCount c) mode source) done (give_to t.line (ToCount c) m)
-  to_count_runs t mode c source m r = record {
-    by = λ p cells frames w high has in_.
-        let s : List Placed = source t (next t) in
-        let last : List Placed = count_code (above t mode) c (Taken (height t)) in
-        let end : p + length s + 2 ≡ p + length (s ++ last) = omega (arith, length-append s last) in
-        join (at p cells frames w) (λ v w'. at (p + length s) (v ∷ cells) frames w') (λ o w'. at (p + length (s ++ last)) cells frames w') frames (m w) (write t.line (InCount c))
-        (subst (λ o. Reaches code (at p cells frames w) (arrive (λ v w'. at (p + length s) (v ∷ cells) frames w') frames o)) (went (m w))
-        ((r t (next t) refl refl).by p cells frames w high (has_front code.places p s last has) in_))
-        (λ v w' k.
-        subst (λ j. Reaches code (at (p + length s) (v ∷ cells) frames w') (arrive (λ o w'. at j cells frames w') frames (write t.line (InCount c) v w'))) end
-        (count_run code (above t mode) c (Taken (height t)) v (p + length s) (v ∷ cells) cells frames w' (λ go. at_the_height (height t) cells (go v cells) high) (has_back code.places p s last has)));
-  }
+  to_count_runs t mode c source m r =
+      seq code n (height t) {mid = put_on} (alike code n (height t) (λ w. went (m w)) (r t (next t) refl refl)) (λ v. count_taken code n t mode c v)
 
   to_attribute_runs : (t : Site) (mode : Mode) (class field : ℕ) (r : Expression) (source : Site → To → List Placed) (m : Part Value) → Quietly m → Sources source t.line m → Runs code n (height t) same (to_place_code t (ToAttribute class field r) mode source) done (give_to t.line (ToAttribute class field r) m)
   to_attribute_runs t mode class field r source m quiet runs = record {
