@@ -1,11 +1,11 @@
 -- Each member of a set of a heap lives, as an entity of the class of the set's members. So it may be one of the set. That is so at first, and no
 -- operation changes it.
 use Rattle.std.proofs.Common.{◌≡◌, ℕ, zero, suc, ◌+◌, ◌-◌, ◌<◌, Bool, true, false, List, [], ◌∷◌, ◌++◌, length, Option, Some, None, Ok, Err, ℤ, pos, negsuc, refl, sym, ap, ◌∙◌, subst, arith, ◌⊎◌, inl, inr, true≢false}
-use Rattle.std.proofs.lemmas.Bool.{eqb-true, eqb-false, eq-eqb, and_parts, and_from}
-use Rattle.std.specs.Prelude.{slice_get, slice_set, replicate, is_some, cond, nat_lt, nat_le, ◌==◌, ◌&&◌, ◌||◌, Result, if◌then◌else◌}
+use Rattle.std.proofs.lemmas.Bool.{eqb-true, eqb-false, eq-eqb, and_parts, and_from, or_left, or_right}
+use Rattle.std.specs.Prelude.{slice_get, slice_set, replicate, is_some, cond, nat_lt, nat_le, ◌==◌, ◌&&◌, Result, if◌then◌else◌}
 use Rattle.ss_code_instructions.proofs.Common.{Discipline, FaultKind, IsInList, SetLayout, Value}
 use Rattle.ss_world.specs.Disciplines.{filed, ranks_after, put_ranked, take, first_removed, last_removed}
-use Rattle.ss_world.specs.State.{assigned, created, State, timed, Record, Members, and_then, kind_of, issued_record, numbered_record, indexed_record, records_in, of_class, entity_of_kind, entity_in, notice, number_in, first_record, record_with_value, with_time, with_indexed, with_entity_of_kind, with_created, LAST_NUMBER, MOST_ENTITIES, is_made_in, is_made, with_made, made_many, created_all, members_of, contains, owner_among, is_filed, with_members, in_a_set, owns_members, let_go, destroyed, first_state}
+use Rattle.ss_world.specs.State.{assigned, created, State, timed, Record, Members, and_then, kind_of, issued_record, numbered_record, indexed_record, records_in, of_class, entity_of_kind, entity_in, notice, number_in, first_record, record_with_value, with_time, with_entity_of_kind, with_created, LAST_NUMBER, MOST_ENTITIES, is_made_in, is_made, with_made, made_many, created_all, members_of, contains, owner_among, is_filed, with_members, in_a_set, owns_members, let_go, destroyed, first_state}
 use Rattle.ss_base.specs.declared.fault.FaultKind.TheVariants as faults
 use Rattle.ss_base.specs.declared.layout.ClassKind.{ClassKind}
 use Rattle.ss_base.specs.declared.layout.ClassKind.TheVariants.{Permanent, Temporary, Notice}
@@ -15,7 +15,7 @@ use Rattle.ss_base.specs.declared.layout.RankKey.{RankKey}
 use Rattle.ss_world.specs.Sets.{member_in, member_class, joiner, owner, first_in, last_in, put_before, put_after, less, with_list_of, put_in, put_beside, taken_out, filed_first, filed_last, filed_before, filed_after, removed}
 use Rattle.ss_meaning.specs.Fitting.{class_of_record, living, made, IsIndex, IsLivingAs, IsLiving}
 use Rattle.ss_meaning.proofs.Fine.{Sane, sane_then}
-use Rattle.ss_meaning.proofs.Heaps.{HasRecord, IsEntityAs, entity_known, entity_lives, notice_known, set_length}
+use Rattle.ss_meaning.proofs.Heaps.{HasRecord, IsEntityAs, entity_known, entity_lives, get_other, made_at, notice_known, number_is, set_class, single_by}
 
 abbrev pub Joined : State → Type 0
 Joined h = (s o x : ℕ) → s < length h.layout.sets → IsInList x (members_of h.lists s o) → IsLiving h (member_class h.layout s) (pos x)
@@ -77,19 +77,6 @@ first_joined l s o x i m = absurd m
 
 -- ## Other entities
 
--- another record of the same class in place of one
-class_stays : (rs : List (Option Record)) (i : ℕ) (r q : Record) → slice_get rs i ≡ Some (Some r) → q.class ≡ r.class → (k : ℕ) → class_of_record (slice_get (slice_set rs i (Some q)) k) ≡ class_of_record (slice_get rs k)
-class_stays [] i r q g c k = absurd cc
-class_stays (o ∷ rs) zero r q g c zero = let here : o ≡ Some r = cc in ap Some c ∙ sym (ap (λ y. class_of_record (Some y)) here)
-class_stays (o ∷ rs) zero r q g c (suc k) = refl
-class_stays (o ∷ rs) (suc i) r q g c zero = refl
-class_stays (o ∷ rs) (suc i) r q g c (suc k) = class_stays rs i r q g c k
-
-number_is : (h : State) (x : ℤ) (r : Record) → HasRecord h x r → slice_get h.records (number_in x - 1) ≡ Some (Some r)
-number_is h (pos zero) r q = absurd q
-number_is h (pos (suc i)) r q = let one : suc i - 1 ≡ i = omega arith in subst (λ k. slice_get h.records k ≡ Some (Some r)) (sym one) q
-number_is h (negsuc k) r q = absurd q
-
 -- another state, in which what lived goes on to live
 lives_by : (k : ClassKind) (h g : State) (c x : ℕ) → (k ≡ Permanent → IsIndex (made h c) (pos x) → IsIndex (made g c) (pos x)) → ((i : ℕ) → x ≡ suc i → class_of_record (slice_get h.records i) ≡ Some c → class_of_record (slice_get g.records i) ≡ Some c) → IsLivingAs k h c (pos x) → IsLivingAs k g c (pos x)
 lives_by Permanent h g c x p f q = p refl q
@@ -100,25 +87,12 @@ lives_by Notice h g c (suc i) p f q = f i refl q
 
 recorded : (h : State) (i : ℕ) (r q : Record) → slice_get h.records i ≡ Some (Some r) → q.class ≡ r.class → Joined h → Joined (record h { records = slice_set h.records i (Some q) })
 recorded h i r q g c j s o x k m =
-    lives_by (kind_of h.layout (member_class h.layout s)) h (record h { records = slice_set h.records i (Some q) }) (member_class h.layout s) x (λ _ p. p) (λ y e p. class_stays h.records i r q g c y ∙ p) (j s o x k m)
-
--- other records of permanent entities, as many of each class
-row_set : (o : Option (Option (List Record))) (i : ℕ) (r : Record) → length (records_in (Some (with_indexed o i r))) ≡ length (records_in o)
-row_set None i r = refl
-row_set (Some None) i r = refl
-row_set (Some (Some rs)) i r = set_length rs (i - 1) r
-
-rows_set : (ps : List (Option (List Record))) (c i : ℕ) (r : Record) (k : ℕ) → length (records_in (slice_get (slice_set ps c (with_indexed (slice_get ps c) i r)) k)) ≡ length (records_in (slice_get ps k))
-rows_set [] c i r k = refl
-rows_set (o ∷ ps) zero i r zero = row_set (Some o) i r
-rows_set (o ∷ ps) zero i r (suc k) = refl
-rows_set (o ∷ ps) (suc c) i r zero = refl
-rows_set (o ∷ ps) (suc c) i r (suc k) = rows_set ps c i r k
+    lives_by (kind_of h.layout (member_class h.layout s)) h (record h { records = slice_set h.records i (Some q) }) (member_class h.layout s) x (λ _ p. p) (λ y e p. set_class h.records i r q g c y ∙ p) (j s o x k m)
 
 indexed_set : (h : State) (c n : ℕ) (r : Record) → Joined h → Joined (with_entity_of_kind h Permanent c n r)
 indexed_set h c n r j s o x k m =
     lives_by (kind_of h.layout (member_class h.layout s)) h (with_entity_of_kind h Permanent c n r) (member_class h.layout s) x
-    (λ _ p. subst (λ y. IsIndex y (pos x)) (sym (rows_set h.permanents c n r (member_class h.layout s))) p) (λ i e p. p) (j s o x k m)
+    (λ _ p. subst (λ y. IsIndex y (pos x)) (sym (made_at h.permanents c n r (member_class h.layout s))) p) (λ i e p. p) (j s o x k m)
 
 -- ## Assigning
 
@@ -155,13 +129,6 @@ created_joined h c j = by (nat_lt (length h.records) LAST_NUMBER)
     by : (b : Bool) → Sane (λ (b : ℤ × State). Joined b.1) (if b then Ok (pos (length h.records + 1), with_created h c) else Err faults.Overflow)
     by true = with_created_joined h c j
     by false = tt
-
-get_other : {A : Type 0} (xs : List A) (c : ℕ) (a : A) (k : ℕ) → (c ≡ k → ⊥) → slice_get (slice_set xs c a) k ≡ slice_get xs k
-get_other [] c a k h = refl
-get_other (x ∷ xs) zero a zero h = absurd (h refl)
-get_other (x ∷ xs) zero a (suc k) h = refl
-get_other (x ∷ xs) (suc c) a zero h = refl
-get_other (x ∷ xs) (suc c) a (suc k) h = get_other xs c a k (λ q. h (ap suc q))
 
 -- a class whose entities are not made has none
 none_made : (o : Option (Option (List Record))) (x : ℕ) → is_made_in o ≡ false → IsIndex (length (records_in o)) (pos x) → ⊥
@@ -355,18 +322,10 @@ last_removed_joined h s o j = each_then (λ (r : ℤ × State). Joined r.1) (las
 
 -- ## Destroying: what is in a set stays
 
-or_first : (a b : Bool) → a ≡ true → (a || b) ≡ true
-or_first true b q = refl
-or_first false b q = absurd (true≢false (sym q))
-
-or_second : (a b : Bool) → b ≡ true → (a || b) ≡ true
-or_second true b q = refl
-or_second false b q = q
-
 contains_so : (xs : List ℕ) (x : ℕ) → IsInList x xs → contains xs x ≡ true
 contains_so [] x m = absurd m
-contains_so (y ∷ ys) x (inl e) = or_first (y == x) (contains ys x) (eq-eqb y x e)
-contains_so (y ∷ ys) x (inr m) = or_second (y == x) (contains ys x) (contains_so ys x m)
+contains_so (y ∷ ys) x (inl e) = or_left (y == x) (contains ys x) (eq-eqb y x e)
+contains_so (y ∷ ys) x (inr m) = or_right (y == x) (contains ys x) (contains_so ys x m)
 
 -- some list that is not empty has an owner
 among_so : (some all : List Members) (s o x : ℕ) → contains (members_of all s o) x ≡ true → (members_of some s o ≡ [] → ⊥) → is_some (owner_among some all s x) ≡ true
@@ -395,10 +354,10 @@ in_set_so (u ∷ ts) b zero d ms c x t q e g f =
     let at : d ≡ b = omega (arith, e) in
     let class : u.member ≡ c = ap (λ (y : SetLayout). y.member) same ∙ g in
     let filed_ : is_filed ms b x ≡ true = subst (λ y. is_filed ms y x ≡ true) at f in
-    or_first ((u.member == c) && is_filed ms b x) (in_a_set ts (b + 1) ms c x) (and_from (u.member == c) (is_filed ms b x) (eq-eqb u.member c class) filed_)
+    or_left ((u.member == c) && is_filed ms b x) (in_a_set ts (b + 1) ms c x) (and_from (u.member == c) (is_filed ms b x) (eq-eqb u.member c class) filed_)
 in_set_so (u ∷ ts) b (suc k) d ms c x t q e g f =
     let at : d ≡ b + 1 + k = omega (arith, e) in
-    or_second ((u.member == c) && is_filed ms b x) (in_a_set ts (b + 1) ms c x) (in_set_so ts (b + 1) k d ms c x t q at g f)
+    or_right ((u.member == c) && is_filed ms b x) (in_a_set ts (b + 1) ms c x) (in_set_so ts (b + 1) k d ms c x t q at g f)
 
 -- what is in no set goes
 cut_joined : (h : State) (c i : ℕ) (r : Record) → slice_get h.records i ≡ Some (Some r) → r.class ≡ c → in_a_set h.layout.sets 0 h.lists c (suc i) ≡ false → Joined h → Joined (record h { records = slice_set h.records i None })
@@ -422,11 +381,6 @@ cut_joined h c i r g own apart j s o x k m =
     by n e p true q = absurd (never n e (eqb-true i n q) p)
     by n e p false q = ap class_of_record (get_other h.records i None n (eqb-false i n q)) ∙ p
 
-single_is : (k : ClassKind) (h : State) (c : ℕ) (x : ℤ) (r : Record) → (k ≡ Permanent → ⊥) → IsEntityAs k h c x r → HasRecord h x r × (r.class ≡ c)
-single_is Permanent h c x r other q = absurd (other refl)
-single_is Temporary h c x r other q = q
-single_is Notice h c x r other q = q
-
 let_go_joined : (h : State) (c : ℕ) (x : ℤ) (r : Record) → HasRecord h x r → r.class ≡ c → Joined h → Sane Joined (let_go h c (number_in x))
 let_go_joined h c (pos zero) r q own j = absurd q
 let_go_joined h c (negsuc k) r q own j = absurd q
@@ -446,4 +400,4 @@ let_go_joined h c (pos (suc i)) r q own j = first (in_a_set h.layout.sets 0 h.li
 pub destroyed_joined : (h : State) (c : ℕ) (x : ℤ) → (kind_of h.layout c ≡ Permanent → ⊥) → Joined h → Sane Joined (destroyed h c x)
 destroyed_joined h c x other j =
     sane_then Joined (entity_in h c x) (λ r. let_go h c (number_in x)) (entity_known h c x) (λ r q.
-    let e = single_is (kind_of h.layout c) h c x r other q in let_go_joined h c x r e.0 e.1 j)
+    let e = single_by (kind_of h.layout c) h c x r other q in let_go_joined h c x r e.0 e.1 j)

@@ -1,6 +1,7 @@
 -- The code of a FOR over the members of a set. At the head of a turn the cells hold the member, and the one that comes after it.
-use Rattle.std.proofs.Common.{◌≡◌, ℕ, zero, suc, ◌+◌, ◌-◌, ◌<◌, ◌≤◌, Bool, true, false, not, List, [], ◌∷◌, ◌++◌, length, Option, Some, None, Ok, Err, ℤ, pos, refl, sym, ap, ◌∙◌, subst, arith, length-append, inl, inr}
+use Rattle.std.proofs.Common.{◌≡◌, ℕ, zero, suc, ◌+◌, ◌-◌, ◌≤◌, Bool, true, false, not, List, [], ◌∷◌, ◌++◌, length, Option, Some, None, Ok, Err, ℤ, pos, refl, sym, ap, ◌∙◌, subst, arith, length-append, inl, inr}
 use Rattle.ss_code_instructions.proofs.Common.{above, After, at_height, AtEnd, back_if, begin_walk, cell_at, Code, Core, core_at, did, due, Entity, Expression, expression_code, Fails, Failure, FaultKind, fit, for_code, forget_to, Frame, From, height, if_ok, Integer, Line, looked_at, MachineState, member_value, Members, Moved, ne_eqb, next, onward, onward_if, owner_cell, owner_code, owner_kept, owner_value, place, Placed, SetLayout, SetOwner, Site, Start, Store, take_code, Text, TheSystem, turned, turns_code, TypeError, unless_fault, Value, value, Variable, Walk, walk_at, walk_cells, walk_further, walk_loop, where_fit, Whole, with_bearer}
+use Rattle.std.proofs.lemmas.Option.{slice_get_within}
 use Rattle.std.specs.Prelude.{slice_get, is_some, cond, ◌==◌, Result as OkOr, if◌then◌else◌}
 use Rattle.ss_meaning.specs.Loops.{EndsLoop, GoesOn, IsFound, over, Turn, visit, Outset, next_member, member_turn, over_members}
 use Rattle.ss_meaning.specs.Parts.{Again, choose, look, looked, loop, outcome_then, Part, RunState, WentOn, Next, Over, go_on}
@@ -111,11 +112,6 @@ beside_member : (reverse : Bool) (h : State) (set : ℕ) (y x : ℤ) → beside 
 beside_member false h set y x e some = found_member h set x (λ n. follower n (companions h.lists set n)) (λ n k. follower_member h.lists set n (owner_of h.lists set n) k) (joiner h set y) e some
 beside_member true h set y x e some = found_member h set x (λ n. precursor 0 n (companions h.lists set n)) (λ n k. precursor_member h.lists set n (owner_of h.lists set n) k) (joiner h set y) e some
 
-before_end : {A : Type 0} (xs : List A) (k : ℕ) (a : A) → slice_get xs k ≡ Some a → k < length xs
-before_end [] k a q = absurd cc
-before_end (x ∷ xs) zero a q = omega arith
-before_end (x ∷ xs) (suc k) a q = let h : k < length xs = before_end xs k a q in omega (arith, h)
-
 -- what may be a member has one that comes after it, or 0
 known_follows : (reverse : Bool) (set n : ℕ) (t : SetLayout) (x : ℤ) (s : Store) → set_at set s ≡ Some t → joiner s.world.heap set x ≡ Ok n → Follows reverse set s x
 known_follows false set n t x s q j = (
@@ -132,7 +128,7 @@ known_follows true set n t x s q j = (
 member_follows : (reverse : Bool) (set : ℕ) (t : SetLayout) (x : ℤ) (s : Store) → Joined s.world.heap → set_at set s ≡ Some t → IsMember s.world.heap set x → Follows reverse set s x
 member_follows reverse set t x s joined q m =
     subst (Follows reverse set s) m.2
-    (known_follows reverse set m.1 t (pos m.1) s q (joined_joins s.world.heap joined set m.0 m.1 (before_end s.world.heap.layout.sets set t q) m.3))
+    (known_follows reverse set m.1 t (pos m.1) s q (joined_joins s.world.heap joined set m.0 m.1 (slice_get_within s.world.heap.layout.sets set t q) m.3))
 
 -- a walk begins at an end of a set
 pub begun_follows : (reverse : Bool) (set : ℕ) (y : Option Value) (x : ℤ) (s : Store) → Joined s.world.heap → begun reverse set y s ≡ Ok x → is_none x ≡ false → Follows reverse set s x

@@ -144,7 +144,7 @@ set_modes (w ∷ vs) (n ∷ ms) (suc k) m v q g p =
     let later : AreOfModes (slice_set vs k v) ms = set_modes vs ms k m v rest g p in cc
 
 -- another record of the same class in place of one
-set_class : (rs : List (Option Record)) (i : ℕ) (r q : Record) → slice_get rs i ≡ Some (Some r) → q.class ≡ r.class → (j : ℕ) → class_of_record (slice_get (slice_set rs i (Some q)) j) ≡ class_of_record (slice_get rs j)
+pub set_class : (rs : List (Option Record)) (i : ℕ) (r q : Record) → slice_get rs i ≡ Some (Some r) → q.class ≡ r.class → (j : ℕ) → class_of_record (slice_get (slice_set rs i (Some q)) j) ≡ class_of_record (slice_get rs j)
 set_class [] i r q g c j = absurd cc
 set_class (o ∷ rs) zero r q g c zero = let there : o ≡ Some r = cc in ap Some c ∙ sym (ap (λ y. class_of_record (Some y)) there)
 set_class (o ∷ rs) zero r q g c (suc j) = refl
@@ -176,7 +176,7 @@ set_single h i r q f g c m =
     ((every_set (IsFittingRecord h.layout) h.records i (Some q) f.0 (subst (λ d. AreOfModes q.values (modes_of h.layout d)) (sym c) m), f.1), set_same h i r q g c)
 
 -- the number of an entity that is there
-number_is : (h : State) (x : ℤ) (r : Record) → HasRecord h x r → slice_get h.records (number_in x - 1) ≡ Some (Some r)
+pub number_is : (h : State) (x : ℤ) (r : Record) → HasRecord h x r → slice_get h.records (number_in x - 1) ≡ Some (Some r)
 number_is h (pos zero) r q = absurd q
 number_is h (pos (suc i)) r q = let one : suc i - 1 ≡ i = omega arith in subst (λ j. slice_get h.records j ≡ Some (Some r)) (sym one) q
 number_is h (negsuc k) r q = absurd q
@@ -187,7 +187,7 @@ made_set None i r = refl
 made_set (Some None) i r = refl
 made_set (Some (Some rs)) i r = set_length rs (i - 1) r
 
-made_at : (ps : List (Option (List Record))) (c i : ℕ) (r : Record) (k : ℕ) → length (records_in (slice_get (slice_set ps c (with_indexed (slice_get ps c) i r)) k)) ≡ length (records_in (slice_get ps k))
+pub made_at : (ps : List (Option (List Record))) (c i : ℕ) (r : Record) (k : ℕ) → length (records_in (slice_get (slice_set ps c (with_indexed (slice_get ps c) i r)) k)) ≡ length (records_in (slice_get ps k))
 made_at [] c i r k = refl
 made_at (o ∷ ps) zero i r zero = made_set (Some o) i r
 made_at (o ∷ ps) zero i r (suc k) = refl
@@ -340,7 +340,7 @@ created_sane h class f = by (nat_lt (length h.records) LAST_NUMBER)
     by true = with_created_is h class f
     by false = tt
 
-get_other : {A : Type 0} (xs : List A) (c : ℕ) (a : A) (k : ℕ) → (c ≡ k → ⊥) → slice_get (slice_set xs c a) k ≡ slice_get xs k
+pub get_other : {A : Type 0} (xs : List A) (c : ℕ) (a : A) (k : ℕ) → (c ≡ k → ⊥) → slice_get (slice_set xs c a) k ≡ slice_get xs k
 get_other [] c a k h = refl
 get_other (x ∷ xs) zero a zero h = absurd (h refl)
 get_other (x ∷ xs) zero a (suc k) h = refl
@@ -447,11 +447,11 @@ let_go_sane h c (pos (suc i)) r f q = first (in_a_set h.layout.sets 0 h.lists c 
     first false = second (owns_members h.layout.sets 0 h.lists c (suc i))
 let_go_sane h c (negsuc k) r f q = absurd q
 
-single_by : (k : ClassKind) (h : State) (c : ℕ) (x : ℤ) (r : Record) → (k ≡ Permanent → ⊥) → IsEntityAs k h c x r → HasRecord h x r
+pub single_by : (k : ClassKind) (h : State) (c : ℕ) (x : ℤ) (r : Record) → (k ≡ Permanent → ⊥) → IsEntityAs k h c x r → HasRecord h x r × (r.class ≡ c)
 single_by Permanent h c x r other q = absurd (other refl)
-single_by Temporary h c x r other q = q.0
-single_by Notice h c x r other q = q.0
+single_by Temporary h c x r other q = q
+single_by Notice h c x r other q = q
 
 pub destroyed_sane : (h : State) (c : ℕ) (x : ℤ) → IsFittingHeap h → (kind_of h.layout c ≡ Permanent → ⊥) → Sane (Gone h x) (destroyed h c x)
 destroyed_sane h c x f other =
-    sane_then (Gone h x) (entity_in h c x) (λ r. let_go h c (number_in x)) (entity_known h c x) (λ r q. let_go_sane h c x r f (single_by (kind_of h.layout c) h c x r other q))
+    sane_then (Gone h x) (entity_in h c x) (λ r. let_go h c (number_in x)) (entity_known h c x) (λ r q. let_go_sane h c x r f (single_by (kind_of h.layout c) h c x r other q).0)

@@ -27,7 +27,7 @@ firsts_modes (m ∷ ms) = let here : mode_of (first_value m) ≡ m = first_mode 
     first_mode Integer = refl
     first_mode Alpha = refl
 
-prepended_there : (v : Value) (m : Mode) (ms : List Mode) (o : Option (List Value)) → mode_of v ≡ m → There (λ vs. AreOfModes vs ms) o → There (λ vs. AreOfModes vs (m ∷ ms)) (prepended v o)
+pub prepended_there : (v : Value) (m : Mode) (ms : List Mode) (o : Option (List Value)) → mode_of v ≡ m → There (λ vs. AreOfModes vs ms) o → There (λ vs. AreOfModes vs (m ∷ ms)) (prepended v o)
 prepended_there v m ms (Some vs) q h = let all : AreOfModes (v ∷ vs) (m ∷ ms) = cc in all
 prepended_there v m ms None q h = absurd h
 
@@ -41,7 +41,7 @@ taken_there (m ∷ ms) (v ∷ vs) h =
     subst (λ b. There (λ us. AreOfModes us (m ∷ ms)) (if b then prepended v (taken_by_modes ms vs) else None)) (sym (ap (λ n. same_mode n m) here ∙ same_is m))
     (prepended_there v m ms (taken_by_modes ms vs) here (taken_there ms vs rest))
 
-both_hold : (vs us : List Value) (ms ns : List Mode) → AreOfModes vs ms → AreOfModes us ns → AreOfModes (vs ++ us) (ms ++ ns)
+pub both_hold : (vs us : List Value) (ms ns : List Mode) → AreOfModes vs ms → AreOfModes us ns → AreOfModes (vs ++ us) (ms ++ ns)
 both_hold [] us [] ns h g = g
 both_hold [] us (m ∷ ms) ns h g = absurd cc
 both_hold (v ∷ vs) us [] ns h g = absurd cc
@@ -50,7 +50,7 @@ both_hold (v ∷ vs) us (m ∷ ms) ns h g =
     let rest : AreOfModes vs ms = cc in
     let later : AreOfModes (vs ++ us) (ms ++ ns) = both_hold vs us ms ns rest g in cc
 
-opened_there : (given others : List Mode) (vs : List Value) → AreOfModes vs given → There (λ ls. AreOfModes ls (given ++ others)) (opened given others vs)
+pub opened_there : (given others : List Mode) (vs : List Value) → AreOfModes vs given → There (λ ls. AreOfModes ls (given ++ others)) (opened given others vs)
 opened_there given others vs h = by (taken_by_modes given vs) (taken_there given vs h)
   where
     by : (o : Option (List Value)) → There (λ us. AreOfModes us given) o → There (λ ls. AreOfModes ls (given ++ others)) (appended o (first_values others))
