@@ -3,27 +3,20 @@
 use Rattle.std.proofs.Common.{◌≡◌, ℕ, zero, suc, ◌+◌, ◌-◌, ◌<◌, Bool, true, false, List, [], ◌∷◌, ◌++◌, length, Option, Some, None, Ok, Err, ℤ, pos, negsuc, refl, sym, ap, ◌∙◌, subst, arith, ◌⊎◌, inl, inr, true≢false}
 use Rattle.std.proofs.lemmas.Bool.{eqb-true, eqb-false, eq-eqb, and_parts, and_from, or_left, or_right}
 use Rattle.std.specs.Prelude.{slice_get, slice_set, replicate, is_some, cond, nat_lt, nat_le, ◌==◌, ◌&&◌, Result, if◌then◌else◌}
-use Rattle.ss_code_instructions.proofs.Common.{Discipline, FaultKind, IsInList, SetLayout, Value}
-use Rattle.ss_world.specs.Disciplines.{filed, ranks_after, put_ranked, take, first_removed, last_removed}
+use Rattle.ss_code_instructions.proofs.Common.{FaultKind, IsInList, SetLayout, Value}
 use Rattle.ss_world.specs.State.{assigned, created, State, timed, Record, Members, and_then, kind_of, issued_record, numbered_record, indexed_record, records_in, of_class, entity_of_kind, entity_in, notice, number_in, first_record, record_with_value, with_time, with_entity_of_kind, with_created, LAST_NUMBER, MOST_ENTITIES, is_made_in, is_made, with_made, made_many, created_all, members_of, contains, owner_among, is_filed, with_members, in_a_set, owns_members, let_go, destroyed, first_state}
 use Rattle.ss_base.specs.declared.fault.FaultKind.TheVariants as faults
 use Rattle.ss_base.specs.declared.layout.ClassKind.{ClassKind}
 use Rattle.ss_base.specs.declared.layout.ClassKind.TheVariants.{Permanent, Temporary, Notice}
-use Rattle.ss_base.specs.declared.layout.Discipline.TheVariants.{Fifo, Lifo, Ranked}
 use Rattle.ss_base.specs.declared.layout.Layout.{Layout}
-use Rattle.ss_base.specs.declared.layout.RankKey.{RankKey}
-use Rattle.ss_world.specs.Sets.{member_in, member_class, joiner, owner, first_in, last_in, put_before, put_after, less, with_list_of, put_in, put_beside, taken_out, filed_first, filed_last, filed_before, filed_after, removed}
+use Rattle.ss_world.specs.Sets.{member_in, member_class, joiner, with_list_of}
 use Rattle.ss_meaning.specs.Fitting.{class_of_record, living, made, IsIndex, IsLivingAs, IsLiving}
 use Rattle.ss_meaning.proofs.Fine.{Sane, sane_then}
+use Rattle.ss_meaning.proofs.Filings.{Keeps, MayJoin}
 use Rattle.ss_meaning.proofs.Heaps.{HasRecord, IsEntityAs, entity_known, entity_lives, get_other, made_at, notice_known, number_is, set_class, single_by}
 
 abbrev pub Joined : State → Type 0
 Joined h = (s o x : ℕ) → s < length h.layout.sets → IsInList x (members_of h.lists s o) → IsLiving h (member_class h.layout s) (pos x)
-
--- whatever the first of two operations gives
-each_then : {A B : Type 0} (Q : B → Type 0) (r : Result A FaultKind) (f : A → Result B FaultKind) → ((a : A) → Sane Q (f a)) → Sane Q (and_then r f)
-each_then Q (Ok a) f h = h a
-each_then Q (Err k) f h = tt
 
 -- ## What lives may be a member, and what may be one lives
 
@@ -197,128 +190,15 @@ listed h s o l f j s' o' x k m =
     by (inl g) = subst (λ d. IsLiving h (member_class h.layout d) (pos x)) g.0 (f x (subst (λ d. d < length h.layout.sets) (sym g.0) k) g.1)
     by (inr g) = j s' o' x k g
 
--- ## Filing
+-- ## Filing and removing
 
-abbrev Puts : (ℕ → List ℕ → List ℕ) → Type 0
-Puts put = (x : ℕ) (l : List ℕ) (y : ℕ) → IsInList y (put x l) → (x ≡ y) ⊎ IsInList y l
-
-put_lives : (put : ℕ → List ℕ → List ℕ) → Puts put → (h : State) (s o x : ℕ) → IsLiving h (member_class h.layout s) (pos x) → Joined h → Joined (with_list_of h s o (put x (members_of h.lists s o)))
-put_lives put p h s o x lives j = listed h s o (put x (members_of h.lists s o)) (λ y k m. by y k (p x (members_of h.lists s o) y m)) j
+-- another list, each member of which was there or may be one
+pub keeps_joined : (h : State) (s : ℕ) → Joined h → Keeps Joined h s
+keeps_joined h s j o l known = listed h s o l (λ y k m. by y k (known y m)) j
   where
-    by : (y : ℕ) → s < length h.layout.sets → (x ≡ y) ⊎ IsInList y (members_of h.lists s o) → IsLiving h (member_class h.layout s) (pos y)
-    by y k (inl e) = subst (λ z. IsLiving h (member_class h.layout s) (pos z)) e lives
+    by : (y : ℕ) → s < length h.layout.sets → MayJoin h s y ⊎ IsInList y (members_of h.lists s o) → IsLiving h (member_class h.layout s) (pos y)
+    by y k (inl g) = subst (λ r. Sane (λ n. IsLiving h (member_class h.layout s) (pos n)) r) g.1 (joiner_lives h s g.0)
     by y k (inr m) = j s o y k m
-
-put_joined : (put : ℕ → List ℕ → List ℕ) → Puts put → (h : State) (s o x : ℕ) → IsLiving h (member_class h.layout s) (pos x) → Joined h → Sane Joined (put_in put h s o x)
-put_joined put p h s o x lives j = by (is_filed h.lists s x)
-  where
-    by : (b : Bool) → Sane Joined (if b then Err faults.FiledTwice else Ok (with_list_of h s o (put x (members_of h.lists s o))))
-    by true = tt
-    by false = put_lives put p h s o x lives j
-
-beside_joined : (put : ℕ → ℕ → List ℕ → List ℕ) → ((k : ℕ) → Puts (put k)) → (h : State) (s o x k : ℕ) → IsLiving h (member_class h.layout s) (pos x) → Joined h → Sane Joined (put_beside put h s o x k)
-beside_joined put p h s o x k lives j = by (is_filed h.lists s x) (contains (members_of h.lists s o) k)
-  where
-    by : (b c : Bool) → Sane Joined (if b then Err faults.FiledTwice else (if c then Ok (with_list_of h s o (put k x (members_of h.lists s o))) else Err faults.NotFiled))
-    by true c = tt
-    by false true = put_lives (put k) (p k) h s o x lives j
-    by false false = tt
-
-puts_first : Puts (λ y l. y ∷ l)
-puts_first x l y m = m
-
--- after an item that stays
-passed : (x z y : ℕ) (zs : List ℕ) (l : List ℕ) → (IsInList y l → (x ≡ y) ⊎ IsInList y zs) → IsInList y (z ∷ l) → (x ≡ y) ⊎ IsInList y (z ∷ zs)
-passed x z y zs l f (inl e) = inr (inl e)
-passed x z y zs l f (inr m) = by (f m)
-  where
-    by : (x ≡ y) ⊎ IsInList y zs → (x ≡ y) ⊎ IsInList y (z ∷ zs)
-    by (inl e) = inl e
-    by (inr m) = inr (inr m)
-
-puts_last : Puts (λ y l. l ++ y ∷ [])
-puts_last x [] y m = m
-puts_last x (z ∷ zs) y m = passed x z y zs (zs ++ x ∷ []) (λ g. puts_last x zs y g) m
-
--- before an item, or after it
-either_side : (b : Bool) (x z y : ℕ) (zs l : List ℕ) → (IsInList y l → (x ≡ y) ⊎ IsInList y zs) → IsInList y (cond b (x ∷ (z ∷ zs)) (z ∷ l)) → (x ≡ y) ⊎ IsInList y (z ∷ zs)
-either_side true x z y zs l f m = m
-either_side false x z y zs l f m = passed x z y zs l f m
-
-puts_before : (k : ℕ) → Puts (put_before k)
-puts_before k x [] y m = m
-puts_before k x (z ∷ zs) y m = either_side (z == k) x z y zs (put_before k x zs) (λ g. puts_before k x zs y g) m
-
-puts_after : (k : ℕ) → Puts (put_after k)
-puts_after k x [] y m = m
-puts_after k x (z ∷ zs) y m = by (z == k) (λ g. puts_after k x zs y g) m
-  where
-    by : (b : Bool) → (IsInList y (put_after k x zs) → (x ≡ y) ⊎ IsInList y zs) → IsInList y (cond b (z ∷ (x ∷ zs)) (z ∷ put_after k x zs)) → (x ≡ y) ⊎ IsInList y (z ∷ zs)
-    by true f m = passed x z y zs (x ∷ zs) (λ g. g) m
-    by false f m = passed x z y zs (put_after k x zs) f m
-
-puts_ranked : (h : State) (c : ℕ) (ks : List RankKey) → Puts (put_ranked h c ks)
-puts_ranked h c ks x [] y m = m
-puts_ranked h c ks x (z ∷ zs) y m = either_side (ranks_after h c ks (pos z) (pos x)) x z y zs (put_ranked h c ks x zs) (λ g. puts_ranked h c ks x zs y g) m
-
--- a member that is looked at, and an owner
-with_member : {B : Type 0} (Q : B → Type 0) (h : State) (s : ℕ) (o x : ℤ) (go : ℕ → ℕ → Result B FaultKind) → ((n m : ℕ) → IsLiving h (member_class h.layout s) (pos n) → Sane Q (go n m)) → Sane Q (and_then (joiner h s x) (λ n. and_then (owner h s o) (λ m. go n m)))
-with_member Q h s o x go f =
-    sane_then Q (joiner h s x) (λ n. and_then (owner h s o) (λ m. go n m)) (joiner_lives h s x) (λ n g. each_then Q (owner h s o) (λ m. go n m) (λ m. f n m g))
-
-pub first_filed : (h : State) (s : ℕ) (o x : ℤ) → Joined h → Sane Joined (filed_first h s o x)
-first_filed h s o x j = with_member Joined h s o x (λ n m. put_in (λ y l. y ∷ l) h s m n) (λ n m g. put_joined (λ y l. y ∷ l) puts_first h s m n g j)
-
-pub last_filed : (h : State) (s : ℕ) (o x : ℤ) → Joined h → Sane Joined (filed_last h s o x)
-last_filed h s o x j = with_member Joined h s o x (λ n m. put_in (λ y l. l ++ y ∷ []) h s m n) (λ n m g. put_joined (λ y l. l ++ y ∷ []) puts_last h s m n g j)
-
-pub before_filed : (h : State) (s : ℕ) (o x y : ℤ) → Joined h → Sane Joined (filed_before h s o x y)
-before_filed h s o x y j =
-    sane_then Joined (joiner h s x) (λ n. and_then (joiner h s y) (λ k. and_then (owner h s o) (λ m. put_beside put_before h s m n k))) (joiner_lives h s x) (λ n g.
-    with_member Joined h s o y (λ k m. put_beside put_before h s m n k) (λ k m u. beside_joined put_before puts_before h s m n k g j))
-
-pub after_filed : (h : State) (s : ℕ) (o x y : ℤ) → Joined h → Sane Joined (filed_after h s o x y)
-after_filed h s o x y j =
-    sane_then Joined (joiner h s x) (λ n. and_then (joiner h s y) (λ k. and_then (owner h s o) (λ m. put_beside put_after h s m n k))) (joiner_lives h s x) (λ n g.
-    with_member Joined h s o y (λ k m. put_beside put_after h s m n k) (λ k m u. beside_joined put_after puts_after h s m n k g j))
-
-pub filed_joined : (h : State) (d : Discipline) (s : ℕ) (o x : ℤ) → Joined h → Sane Joined (filed h d s o x)
-filed_joined h Fifo s o x j = last_filed h s o x j
-filed_joined h Lifo s o x j = first_filed h s o x j
-filed_joined h (Ranked ks) s o x j =
-    with_member Joined h s o x (λ n m. put_in (put_ranked h (member_class h.layout s) ks) h s m n) (λ n m g. put_joined (put_ranked h (member_class h.layout s) ks) (puts_ranked h (member_class h.layout s) ks) h s m n g j)
-
--- ## Removing
-
-less_in : (x : ℕ) (l : List ℕ) (y : ℕ) → IsInList y (less x l) → IsInList y l
-less_in x [] y m = m
-less_in x (z ∷ zs) y m = by (z == x) (λ g. less_in x zs y g) m
-  where
-    by : (b : Bool) → (IsInList y (less x zs) → IsInList y zs) → IsInList y (cond b zs (z ∷ less x zs)) → IsInList y (z ∷ zs)
-    by true f m = inr m
-    by false f (inl e) = inl e
-    by false f (inr m) = inr (f m)
-
-out_joined : (h : State) (s o x : ℕ) → Joined h → Sane Joined (taken_out h s o x)
-out_joined h s o x j = by (contains (members_of h.lists s o) x)
-  where
-    by : (b : Bool) → Sane Joined (if b then Ok (with_list_of h s o (less x (members_of h.lists s o))) else Err faults.NotFiled)
-    by true = listed h s o (less x (members_of h.lists s o)) (λ y k m. j s o y k (less_in x (members_of h.lists s o) y m)) j
-    by false = tt
-
-pub removed_joined : (h : State) (s : ℕ) (o x : ℤ) → Joined h → Sane Joined (removed h s o x)
-removed_joined h s o x j = with_member Joined h s o x (λ n m. taken_out h s m n) (λ n m g. out_joined h s m n j)
-
-take_joined : (h : State) (s : ℕ) (o z : ℤ) → Joined h → Sane (λ (r : ℤ × State). Joined r.1) (take h s o z)
-take_joined h s o (pos zero) j = tt
-take_joined h s o (pos (suc n)) j = sane_then (λ (r : ℤ × State). Joined r.1) (removed h s o (pos (suc n))) (λ t. Ok (pos (suc n), t)) (removed_joined h s o (pos (suc n)) j) (λ t g. g)
-take_joined h s o (negsuc k) j = sane_then (λ (r : ℤ × State). Joined r.1) (removed h s o (negsuc k)) (λ t. Ok (negsuc k, t)) (removed_joined h s o (negsuc k) j) (λ t g. g)
-
-pub first_removed_joined : (h : State) (s : ℕ) (o : ℤ) → Joined h → Sane (λ (r : ℤ × State). Joined r.1) (first_removed h s o)
-first_removed_joined h s o j = each_then (λ (r : ℤ × State). Joined r.1) (first_in h s o) (take h s o) (λ z. take_joined h s o z j)
-
-pub last_removed_joined : (h : State) (s : ℕ) (o : ℤ) → Joined h → Sane (λ (r : ℤ × State). Joined r.1) (last_removed h s o)
-last_removed_joined h s o j = each_then (λ (r : ℤ × State). Joined r.1) (last_in h s o) (take h s o) (λ z. take_joined h s o z j)
 
 -- ## Destroying: what is in a set stays
 
