@@ -2,9 +2,9 @@
 -- operation changes it.
 use Rattle.std.proofs.Common.{◌≡◌, ℕ, zero, suc, ◌+◌, ◌-◌, ◌<◌, Bool, true, false, List, [], ◌∷◌, ◌++◌, length, Option, Some, None, Ok, Err, ℤ, pos, negsuc, refl, sym, ap, ◌∙◌, subst, arith, ◌⊎◌, inl, inr, true≢false}
 use Rattle.std.proofs.lemmas.Bool.{eqb-true, eqb-false, eq-eqb, and_parts, and_from, or_left, or_right}
-use Rattle.std.specs.Prelude.{slice_get, slice_set, replicate, is_some, cond, nat_lt, nat_le, ◌==◌, ◌&&◌, Result, if◌then◌else◌}
+use Rattle.std.specs.Prelude.{slice_get, slice_set, replicate, is_some, cond, nat_lt, ◌==◌, ◌&&◌, Result, if◌then◌else◌}
 use Rattle.ss_code_instructions.proofs.Common.{FaultKind, IsInList, SetLayout, Value}
-use Rattle.ss_world.specs.State.{assigned, created, State, timed, Record, Members, and_then, kind_of, issued_record, numbered_record, indexed_record, records_in, of_class, entity_of_kind, entity_in, notice, number_in, first_record, record_with_value, with_time, with_entity_of_kind, with_created, LAST_NUMBER, MOST_ENTITIES, is_made_in, is_made, with_made, made_many, created_all, members_of, contains, owner_among, is_filed, with_members, in_a_set, owns_members, let_go, destroyed, first_state}
+use Rattle.ss_world.specs.State.{assigned, created, State, timed, Record, Members, and_then, kind_of, issued_record, numbered_record, indexed_record, records_in, of_class, entity_of_kind, entity_in, notice, number_in, first_record, record_with_value, with_time, with_entity_of_kind, with_created, LAST_NUMBER, is_made_in, is_made, with_made, created_all, members_of, contains, owner_among, is_filed, with_members, in_a_set, destroyed, first_state}
 use Rattle.ss_base.specs.declared.fault.FaultKind.TheVariants as faults
 use Rattle.ss_base.specs.declared.layout.ClassKind.{ClassKind}
 use Rattle.ss_base.specs.declared.layout.ClassKind.TheVariants.{Permanent, Temporary, Notice}
@@ -13,7 +13,7 @@ use Rattle.ss_world.specs.Sets.{member_in, member_class, joiner, with_list_of}
 use Rattle.ss_meaning.specs.Fitting.{class_of_record, living, made, IsIndex, IsLivingAs, IsLiving}
 use Rattle.ss_meaning.proofs.Fine.{Sane, sane_then}
 use Rattle.ss_meaning.proofs.Filings.{Keeps, MayJoin}
-use Rattle.ss_meaning.proofs.Heaps.{HasRecord, IsEntityAs, entity_known, entity_lives, get_other, made_at, notice_known, number_is, set_class, single_by}
+use Rattle.ss_meaning.proofs.Heaps.{IsEntityAs, created_all_keeps, destroyed_keeps, entity_known, entity_lives, get_other, made_at, notice_known, number_is, set_class}
 
 abbrev pub Joined : State → Type 0
 Joined h = (s o x : ℕ) → s < length h.layout.sets → IsInList x (members_of h.lists s o) → IsLiving h (member_class h.layout s) (pos x)
@@ -139,19 +139,7 @@ with_made_joined h c n q j s o x k m =
     rows d false e p = subst (λ o. IsIndex (length (records_in o)) (pos x)) (sym (get_other h.permanents c (Some (replicate n (first_record h.layout c))) d (eqb-false c d e))) p
 
 pub created_all_joined : (h : State) (c : ℕ) (z : ℤ) → Joined h → Sane Joined (created_all h c z)
-created_all_joined h c z j = by (is_made h c) refl
-  where
-    in_range : is_made h c ≡ false → (n : ℕ) (b : Bool) → Sane Joined (if b then Ok (with_made h c n) else Err faults.BadCount)
-    in_range q n true = with_made_joined h c n q j
-    in_range q n false = tt
-
-    many : is_made h c ≡ false → (z : ℤ) → Sane Joined (made_many h c z)
-    many q (pos n) = in_range q n (nat_le n MOST_ENTITIES)
-    many q (negsuc k) = tt
-
-    by : (b : Bool) → is_made h c ≡ b → Sane Joined (if b then Err faults.CreatedTwice else made_many h c z)
-    by true q = tt
-    by false q = many q z
+created_all_joined h c z j = created_all_keeps Joined h c z (λ n q. with_made_joined h c n q j)
 
 -- ## Other members
 
@@ -261,23 +249,5 @@ cut_joined h c i r g own apart j s o x k m =
     by n e p true q = absurd (never n e (eqb-true i n q) p)
     by n e p false q = ap class_of_record (get_other h.records i None n (eqb-false i n q)) ∙ p
 
-let_go_joined : (h : State) (c : ℕ) (x : ℤ) (r : Record) → HasRecord h x r → r.class ≡ c → Joined h → Sane Joined (let_go h c (number_in x))
-let_go_joined h c (pos zero) r q own j = absurd q
-let_go_joined h c (negsuc k) r q own j = absurd q
-let_go_joined h c (pos (suc i)) r q own j = first (in_a_set h.layout.sets 0 h.lists c (suc i)) refl
-  where
-    one : suc i - 1 ≡ i
-    one = omega arith
-
-    second : in_a_set h.layout.sets 0 h.lists c (suc i) ≡ false → (b : Bool) → Sane Joined (if b then Err faults.OwnsMembers else Ok (record h { records = slice_set h.records (suc i - 1) None }))
-    second apart true = tt
-    second apart false = subst (λ k. Joined (record h { records = slice_set h.records k None })) (sym one) (cut_joined h c i r q own apart j)
-
-    first : (b : Bool) → in_a_set h.layout.sets 0 h.lists c (suc i) ≡ b → Sane Joined (if b then Err faults.InASet else (if owns_members h.layout.sets 0 h.lists c (suc i) then Err faults.OwnsMembers else Ok (record h { records = slice_set h.records (suc i - 1) None })))
-    first true apart = tt
-    first false apart = second apart (owns_members h.layout.sets 0 h.lists c (suc i))
-
 pub destroyed_joined : (h : State) (c : ℕ) (x : ℤ) → (kind_of h.layout c ≡ Permanent → ⊥) → Joined h → Sane Joined (destroyed h c x)
-destroyed_joined h c x other j =
-    sane_then Joined (entity_in h c x) (λ r. let_go h c (number_in x)) (entity_known h c x) (λ r q.
-    let e = single_by (kind_of h.layout c) h c x r other q in let_go_joined h c x r e.0 e.1 j)
+destroyed_joined h c x other j = destroyed_keeps Joined h c x other (λ i r e q own apart. cut_joined h c i r q own apart j)
