@@ -1,7 +1,8 @@
 -- A step of code that has shape leads from a state that suits its place to another one, and the machine is not stuck there.
 use Rattle.std.proofs.Common.{◌≡◌, ℕ, zero, suc, ◌+◌, ◌-◌, Bool, true, false, List, [], ◌∷◌, ◌++◌, length, Option, Some, None, Ok, Err, ℤ, refl, sym, ap, ◌∙◌, subst, arith}
-use Rattle.std.specs.Prelude.{slice_get, take, not, is_some, pos, ◌+ℤ◌, Result as OkOr, if◌then◌else◌}
-use Rattle.ss_code_instructions.proofs.Common.{act, after_one_step, AllZip, AnEvent, AreOfModes, ARoutine, assignable_count, assigned_attribute, assigned_variable, AtTime, attribute, begin_walk, Breaks, Called, cell_at, cells_of_kinds, changed_attribute, class_at, ClassLayout, clock, Code, code_of, Coming, coming_with, Core, core_at, deliver, deliver_with, did, Done, enter, entity, EntryPoint, Event, event_begun, field_mode, figure, filed_notice, first_fits, fit, Frame, front, Goes, has_item, has_next, indices, Instruction, Is, is_awaited, is_due, is_ended, is_made, is_permanent, IsFittingStore, IsSet, IsWellTyped, Item, item_before, ItemKind, Later, leave, Line, MachineState, made_all, made_count, made_notice, made_one, Mean, mean, mean_item, Mode, Moved, next_event, next_item, NoStep, not_if, onward, opened, option_map, Over, Placed, print_lines, Program, range_of, read_value, rescheduled, reset, Rest, Sends, ShowsMean, ShowsMeanOf, ShowsValue, Sign, start, step, step_at, Stepped, steps, Store, Stuck, take_event, take_next, take_off, TakenOff, Target, Text, time_at, time_of, To, Underway, unscheduled, unsigned, Value, value_given, values_shown, Walk, walk_at, walk_cells, walk_further, when_due, Whole, with_block, with_input, with_rest, without, yielded}
+use Rattle.std.proofs.lemmas.List.{take-append-drop}
+use Rattle.std.specs.Prelude.{slice_get, take, drop, not, is_some, pos, ◌+ℤ◌, Result as OkOr, if◌then◌else◌}
+use Rattle.ss_code_instructions.proofs.Common.{act, after_one_step, AllZip, AnEvent, AreOfModes, ARoutine, assignable_count, assigned_attribute, assigned_variable, AtTime, attribute, begin_walk, Breaks, Called, cell_at, cells_of_kinds, changed_attribute, class_at, ClassLayout, clock, Code, code_of, Coming, coming_with, Core, core_at, deliver, deliver_with, did, Done, enter, entity, EntryPoint, Event, event_begun, field_mode, figure, filed_notice, first_fits, fit, Frame, Goes, has_item, has_next, indices, Instruction, Is, is_awaited, is_due, is_ended, is_made, is_permanent, IsFittingStore, IsSet, IsWellTyped, Item, item_before, ItemKind, Later, leave, Line, MachineState, made_all, made_count, made_notice, made_one, Mean, mean, mean_item, Mode, Moved, next_event, next_item, NoStep, not_if, onward, opened, option_map, Over, Placed, print_lines, Program, range_of, read_value, rescheduled, reset, Rest, Sends, ShowsMean, ShowsMeanOf, ShowsValue, Sign, start, step, step_at, Stepped, steps, Store, Stuck, take_event, take_next, take_off, TakenOff, Target, Text, time_at, time_of, To, Underway, unscheduled, unsigned, Value, value_given, values_shown, Walk, walk_at, walk_cells, walk_further, when_due, Whole, with_block, with_input, with_rest, without, yielded}
 use Rattle.ss_base.specs.declared.fault.FaultKind.TheVariants.{CreatedTwice}
 use Rattle.ss_base.specs.Layout.{mode_of}
 use Rattle.ss_base.specs.declared.layout.Mode.TheVariants.{Integer, Alpha}
@@ -17,7 +18,7 @@ use Rattle.ss_meaning.proofs.Sets.{set_of, member_fine, known_owner_fine, is_emp
 use Rattle.ss_meaning.proofs.Events.{FieldsAre, fields_are, time_at_fine, made_notice_fine, filed_notice_fine, rescheduled_fine, unscheduled_fine, ComingAs, next_event_there, BegunAs, begun_fine}
 use Rattle.ss_meaning.proofs.Expressions.{calculated_fine, applied_fine, asked_alone, asked_of}
 use Rattle.ss_meaning.proofs.Statements.{empty_fine, held_length, range_of_fine, word_fine, input_fits}
-use Rattle.ss_meaning.proofs.Whole.{both_hold, opened_there, prepended_there}
+use Rattle.ss_meaning.proofs.Whole.{both_hold, opened_there, yielded_there as yielded_all}
 use Rattle.ss_code_instructions.specs.Instructions as i
 use Rattle.ss_code_instructions.specs.Laws.{ShapeStays, StatesSuit, NeverStuck}
 use Rattle.ss_code_instructions.proofs.ShapingPrograms.{has_shape}
@@ -26,26 +27,11 @@ use Rattle.ss_code_instructions.proofs.Valued.{cell_there, owner_ok, asked, Goes
 -- ## Lists of values
 
 -- what a section yields
-front_there : (count : ℕ) (ls : List Value) (ms : List Mode) → AreOfModes ls ms → length (take count ms) ≡ count → There (λ (us : List Value). AreOfModes us (take count ms)) (front count ls)
-front_there zero ls ms q e = refl
-front_there (suc k) [] [] q e = absurd cc
-front_there (suc k) [] (m ∷ ms) q e = absurd cc
-front_there (suc k) (v ∷ ls) [] q e = absurd cc
-front_there (suc k) (v ∷ ls) (m ∷ ms) q e =
-    let here : mode_of v ≡ m = cc in
-    let rest : AreOfModes ls ms = cc in
-    let fewer : length (take k ms) ≡ k = omega (arith, e) in
-    prepended_there v m (take k ms) (front k ls) here (front_there k ls ms rest fewer)
-
 yielded_there : (given others : List Mode) (first count : ℕ) (ls : List Value) → AreOfModes ls (given ++ others) → first ≡ length given → length (take count others) ≡ count → There (λ (us : List Value). AreOfModes us (take count others)) (yielded first count ls)
-yielded_there [] others zero count ls h q e = front_there count ls others h e
-yielded_there [] others (suc k) count ls h q e = absurd cc
-yielded_there (g ∷ given) others zero count ls h q e = absurd cc
-yielded_there (g ∷ given) others (suc k) count [] h q e = absurd cc
-yielded_there (g ∷ given) others (suc k) count (l ∷ ls) h q e =
-    let rest : AreOfModes ls (given ++ others) = cc in
-    let fewer : k ≡ length given = omega (arith, q) in
-    yielded_there given others k count ls rest fewer e
+yielded_there given others first count ls h q e =
+    let parts : AreOfModes ls (given ++ (take count others ++ drop count others)) = h ∙ ap (λ l. given ++ l) (sym (take-append-drop count others)) in
+    subst (λ n. There (λ (us : List Value). AreOfModes us (take count others)) (yielded n count ls)) (sym q)
+    (subst (λ n. There (λ (us : List Value). AreOfModes us (take count others)) (yielded (length given) n ls)) e (yielded_all given (take count others) (drop count others) ls parts))
 
 -- what lies below cells that are taken off
 off_there : (gone rest : List Mode) (count : ℕ) (cells vs : List Value) → AreOfModes cells (gone ++ rest) → length gone ≡ count → There (λ (b : TakenOff). AreOfModes b.below rest) (take_off count cells vs)

@@ -27,7 +27,7 @@ firsts_modes (m ∷ ms) = let here : mode_of (first_value m) ≡ m = first_mode 
     first_mode Integer = refl
     first_mode Alpha = refl
 
-pub prepended_there : (v : Value) (m : Mode) (ms : List Mode) (o : Option (List Value)) → mode_of v ≡ m → There (λ vs. AreOfModes vs ms) o → There (λ vs. AreOfModes vs (m ∷ ms)) (prepended v o)
+prepended_there : (v : Value) (m : Mode) (ms : List Mode) (o : Option (List Value)) → mode_of v ≡ m → There (λ vs. AreOfModes vs ms) o → There (λ vs. AreOfModes vs (m ∷ ms)) (prepended v o)
 prepended_there v m ms (Some vs) q h = let all : AreOfModes (v ∷ vs) (m ∷ ms) = cc in all
 prepended_there v m ms None q h = absurd h
 
@@ -65,7 +65,7 @@ front_there (y ∷ ys) os (l ∷ ls) h =
     let rest : AreOfModes ls (ys ++ os) = cc in
     prepended_there l y ys (front (length ys) ls) here (front_there ys os ls rest)
 
-yielded_there : (gs ys os : List Mode) (ls : List Value) → AreOfModes ls (gs ++ (ys ++ os)) → There (λ us. AreOfModes us ys) (yielded (length gs) (length ys) ls)
+pub yielded_there : (gs ys os : List Mode) (ls : List Value) → AreOfModes ls (gs ++ (ys ++ os)) → There (λ us. AreOfModes us ys) (yielded (length gs) (length ys) ls)
 yielded_there [] ys os ls h = front_there ys os ls h
 yielded_there (g ∷ gs) ys os [] h = absurd cc
 yielded_there (g ∷ gs) ys os (l ∷ ls) h = let rest : AreOfModes ls (gs ++ (ys ++ os)) = cc in yielded_there gs ys os ls rest
