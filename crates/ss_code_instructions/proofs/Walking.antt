@@ -100,17 +100,13 @@ outset_member false h set m x e some = found_member h set x (λ n. head0 (member
 outset_member true h set m x e some = found_member h set x (λ n. last_or 0 (members_of h.lists set n)) (λ n k. (n, last_in_list (members_of h.lists set n) k)) (owner_there h set m) e some
 
 -- what follows a member, and what precedes one
-follower_member : (ms : List Row) (set n : ℕ) (o : Option ℕ) → (follower n (members_by ms set o) ≡ 0 → ⊥) → (p : ℕ) × IsInList (follower n (members_by ms set o)) (members_of ms set p)
-follower_member ms set n None h = absurd (h refl)
-follower_member ms set n (Some p) h = (p, follower_in n (members_of ms set p) h)
-
-precursor_member : (ms : List Row) (set n : ℕ) (o : Option ℕ) → (precursor 0 n (members_by ms set o) ≡ 0 → ⊥) → (p : ℕ) × IsInList (precursor 0 n (members_by ms set o)) (members_of ms set p)
-precursor_member ms set n None h = absurd (h refl)
-precursor_member ms set n (Some p) h = (p, precursor_in n (members_of ms set p) h)
+found_beside : (f : List ℕ → ℕ) (ms : List Row) (set : ℕ) (o : Option ℕ) → f [] ≡ 0 → ((xs : List ℕ) → (f xs ≡ 0 → ⊥) → IsInList (f xs) xs) → (f (members_by ms set o) ≡ 0 → ⊥) → (p : ℕ) × IsInList (f (members_by ms set o)) (members_of ms set p)
+found_beside f ms set None nil lies h = absurd (h nil)
+found_beside f ms set (Some p) nil lies h = (p, lies (members_of ms set p) h)
 
 beside_member : (reverse : Bool) (h : State) (set : ℕ) (y x : ℤ) → beside reverse h set y ≡ Ok x → is_none x ≡ false → IsMember h set x
-beside_member false h set y x e some = found_member h set x (λ n. follower n (companions h.lists set n)) (λ n k. follower_member h.lists set n (owner_of h.lists set n) k) (joiner h set y) e some
-beside_member true h set y x e some = found_member h set x (λ n. precursor 0 n (companions h.lists set n)) (λ n k. precursor_member h.lists set n (owner_of h.lists set n) k) (joiner h set y) e some
+beside_member false h set y x e some = found_member h set x (λ n. follower n (companions h.lists set n)) (λ n k. found_beside (follower n) h.lists set (owner_of h.lists set n) refl (follower_in n) k) (joiner h set y) e some
+beside_member true h set y x e some = found_member h set x (λ n. precursor 0 n (companions h.lists set n)) (λ n k. found_beside (precursor 0 n) h.lists set (owner_of h.lists set n) refl (precursor_in n) k) (joiner h set y) e some
 
 -- what may be a member has one that comes after it, or 0
 known_follows : (reverse : Bool) (set n : ℕ) (t : SetLayout) (x : ℤ) (s : Store) → set_at set s ≡ Some t → joiner s.world.heap set x ≡ Ok n → Follows reverse set s x
