@@ -2,21 +2,20 @@
 use Rattle.std.proofs.Common.{◌≡◌, ℕ, zero, suc, ◌+◌, ◌-◌, Bool, true, false, List, [], ◌∷◌, ◌++◌, length, Option, Some, None, Ok, Err, ℤ, refl, sym, ap, ◌∙◌, subst, arith}
 use Rattle.std.proofs.lemmas.List.{take-append-drop}
 use Rattle.std.specs.Prelude.{slice_get, take, drop, not, is_some, pos, ◌+ℤ◌, Result as OkOr, if◌then◌else◌}
-use Rattle.ss_code_instructions.proofs.Common.{act, after_one_step, AllZip, AnEvent, AreOfModes, ARoutine, assignable_count, assigned_attribute, assigned_variable, AtTime, attribute, begin_walk, Breaks, Called, cell_at, cells_of_kinds, changed_attribute, class_at, ClassLayout, clock, Code, code_of, Coming, coming_with, Core, core_at, deliver, deliver_with, did, Done, enter, entity, EntryPoint, Event, event_begun, field_mode, figure, filed_notice, first_fits, fit, Frame, Goes, has_item, has_next, indices, Instruction, Is, is_awaited, is_due, is_ended, is_made, is_permanent, IsFittingStore, IsSet, IsWellTyped, Item, item_before, ItemKind, Later, leave, Line, MachineState, made_all, made_count, made_notice, made_one, Mean, mean, mean_item, Mode, Moved, next_event, next_item, NoStep, not_if, onward, opened, option_map, Over, Placed, print_lines, Program, range_of, read_value, rescheduled, reset, Rest, Sends, ShowsMean, ShowsMeanOf, ShowsValue, Sign, start, step, step_at, Stepped, steps, Store, Stuck, take_event, take_next, take_off, TakenOff, Target, Text, time_at, time_of, To, Underway, unscheduled, unsigned, Value, value_given, values_shown, Walk, walk_at, walk_cells, walk_further, when_due, Whole, with_block, with_input, with_rest, without, yielded}
+use Rattle.ss_code_instructions.proofs.Common.{act, after_one_step, AllZip, AnEvent, AreOfModes, ARoutine, assignable_count, assigned_attribute, assigned_variable, AtTime, attribute, begin_walk, Breaks, Called, cell_at, cells_of_kinds, changed_attribute, class_at, ClassLayout, clock, Code, code_of, Coming, coming_with, Core, core_at, deliver, deliver_with, did, Done, enter, entity, EntryPoint, Event, event_begun, field_mode, figure, filed_notice, first_fits, fit, Frame, Goes, has_item, has_next, indices, Instruction, Is, is_awaited, is_due, is_ended, is_made, is_permanent, IsFittingStore, IsSet, IsWellTyped, Item, item_before, ItemKind, Later, leave, Line, MachineState, made_all, made_count, made_notice, made_one, Mean, mean, mean_item, Mode, Moved, next_event, next_item, NoStep, not_if, onward, opened, option_map, Over, Placed, print_lines, Program, range_of, read_value, rescheduled, reset, Rest, Sends, ShowsMean, ShowsMeanOf, ShowsValue, Sign, start, step, step_at, Stepped, steps, Store, Stuck, take_event, take_next, take_off, TakenOff, Target, time_at, time_of, To, Underway, unscheduled, unsigned, Value, value_given, values_shown, Walk, walk_at, walk_cells, walk_further, when_due, Whole, with_block, with_input, with_rest, without, yielded}
 use Rattle.ss_base.specs.declared.fault.FaultKind.TheVariants.{CreatedTwice}
 use Rattle.ss_base.specs.Layout.{mode_of}
-use Rattle.ss_base.specs.declared.layout.Mode.TheVariants.{Integer, Alpha}
+use Rattle.ss_base.specs.declared.layout.Mode.TheVariants.{Integer}
 use Rattle.ss_code_instructions.specs.Shape.{AreFoundAt, IsFitForCode, IsSuited, AreGivenModes, AreFitForItems, IsOfKind, IsDeliveringTo, HasEntryShape, IsShaped, AreFitFrames}
 use Rattle.ss_meaning.specs.Sets.{begun, begun_at, filed_in, goes_on, is_empty, is_in, is_none, known_owner, member, of_member, of_set, removed_at, removed_from, coming as coming_in}
 use Rattle.ss_meaning.specs.Values.{applied, calculated, due, empty_lines, Fails, Failure, if_ok, number_of, operator_of, printed, related, turned, TypeError, unless_fault}
-use Rattle.ss_base.specs.declared.words.Relation.{Relation}
 use Rattle.ss_meaning.specs.PendingList.{least_event}
 use Rattle.ss_meaning.proofs.Fine.{Fine, There, Any, fine_then, fine_turned, fine_weaker, any_due, fit_fine, unless_fine}
 use Rattle.ss_meaning.proofs.Kept.{number_fine}
 use Rattle.ss_meaning.proofs.Entities.{permanent_here, entity_fine, attribute_fine, time_of_fine, made_one_fine, made_all_fine, without_fine, variable_fine, attribute_assigned_fine}
 use Rattle.ss_meaning.proofs.Sets.{set_of, member_fine, known_owner_fine, is_empty_fine, is_in_fine, begun_fine as outset_fine, begun_at_fine, coming_fine, goes_on_fine, mean_fine, of_set_fine, of_member_fine, filed_in_fine, removed_from_fine, removed_at_fine, figure_fine, reset_fine}
 use Rattle.ss_meaning.proofs.Events.{FieldsAre, fields_are, time_at_fine, made_notice_fine, filed_notice_fine, rescheduled_fine, unscheduled_fine, ComingAs, next_event_there, BegunAs, begun_fine}
-use Rattle.ss_meaning.proofs.Expressions.{calculated_fine, applied_fine, asked_alone, asked_of}
+use Rattle.ss_meaning.proofs.Expressions.{calculated_fine, applied_fine, asked_alone, asked_of, related_there}
 use Rattle.ss_meaning.proofs.Statements.{empty_fine, held_length, range_of_fine, word_fine, input_fits}
 use Rattle.ss_meaning.proofs.Whole.{both_hold, opened_there, yielded_there as yielded_all}
 use Rattle.ss_code_instructions.specs.Instructions as i
@@ -59,16 +58,6 @@ kinds_many p (ShowsMeanOf j ∷ ks) (m ∷ ms) h = let e : 1 + cells_of_kinds ks
 is_there : {A : Type 0} (o : Option A) → is_some o ≡ true → There Any o
 is_there (Some a) e = tt
 is_there None e = absurd cc
-
-related_there : (relation : Relation) (v w : Value) (m : Mode) → mode_of v ≡ m → mode_of w ≡ m → There Any (related relation v w)
-related_there relation (Whole x) (Whole y) m p q = tt
-related_there relation (Text s) (Text t) m p q = tt
-related_there relation (Whole x) (Text t) m p q =
-    let both : Integer ≡ Alpha = p ∙ sym q in
-    absurd cc
-related_there relation (Text s) (Whole y) m p q =
-    let both : Alpha ≡ Integer = p ∙ sym q in
-    absurd cc
 
 fields_said : (o : Option ClassLayout) (modes : List Mode) → option_map (λ (c : ClassLayout). c.fields) o ≡ Some modes → (cl : ClassLayout) × (o ≡ Some cl)
 fields_said None modes e = absurd cc
@@ -280,7 +269,7 @@ module _ (p : Program) (typed : IsWellTyped p) (code : Code) where
       act_well l (i.Jump skip) c ms g fits q k = goes_to p typed code ls (c.place + 1 + skip) ms c.cells c.frames c.store g fits q k
       act_well l (i.Unless relation left right skip) c ms g fits q k =
           both_well p typed code ls left right g.0 g.0 ms g.1.0 c.store c.cells _ g.1.1 fits q (λ v w below hv hw h.
-          fit_well p typed code Any (related relation v w) _ (related_there relation v w g.0 hv hw) (λ b e. ways_well p typed code ls skip b g.1.0 below c g.1.2 fits h k))
+          fit_well p typed code Any (related relation v w) _ (related_there relation g.0 v w hv hw) (λ b e. ways_well p typed code ls skip b g.1.0 below c g.1.2 fits h k))
       act_well l (i.UnlessEnded negated skip) c ms g fits q k =
           did_well p typed code Any l (due (is_ended c.store.world.input)) _ (any_due (is_ended c.store.world.input)) (λ b e. ways_well p typed code ls skip (not_if negated b) ms c.cells c g fits q k)
       act_well l (i.UnlessEmpty negated set owner skip) c ms g fits q k =
