@@ -1,5 +1,5 @@
 -- The code of a place that takes what an instruction leaves: READ and CREATE.
-use Rattle.std.proofs.Common.{◌≡◌, ℕ, ◌+◌, false, List, [], ◌∷◌, ◌++◌, length, Option, Some, None, Ok, Err, refl, sym, ap, ◌∙◌, subst, arith, length-append, ◌⊎◌, inl, inr}
+use Rattle.std.proofs.Common.{◌≡◌, ℕ, ◌+◌, true, false, List, [], ◌∷◌, ◌++◌, length, Option, Some, None, Ok, Err, refl, sym, ap, ◌∙◌, subst, arith, length-append, ◌⊎◌, inl, inr}
 use Rattle.std.specs.Prelude.{slice_get, Result as OkOr}
 use Rattle.ss_code_instructions.proofs.Common.{above, act, after, assigned_attribute, class_at, Clock, Code, Constant, core_at, CountedClass, created, deliver_with, due, entity, entity_code, Expression, Fails, Failure, Fetch, fetched, Frame, get, Global, height, if_ok, InAttribute, InputTarget, Integer, is_due, is_single, leaf, Line, Local, looked, looked_at, MachineState, made_one, Mode, Moved, next, operand, or_cell, outcome_then, Part, Place, place, reads_code, RunState, settle_with, Site, Store, sure, to_place_code, ToAttribute, ToCount, ToVariable, TypeError, Value, value, value_given, Variable, WentOn, with_new, with_operand_value, with_values, write}
 use Rattle.ss_code_instructions.specs.Instructions.{Instruction, Operand, Placed, Taken, Target as To}
