@@ -18,6 +18,7 @@ use Rattle.ss_code.specs.Sections.{scope_of_section, HasPutSection, HasPutRoutin
 use Rattle.ss_code_generator.proofs.Emitting.{runs_long, adds_none, adds_then, adds_piece, adds_same}
 use Rattle.ss_code_generator.proofs.PrintLines.{prints_then, prints_long}
 use Rattle.ss_code_generator.proofs.Bodies.{has_prints_old}
+use Rattle.ss_code_generator.proofs.Listed.{every_split}
 
 -- ## A section
 
@@ -91,9 +92,8 @@ event_entries_more p at first (x ∷ es) e =
 -- one entry more
 pub begin_more : (room : ℕ) (es : List EntryPoint) (olds : List SectionEntry) (e : EntryPoint) (x : SectionEntry) → AreAllFramed room es olds → HasFrameOf room e x → AreAllFramed room (es ++ e ∷ []) (olds ++ x ∷ [])
 begin_more room [] [] e x h b = (b, tt)
-begin_more room [] (o ∷ os) e x h b = absurd h
-begin_more room (y ∷ es) [] e x h b = absurd h
 begin_more room (y ∷ es) (o ∷ os) e x h b = (h.0, begin_more room es os e x h.1 b)
+begin_more room _ _ e x h b = absurd h
 
 -- ## A section, put after others
 
@@ -130,10 +130,6 @@ around_less f g0 g1 more constants depth program a = record {
 
 adds_long : (f : Final) (a b : Lined) (c : List Placed) → HasAdded f a b c → length b ≡ length a + length c
 adds_long f a b c h = ap length h.added ∙ length-append a h.more ∙ ap (λ n. length a + n) (runs_long f c h.more h.run)
-
-every_split : {A : Type 0} (P : A → Type 0) (xs : List A) (x : A) → Every P (xs ++ x ∷ []) → Every P xs × P x
-every_split P [] x h = (tt, h.0)
-every_split P (y ∷ xs) x h = let k = every_split P xs x h.1 in ((h.0, k.0), k.1)
 
 -- one routine more
 module _ (g0 g1 g2 : Generator) (c0 c1 c2 : Lined) (p0 p1 p2 : List RunningLines) (rs : List Routine) (r : Routine) (entries : List SectionEntry) (entry : SectionEntry) (m : HasPutRoutines g0 g1 c0 c1 p0 p1 rs entries) (n : HasPutSection g1 g2 c1 c2 p1 p2 (routine_entry (length c1) r) r.body entry) where
