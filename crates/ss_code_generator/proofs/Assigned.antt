@@ -1,6 +1,6 @@
 -- What the generator emits where something is assigned.
 use Rattle.std.proofs.Common.{◌≡◌, ℕ, ◌≤◌, Bool, true, false, List, [], ◌∷◌, ◌++◌, Some, None, refl, sym, ap, ◌∙◌, subst, append-nil, if◌then◌else◌}
-use Rattle.ss_code_generator.proofs.Common.{above, Address, after_place, Alpha, assignment, AttributeSpot, code_of, Expression, field_mode, Final, Global, HasPrintModes, height, Integer, is_kept, IsAttribute, IsRunBy, IsSiteOperand, IsVariable, IsWatchedAs, landed_code, landing, Mode, mode_here, moving, next, OfAttribute, Place, place, place_code, Program, Site, storing, to_place_code, ToAttribute, ToCount, ToVariable, TypedScope, Variable, VariableSpot, watch}
+use Rattle.ss_code_generator.proofs.Common.{above, Address, after_place, Alpha, assignment, AttributeSpot, code_of, Expression, field_mode, Final, Global, HasPrintModes, height, Integer, is_kept, IsAttribute, IsRunBy, IsSiteOperand, IsVariable, IsWatchedAs, landed_code, landing, Mode, mode_here, moving, next, OfAttribute, Place, place, place_code, Program, Site, storing, to_place_code, ToVariable, TypedScope, Variable, VariableSpot, watch}
 use Rattle.ss_code_instructions.specs.Instructions.{Operand, Placed, Taken, Target, Into}
 use Rattle.ss_code_instructions.specs.Instructions as i
 use Rattle.ss_code_generator.proofs.Forms as forms
@@ -15,8 +15,7 @@ to_place_parts t (ToVariable x) m source = by (is_kept t x)
     by : (b : Bool) → source t (if b then next t else Into x) ++ (if b then place (above t Integer) (i.Keep (Taken (height t)) x) ∷ [] else []) ≡ (if b then source t (next t) ++ place (above t Integer) (i.Keep (Taken (height t)) x) ∷ [] else source t (Into x))
     by true = refl
     by false = append-nil (source t (Into x))
-to_place_parts t (ToAttribute class field r) m source = refl
-to_place_parts t (ToCount c) m source = refl
+to_place_parts t _ m source = refl
 
 -- ## Variables
 

@@ -5,7 +5,7 @@ use Rattle.ss_code_generator.proofs.Common.{Generator, IsCarriedOut, IsTypedItem
 use Rattle.ss_code_generator.specs.Emitted.{Final, HasAdded, HasEmitted, HasEmittedAround, HasGrown, HasPrintModes, IsAround, IsLocated, HasEmittedAroundBoth, HasPrints}
 use Rattle.ss_code_generator.specs.Printed.{HasEmittedBlock, HasPrinted, line_or_none, statement_site, HasPrintedBy, HasPrintedLines, HasEmittedStatement}
 use Rattle.ss_code_instructions.specs.Translation.{code_of, condition_code, for_code, height, phrases_code, place, Site, site_at_line, no_line, if_code, loop_code, in_loop, loop_cells, find_code, items_code, after_items, statement_code, statement_prints, block_code, block_prints}
-use Rattle.ss_program.specs.Program.{Each, Entity, Guard, Phrase, TheSystem, Condition, Head, Numbers, Members, PrintItem, AValue, AMean, AMeanOf, Statement, Block, Done}
+use Rattle.ss_program.specs.Program.{Guard, Phrase, TheSystem, Condition, Head, Members, PrintItem, AValue, AMean, AMeanOf, Statement, Block, Done}
 use Rattle.ss_program.specs.View.{view_expression, view_item, view_owner, view_place, view_restart, view_target, view_when, view_position, view_statement, block_of}
 use Rattle.ss_program.specs.WellTyped.{IsTypedCondition, IsTypedHead, IsTypedPhrase, IsTypedStatement, TypedScope, IsTypedBlock, CanTakeItem}
 use Rattle.ss_picture.specs.declared.field.Field.{Field}
@@ -168,10 +168,8 @@ module _ (g0 g1 : Generator) (h : ℕ) (inner : Lined) (p0 p1 : List RunningLine
 
 -- the cells of a loop do not go by the line
 loop_line : (t : Site) (l : Line) (head : Head) → loop_cells (site_at_line t l) head ≡ loop_cells t head
-loop_line t l (Numbers x a b c) = refl
-loop_line t l (Each x class) = refl
 loop_line t l (Members x set TheSystem start reverse) = refl
-loop_line t l (Members x set (Entity e) start reverse) = refl
+loop_line t l _ = refl
 
 -- FOR
 pub for_said : (g0 g1 g2 g3 g4 : Generator) (x y inner turn : Lined) (h : ℕ) (above_here : Here) (p0 p1 : List RunningLines) (l : Line) (head : Head) (ps : List Phrase) (a : Block) (cells : ℕ) → cells ≡ loop_width head → above_here.line ≡ l → (h + cells < 2 ^ 64 → above_here.height ≡ h + cells) → HasGrown g0 g1 → above_here.height ≤ g1.deepest → HasEmittedBlock g1 g2 inner above_here.height p0 p1 a → HasEmittedAround g2 g3 no_code turn above_here inner (λ s. Every (IsTypedPhrase s) ps) (λ t b. phrases_code t ps b) → HasEmittedAround g3 g4 x y (record { line = l; height = h }) turn (λ s. IsTypedHead s head) (λ t b. for_code t head b) → HasEmittedStatement g0 g4 x y h p0 p1 (p.For l head ps a)

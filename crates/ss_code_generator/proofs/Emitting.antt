@@ -57,15 +57,13 @@ stands_above f g here higher t u k small s line above scope same high deep =
 
 pub runs_both : (f : Final) (c d : List Placed) (is js : Lined) → AreAllRun f c is → AreAllRun f d js → AreAllRun f (c ++ d) (is ++ js)
 runs_both f [] d [] js h k = k
-runs_both f [] d (i ∷ is) js h k = absurd h
-runs_both f (x ∷ c) d [] js h k = absurd h
 runs_both f (x ∷ c) d (i ∷ is) js h k = (h.0, h.1, runs_both f c d is js h.2 k)
+runs_both f _ d _ js h k = absurd h
 
 pub runs_long : (f : Final) (c : List Placed) (is : Lined) → AreAllRun f c is → length is ≡ length c
 runs_long f [] [] h = refl
-runs_long f [] (i ∷ is) h = absurd h
-runs_long f (x ∷ c) [] h = absurd h
 runs_long f (x ∷ c) (i ∷ is) h = ap suc (runs_long f c is h.2)
+runs_long f _ _ h = absurd h
 
 pub adds_none : (f : Final) (p : Lined) → HasAdded f p p []
 adds_none f p = record { more = []; added = sym (append-nil p); run = tt }

@@ -98,8 +98,7 @@ items_more old mid new p q v here one two xs x n m k wide room line up = record 
 -- what items are goes by the program and the local variables
 kind_by : (s : TypedScope) (p : Program) (locals : List Mode) (x : PrintItem) → s.program ≡ p → s.locals ≡ locals → running_kind s x ≡ running_kind (record { program = p; locals = locals; is_main = false }) x
 kind_by s p locals (AValue e) q l = ap value_kind (mode_by s p locals e q l)
-kind_by s p locals (AMean k) q l = refl
-kind_by s p locals (AMeanOf k e) q l = refl
+kind_by s p locals _ q l = refl
 
 kinds_by : (s : TypedScope) (p : Program) (locals : List Mode) (xs : List PrintItem) → s.program ≡ p → s.locals ≡ locals → map (running_kind s) xs ≡ map (running_kind (record { program = p; locals = locals; is_main = false })) xs
 kinds_by s p locals [] q l = refl
@@ -124,8 +123,7 @@ value_said modes.Alpha = refl
 
 kind_said : (s : TypedScope) (x : PrintItem) → kind_of_item (running_kind s x) ≡ item_kind x
 kind_said s (AValue e) = value_said (expression_mode s e)
-kind_said s (AMean k) = refl
-kind_said s (AMeanOf k e) = refl
+kind_said s _ = refl
 
 kinds_said : (s : TypedScope) (xs : List PrintItem) → map kind_of_item (map (running_kind s) xs) ≡ map item_kind xs
 kinds_said s [] = refl

@@ -174,14 +174,9 @@ attribute_changed old mid new p q v w here higher sign class field of e by s m l
 -- the site where a place was resolved
 pub spot_high : (f : Final) (t : Site) (x : Place) (s : Spot) → IsSpot f t x s → height t ≤ f.depth → (height (after_place t x) ≡ height t + spot_cells s) × (height (after_place t x) ≤ f.depth)
 spot_high f t (ToVariable x) (spots.Variable s) h deep = (omega arith, deep)
-spot_high f t (ToVariable x) (spots.Attribute s) h deep = absurd h
-spot_high f t (ToVariable x) (spots.Count class s) h deep = absurd h
-spot_high f t (ToAttribute class field e) (spots.Variable s) h deep = absurd h
 spot_high f t (ToAttribute class field e) (spots.Attribute s) h deep = (h.entity.high, h.entity.deep)
-spot_high f t (ToAttribute class field e) (spots.Count k s) h deep = absurd h
-spot_high f t (ToCount c) (spots.Variable s) h deep = absurd h
-spot_high f t (ToCount c) (spots.Attribute s) h deep = absurd h
 spot_high f t (ToCount c) (spots.Count class s) h deep = (omega arith, deep)
+spot_high f t _ _ h deep = absurd h
 
 pub spot_stands : (f : Final) (g : Generator) (here higher : Here) (t : Site) (x : Place) (s : Spot) → IsAround f g → IsLocated f g here t → IsSpot f t x s → higher.line ≡ here.line → (here.height + spot_cells s < 2 ^ 64 → higher.height ≡ here.height + spot_cells s) → IsLocated f g higher (after_place t x)
 spot_stands f g here higher t x s around located is line up =
@@ -190,9 +185,8 @@ spot_stands f g here higher t x s around located is line up =
 
 -- what a place holds that takes a mode
 pub holds_mode : (f : Final) (g : Generator) (here : Here) (t : Site) (x : Place) (m : Mode) → IsAround f g → IsLocated f g here t → CanTakeMode t.scope x m → HasHeldMode t.scope x m
-holds_mode f g here t (ToVariable x) m around located takes = takes.0
-holds_mode f g here t (ToAttribute class field e) m around located takes = takes.0
 holds_mode f g here t (ToCount c) m around located takes = count_integer f.program around.typed t.scope located.program c takes.1 ∙ ap Some (sym takes.0)
+holds_mode f g here t _ m around located takes = takes.0
 
 abbrev pub MakesSpot : (old new : Generator) → (before after : Lined) → Here → (Site → List Placed) → Place → Spot → Type 0
 MakesSpot old new before after here c x s =
@@ -226,13 +220,11 @@ given_cell t x = above t (place_mode t.scope x)
 
 give_parts : (t : Site) (x : Place) → spot_code (given_cell t x) x ++ assigned_code (given_cell t x) (after_place (given_cell t x) x) x (Taken (height t)) ≡ give_code t x
 give_parts t (ToVariable x) = refl
-give_parts t (ToAttribute class field e) = refl
-give_parts t (ToCount c) = refl
+give_parts t _ = refl
 
 place_mode_is : (t : Site) (x : Place) (m : Mode) → CanTakeMode t.scope x m → place_mode t.scope x ≡ m
-place_mode_is t (ToVariable x) m h = ap or_integer h.0
-place_mode_is t (ToAttribute class field e) m h = ap or_integer h.0
 place_mode_is t (ToCount c) m h = sym h.0
+place_mode_is t _ m h = ap or_integer h.0
 
 given_mode : (f : Final) (t : Site) (x : Place) → mode_here (code_of f.program) f.constants (place (after_place (given_cell t x) x) Leave) (Taken (height t)) ≡ Some (place_mode t.scope x)
 given_mode f t (ToVariable x) = on_top (height t) (place_mode t.scope (ToVariable x)) t.cells refl

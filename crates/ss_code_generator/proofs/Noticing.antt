@@ -106,8 +106,7 @@ named_in_variable : (g : Generator) (p q : Lined) (here : Here) (from : Address)
 named_in_variable g p q here from s m f t u (ToVariable x) v same at room holds around located =
     let it : Taking = record { resolved = t; place = ToVariable x; mode = Integer } in
     m.adds f u it around located (v, same, at, room, holds)
-named_in_variable g p q here from s m f t u (ToAttribute class field e) v same at room holds around located = absurd v
-named_in_variable g p q here from s m f t u (ToCount c) v same at room holds around located = absurd v
+named_in_variable g p q here from s m f t u _ v same at room holds around located = absurd v
 
 pub variable_named : (g : Generator) (p q : Lined) (here : Here) (from : Address) (s : VariableSpot) → HasAssignedLanded g p q here from (λ f t x. IsSpot f t x (spots.Variable s)) → HasNamed g p q here from (λ f t x. IsSpot f t x (spots.Variable s))
 variable_named g p q here from s m = record {
@@ -117,14 +116,13 @@ variable_named g p q here from s m = record {
 }
 
 named_in_attribute : (g : Generator) (p q : Lined) (here : Here) (from : Address) (s : AttributeSpot) → q ≡ p ++ on_line here.line (storing s.mode s.class s.field s.entity from s.is_watched) ∷ [] → (f : Final) (t u : Site) (x : Place) → IsSpot f t x (spots.Attribute s) → t.scope ≡ u.scope → IsSiteTarget f u (landing u x) from → HasTargetRoom f (landing u x) → HasHeldMode u.scope x Integer → IsAround f g → IsLocated f g here u → HasAdded f p q (named_code t u x)
-named_in_attribute g p q here from s is f t u (ToVariable x) v same at room holds around located = absurd v
 named_in_attribute g p q here from s is f t u (ToAttribute class field e) v same at room holds around located =
     let w : Site = above u Integer in
     let entity : IsSiteOperand f w (stay (operand t e)) s.entity = stays_at f w (operand t e) s.entity (operand_at f t w (operand t e) s.entity (sym same) v.entity.at) in
     let low : height u < f.depth = room in
     let deep : height w ≤ f.depth = omega (arith, low) in
     stored f p q here.line from s is g around t w class field e (stay (operand t e)) (Stays (height u)) Integer v same entity at holds located.line located.program deep
-named_in_attribute g p q here from s is f t u (ToCount c) v same at room holds around located = absurd v
+named_in_attribute g p q here from s is f t u _ v same at room holds around located = absurd v
 
 pub attribute_named : (g : Generator) (p q : Lined) (here : Here) (from : Address) (s : AttributeSpot) → q ≡ p ++ on_line here.line (storing s.mode s.class s.field s.entity from s.is_watched) ∷ [] → HasNamed g p q here from (λ f t x. IsSpot f t x (spots.Attribute s))
 attribute_named g p q here from s is = record {
@@ -134,8 +132,6 @@ attribute_named g p q here from s is = record {
 }
 
 named_in_count : (g : Generator) (p q : Lined) (here higher : Here) (from : Address) (class : ℕ) (s : VariableSpot) → higher.line ≡ here.line → (here.height + 1 < 2 ^ 64 → higher.height ≡ here.height + 1) → HasAssigned g p q higher from (λ f t x. IsSpot f t x (spots.Count class s)) → (f : Final) (t u : Site) (x : Place) → IsSpot f t x (spots.Count class s) → t.scope ≡ u.scope → IsSiteTarget f u (landing u x) from → HasTargetRoom f (landing u x) → HasHeldMode u.scope x Integer → IsAround f g → IsLocated f g here u → HasAdded f p q (named_code t u x)
-named_in_count g p q here higher from class s line up m f t u (ToVariable x) v same at room holds around located = absurd v
-named_in_count g p q here higher from class s line up m f t u (ToAttribute k field e) v same at room holds around located = absurd v
 named_in_count g p q here higher from class s line up m f t u (ToCount c) v same at room holds around located =
     let w : Site = above u Integer in
     let low : height u < f.depth = room in
@@ -143,6 +139,7 @@ named_in_count g p q here higher from class s line up m f t u (ToCount c) v same
     let on = stands_above f g here higher u w 1 around.small located line up refl refl high (omega (arith, high, low)) in
     let it : Assignment = record { resolved = t; place = ToCount c; from = Stays (height u); mode = Integer } in
     m.adds f w it around on (v, same, at, holds, on_top (height u) Integer u.cells refl)
+named_in_count g p q here higher from class s line up m f t u _ v same at room holds around located = absurd v
 
 pub count_named : (g : Generator) (p q : Lined) (here higher : Here) (from : Address) (class : ℕ) (s : VariableSpot) → higher.line ≡ here.line → (here.height + 1 < 2 ^ 64 → higher.height ≡ here.height + 1) → HasAssigned g p q higher from (λ f t x. IsSpot f t x (spots.Count class s)) → HasNamed g p q here from (λ f t x. IsSpot f t x (spots.Count class s))
 count_named g p q here higher from class s line up m = record {
@@ -166,8 +163,7 @@ notice_site u (ToCount c) = above u Integer
 
 notice_line : (u : Site) (x : Place) → (notice_site u x).line ≡ u.line
 notice_line u (ToVariable x) = refl
-notice_line u (ToAttribute class field e) = refl
-notice_line u (ToCount c) = refl
+notice_line u _ = refl
 
 -- the code of a notice in parts, where its place was resolved at t1 and its time lies above that
 notice_parts : (f : Final) (t t1 u : Site) (class : ℕ) (x : Place) (s : Spot) (make : Target → Placed) → t1 ≡ after_place t x → u ≡ above (after_place t x) Integer → IsSpot f t x s → (make (landing u x) ∷ []) ++ (named_code t u x ++ (place (notice_site u x) (i.FileNotice class (notice_from u x) (Taken (height t1))) ∷ forget t1 (spot_cells s))) ≡ notice_code t u class x make
@@ -177,36 +173,26 @@ notice_parts f t t1 u class (ToVariable x) (spots.Variable s) make is_t1 is_u h 
     by : (b : Bool) → (make (if b then next u else i.Into x) ∷ []) ++ ((if b then place (above u Integer) (i.Keep (Taken (height u)) x) ∷ [] else []) ++ (place u (i.FileNotice class (Held x) (Taken (height t))) ∷ [])) ≡ (if b then (make (next u) ∷ []) ++ (place (above u Integer) (i.Keep (Taken (height u)) x) ∷ []) else make (i.Into x) ∷ []) ++ place u (i.FileNotice class (Held x) (Taken (height t))) ∷ []
     by true = refl
     by false = refl
-notice_parts f t t1 u class (ToVariable x) (spots.Attribute s) make is_t1 is_u h = absurd h
-notice_parts f t t1 u class (ToVariable x) (spots.Count k s) make is_t1 is_u h = absurd h
-notice_parts f t t1 u class (ToAttribute c field e) (spots.Variable s) make is_t1 is_u h = absurd h
 notice_parts f t t1 u class (ToAttribute c field e) (spots.Attribute s) make is_t1 is_u h =
     let v : Site = above u Integer in
     let cells : s.cells ≡ height (after t e) - height t = omega (arith, h.entity.high) in
     subst (λ (t1 : Site). make (next u) ∷ (place v (i.SetAttribute c field (stay (operand t e)) (Stays (height u))) ∷ (place v (i.FileNotice class (Taken (height u)) (Taken (height t1))) ∷ forget t1 s.cells)) ≡ notice_code t u class (ToAttribute c field e) make) (sym is_t1)
     (ap (λ (k : ℕ). make (next u) ∷ (place v (i.SetAttribute c field (stay (operand t e)) (Stays (height u))) ∷ (place v (i.FileNotice class (Taken (height u)) (Taken (height (after t e)))) ∷ forget (after t e) k))) cells)
-notice_parts f t t1 u class (ToAttribute c field e) (spots.Count k s) make is_t1 is_u h = absurd h
-notice_parts f t t1 u class (ToCount c) (spots.Variable s) make is_t1 is_u h = absurd h
-notice_parts f t t1 u class (ToCount c) (spots.Attribute s) make is_t1 is_u h = absurd h
 notice_parts f t t1 u class (ToCount c) (spots.Count k s) make is_t1 is_u h =
     let v : Site = above u Integer in
     subst (λ (t1 : Site). make (next u) ∷ (count_code v c (Stays (height u)) ++ (place v (i.FileNotice class (Taken (height u)) (Taken (height t1))) ∷ [])) ≡ notice_code t u class (ToCount c) make) (sym is_t1) refl
+notice_parts f t t1 u class _ _ make is_t1 is_u h = absurd h
 
 -- a notice is filed
 notice_files : (f : Final) (t u : Site) (x : Place) (s : Spot) (to time : Address) (class h : ℕ) → IsSpot f t x s → IsSiteTarget f u (landing u x) to → HasTargetRoom f (landing u x) → IsInFrame (length u.scope.locals + h) time → height u ≤ f.depth → IsRunBy f (place (notice_site u x) (i.FileNotice class (notice_from u x) (Taken h))) (r.FileNotice class (named_at s to) time)
 notice_files f t u (ToVariable x) (spots.Variable s) to time class h v at room there deep = record { carries = (Held x, v.at, (Taken h, there, refl)); deep = deep; shown = tt }
-notice_files f t u (ToVariable x) (spots.Attribute s) to time class h v at room there deep = absurd v
-notice_files f t u (ToVariable x) (spots.Count k s) to time class h v at room there deep = absurd v
-notice_files f t u (ToAttribute c field e) (spots.Variable s) to time class h v at room there deep = absurd v
 notice_files f t u (ToAttribute c field e) (spots.Attribute s) to time class h v at room there deep =
     let low : height u < f.depth = room in
     record { carries = (Taken (height u), at, (Taken h, there, refl)); deep = omega (arith, low); shown = tt }
-notice_files f t u (ToAttribute c field e) (spots.Count k s) to time class h v at room there deep = absurd v
-notice_files f t u (ToCount c) (spots.Variable s) to time class h v at room there deep = absurd v
-notice_files f t u (ToCount c) (spots.Attribute s) to time class h v at room there deep = absurd v
 notice_files f t u (ToCount c) (spots.Count k s) to time class h v at room there deep =
     let low : height u < f.depth = room in
     record { carries = (Taken (height u), at, (Taken h, there, refl)); deep = omega (arith, low); shown = tt }
+notice_files f t u _ _ to time class h v at room there deep = absurd v
 
 pub schedule_new_made : (old g1 g2 g3 new : Generator) (p q v w z y end : Lined) (here one higher : Here) (class : ℕ) (x : Place) (given : List Expression) (when : When) (s : Spot) (time to : Address) (cell : ℕ) (noted : Bool) → MakesSpot old g1 p q here (λ t. place_code t x) x s → one.line ≡ here.line → (here.height + spot_cells s < 2 ^ 64 → one.height ≡ here.height + spot_cells s) → HasEmitted g1 g2 q v one (λ k. Every (λ e. IsTyped e k) given × IsTypedWhen k when) (λ t. values_code t given ++ when_code (after_values t given) when) → (g2.deepest < 2 ^ 64 → one.height + length given < g2.deepest) → HasGrown g2 g3 → IsInFrame (length g3.locals.items + one.height) time → higher.line ≡ one.line → (one.height + 1 < 2 ^ 64 → higher.height ≡ one.height + 1) → HasGrown g3 new → Lands new higher s to → w ≡ v ++ on_line here.line (r.MakeNotice class cell (length given) to noted) ∷ [] → cell ≡ length new.locals.items + one.height → noted ≡ any_watched new.program.now.statistics.items class (length given) → HasNamed new w z higher to (λ f t k. IsSpot f t k s) → y ≡ z ++ on_line here.line (r.FileNotice class (named_at s to) time) ∷ [] → HasEmitted new new y end one (λ k. Unit {0}) (λ u. forget u (spot_cells s)) → HasEmitted old new p end here (λ k. IsTypedStatement k (ScheduleNew here.line class x given when)) (λ t. schedule_new_code t class x given when)
 schedule_new_made old g1 g2 g3 new p q v w z y end here one higher class x given when s time to cell noted l line up n room gc timed line_2 up_2 gr land made is_cell is_noted names filed k = record {

@@ -1,7 +1,7 @@
 -- Operands, and instructions that read them.
 use Rattle.std.proofs.Common.{◌≡◌, suc, ◌+◌, ◌<◌, ◌^◌, List, [], ◌∷◌, ◌++◌, length, Option, Some, None, Result, Ok, Err, refl, sym, ap, ◌∙◌, subst, arith}
 use Rattle.std.specs.Prelude.{IfOk}
-use Rattle.ss_code_generator.proofs.Common.{Address, Constant, Expression, Final, Generator, HasBorne, HasEmittedTo, HasGrown, HasReadBy, HasReadOperand, Held, Instruction, IsAround, IsInFrame, IsLocated, IsRead, IsRunBy, IsSiteOperand, IsSiteTarget, IsTyped, Lined, Mode, on_line, Operand, Stays, Taken, TypedScope}
+use Rattle.ss_code_generator.proofs.Common.{Address, Expression, Final, Generator, HasBorne, HasEmittedTo, HasGrown, HasReadBy, HasReadOperand, Instruction, IsAround, IsInFrame, IsLocated, IsRead, IsRunBy, IsSiteOperand, IsSiteTarget, IsTyped, Lined, Mode, on_line, Operand, Stays, Taken, TypedScope}
 use Rattle.ss_code_instructions.specs.Translation.{after, expression_code, expression_mode, height, next, operand, operand_code, place, Site, stay, with_operand, leaf, or_cell, or_in_cell, unless_leaf}
 use Rattle.ss_code_instructions.specs.declared.instruction.Instruction.{Instruction as Running}
 use Rattle.ss_code_generator.specs.declared.expressions.Operand.{Operand as Read}
@@ -19,17 +19,14 @@ cell_at_site f g here t a s h =
 
 -- an operand has the same address at all sites of a section
 pub operand_at : (f : Final) (t u : Site) (y : Operand) (a : Address) → u.scope ≡ t.scope → IsSiteOperand f t y a → IsSiteOperand f u y a
-operand_at f t u (Constant v) a e h = h
-operand_at f t u (Held x) a e h = h
 operand_at f t u (Taken k) a e h = (h.0, h.1 ∙ sym (ap (λ s. length s.locals + k) e))
 operand_at f t u (Stays k) a e h = (h.0, h.1 ∙ sym (ap (λ s. length s.locals + k) e))
+operand_at f t u _ a e h = h
 
 -- an operand that stays lies where it was
 pub stays_at : (f : Final) (t : Site) (y : Operand) (a : Address) → IsSiteOperand f t y a → IsSiteOperand f t (stay y) a
-stays_at f t (Constant v) a h = h
-stays_at f t (Held x) a h = h
 stays_at f t (Taken k) a h = h
-stays_at f t (Stays k) a h = h
+stays_at f t _ a h = h
 
 -- ## Operands
 

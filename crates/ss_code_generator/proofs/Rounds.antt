@@ -4,7 +4,7 @@ use Rattle.std.specs.Prelude.{IfSome}
 use Rattle.std.specs.List.{AllByRecursion as Every}
 use Rattle.ss_code_generator.proofs.Common.{Address, AreNumbers, Bearer, expression_of, Final, Generator, HasAdded, HasBorne, HasEmitted, HasEmittedAround, HasEmittedAroundBoth, HasGrown, HasMode, Integer, IsAround, IsInFrame, IsInteger, IsLocated, IsRunBy, IsSiteBearer, IsTyped, IsTypedCondition, IsTypedHead, IsTypedPhrase, IsVariable, Line, Lined, MemberLoop, no_code, on_line, Placed, TypedScope, Variable, VariableSpot}
 use Rattle.ss_code_instructions.specs.Translation.{above, expression_code, for_code, guards_code, height, next, phrases_code, place, Site, forget, forget_to, loop_code, take_code, turns_code, step_code, range_code, number_loop, walk_loop, owner_code, owner_cell, owner_kept, start_code, begin_code, in_loop, find_code}
-use Rattle.ss_program.specs.Program.{Each, Entity, Expression, Guard, Phrase, SetOwner, TheSystem, Start, AtEnd, From, After, Head, Numbers, Members}
+use Rattle.ss_program.specs.Program.{Entity, Expression, Guard, Phrase, SetOwner, TheSystem, Start, AtEnd, From, After, Head, Numbers, Members}
 use Rattle.ss_code_instructions.specs.declared.instruction.Instruction.{Instruction as Running}
 use Rattle.ss_code_instructions.specs.declared.instruction.Instruction.TheVariants as r
 use Rattle.ss_code_instructions.specs.Instructions as i
@@ -295,16 +295,12 @@ members_walked g0 g1 g2 g3 p q q1 q2 q3 q4 here below_here above_here w kept tur
 
 -- how many cells it keeps
 pub loop_high : (t : Site) (head : Head) → height (in_loop t head) ≡ height t + loop_width head
-loop_high t (Numbers x a b c) = omega arith
-loop_high t (Each x class) = omega arith
 loop_high t (Members x set TheSystem start reverse) = omega arith
-loop_high t (Members x set (Entity e) start reverse) = omega arith
+loop_high t _ = omega arith
 
 few_kept : (head : Head) → loop_width head ≤ 3
-few_kept (Numbers x a b c) = omega arith
-few_kept (Each x class) = omega arith
 few_kept (Members x set TheSystem start reverse) = omega arith
-few_kept (Members x set (Entity e) start reverse) = omega arith
+few_kept _ = omega arith
 
 -- the cells that it keeps are there
 pub loop_stands : (f : Final) (g0 g1 : Generator) (here above_here : Here) (t : Site) (head : Head) (cells : ℕ) → cells ≡ loop_width head → above_here.line ≡ here.line → (here.height + cells < 2 ^ 64 → above_here.height ≡ here.height + cells) → above_here.height ≤ g0.deepest → IsAround f g0 → IsAround f g1 → IsLocated f g1 here t → IsLocated f g1 above_here (in_loop t head)

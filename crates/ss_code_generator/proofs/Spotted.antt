@@ -78,20 +78,12 @@ attribute_spotted old new p q here c class field e s m = record {
 -- ## What an operand is given to
 
 module _ (g : Generator) (p q : Lined) (here : Here) (from : Address) where
-  pub gives_for : (IsIt Other : Final → Site → Place → Type 0) → ((f : Final) (t : Site) (x : Place) → Other f t x → IsIt f t x) → HasAssigned g p q here from IsIt → HasAssigned g p q here from Other
-  gives_for IsIt Other so m = record {
-    grows = m.grows;
-    adds = λ f u x around located fits. m.adds f u x around located (so f x.resolved x.place fits.0, fits.1, fits.2, fits.3, fits.4);
-    more = λ f u x around located fits. tt;
-  }
-
-  -- and another one
+  -- a variable that no statistic watches
   moved_at_place : (s : VariableSpot) → s.watched ≡ None → q ≡ p ++ on_line here.line (moving s.mode from s.address) ∷ [] → (f : Final) (t u : Site) (y : Operand) (x : Place) (m : Mode) → IsPlaceOf t x s → t.scope ≡ u.scope → IsSiteOperand f u y from → HasHeldMode u.scope x m → mode_here (code_of f.program) f.constants (place u Leave) y ≡ Some m → IsLocated f g here u → HasAdded f p q (assigned_code t u x y)
   moved_at_place s watched is f t u y (ToVariable x) m v same at holds mode located =
       let same_mode : m ≡ s.mode = sym (v.mode ∙ ap (λ (k : TypedScope). or_integer (mode_at k x)) same ∙ ap or_integer holds) in
       adds_one f p q here.line (place u (assignment u x y)) (moving s.mode from s.address) is located.line (move_runs f t u x y s from v watched same at (mode ∙ ap Some same_mode) located.deep)
-  moved_at_place s watched is f t u y (ToAttribute class field e) m v same at holds mode located = absurd v
-  moved_at_place s watched is f t u y (ToCount c) m v same at holds mode located = absurd v
+  moved_at_place s watched is f t u y _ m v same at holds mode located = absurd v
 
   pub moved_given : (s : VariableSpot) → s.watched ≡ None → q ≡ p ++ on_line here.line (moving s.mode from s.address) ∷ [] → HasAssigned g p q here from (λ f t x. IsPlaceOf t x s)
   moved_given s watched is = record {
@@ -114,10 +106,9 @@ stored f p q l from s is g around t u class field e z y m v same entity at holds
 
 module _ (g : Generator) (p q : Lined) (here : Here) (from : Address) where
   stored_at_place : (s : AttributeSpot) → q ≡ p ++ on_line here.line (storing s.mode s.class s.field s.entity from s.is_watched) ∷ [] → (f : Final) (t u : Site) (y : Operand) (x : Place) (m : Mode) → IsSpot f t x (spots.Attribute s) → t.scope ≡ u.scope → IsSiteOperand f u y from → HasHeldMode u.scope x m → IsAround f g → IsLocated f g here u → HasAdded f p q (assigned_code t u x y)
-  stored_at_place s is f t u y (ToVariable x) m v same at holds around located = absurd v
   stored_at_place s is f t u y (ToAttribute class field e) m v same at holds around located =
       stored f p q here.line from s is g around t u class field e (operand t e) y m v same (operand_at f t u (operand t e) s.entity (sym same) v.entity.at) at holds located.line located.program located.deep
-  stored_at_place s is f t u y (ToCount c) m v same at holds around located = absurd v
+  stored_at_place s is f t u y _ m v same at holds around located = absurd v
 
   pub attribute_given : (s : AttributeSpot) → q ≡ p ++ on_line here.line (storing s.mode s.class s.field s.entity from s.is_watched) ∷ [] → HasAssigned g p q here from (λ f t x. IsSpot f t x (spots.Attribute s))
   attribute_given s is = record {
@@ -129,14 +120,13 @@ module _ (g : Generator) (p q : Lined) (here : Here) (from : Address) where
 -- N. of a class: it is looked whether there are entities yet
 module _ (g : Generator) (p q v : Lined) (here : Here) (from : Address) (class : ℕ) (s : VariableSpot) (is : q ≡ p ++ on_line here.line (r.LookCount class) ∷ []) (m : HasAssigned g q v here from (λ f t x. IsPlaceOf t x s)) where
   counted_at_place : (f : Final) (t u : Site) (y : Operand) (x : Place) (k : Mode) → IsSpot f t x (spots.Count class s) → t.scope ≡ u.scope → IsSiteOperand f u y from → HasHeldMode u.scope x k → mode_here (code_of f.program) f.constants (place u Leave) y ≡ Some k → IsAround f g → IsLocated f g here u → HasAdded f p v (assigned_code t u x y)
-  counted_at_place f t u y (ToVariable x) k h same at holds mode around located = absurd h
-  counted_at_place f t u y (ToAttribute c field e) k h same at holds mode around located = absurd h
   counted_at_place f t u y (ToCount c) k h same at holds mode around located =
       let it : Assignment = record { resolved = t; place = ToVariable (Global c.variable); from = y; mode = k } in
       let look : Instruction = i.LookCount c.class in
       adds_then f p q v (place u look ∷ []) (place u (assignment u (Global c.variable) y) ∷ [])
       (adds_one f p q here.line (place u look) (r.LookCount class) is located.line (record { carries = ap i.LookCount (sym h.0); deep = located.deep; shown = tt }))
       (m.adds f u it around located (h.1, same, at, holds, mode))
+  counted_at_place f t u y _ k h same at holds mode around located = absurd h
 
   pub count_given : HasAssigned g p v here from (λ f t x. IsSpot f t x (spots.Count class s))
   count_given = record {
@@ -178,16 +168,11 @@ taken_at_place g p q here higher from (spots.Variable s) line up m cell f t u (T
     let code : place z (assignment z x (Taken (height u))) ∷ [] ≡ landed_code t u (ToVariable x) k =
     ap (λ (a : Instruction). place z a ∷ []) (assignment_kept z x (Taken (height u)) kept) ∙ sym (ap (λ (b : Bool). if b then place z (i.Keep (Taken (height u)) x) ∷ [] else []) kept) in
     adds_same f p q (place z (assignment z x (Taken (height u))) ∷ []) (landed_code t u (ToVariable x) k) code h
-taken_at_place g p q here higher from (spots.Variable s) line up m cell f t u (ToAttribute class field e) k v same at room holds around located = absurd v
-taken_at_place g p q here higher from (spots.Variable s) line up m cell f t u (ToCount c) k v same at room holds around located = absurd v
-taken_at_place g p q here higher from (spots.Attribute s) line up m cell f t u (ToVariable x) k v same at room holds around located = absurd v
 taken_at_place g p q here higher from (spots.Attribute s) line up m cell f t u (ToAttribute class field e) k v same at room holds around located =
     given_higher g p q here higher from (spots.Attribute s) line up m f t u (ToAttribute class field e) k v same at room holds around located
-taken_at_place g p q here higher from (spots.Attribute s) line up m cell f t u (ToCount c) k v same at room holds around located = absurd v
-taken_at_place g p q here higher from (spots.Count class s) line up m cell f t u (ToVariable x) k v same at room holds around located = absurd v
-taken_at_place g p q here higher from (spots.Count class s) line up m cell f t u (ToAttribute c field e) k v same at room holds around located = absurd v
 taken_at_place g p q here higher from (spots.Count class s) line up m cell f t u (ToCount c) k v same at room holds around located =
     given_higher g p q here higher from (spots.Count class s) line up m f t u (ToCount c) k v same at room holds around located
+taken_at_place g p q here higher from _ line up m cell f t u _ k v same at room holds around located = absurd v
 
 pub taken : (g : Generator) (p q : Lined) (here higher : Here) (from : Address) (s : Spot) → higher.line ≡ here.line → (here.height + 1 < 2 ^ 64 → higher.height ≡ here.height + 1) → HasAssigned g p q higher from (λ f t x. IsSpot f t x s) → ComesToCell s → HasAssignedLanded g p q here from (λ f t x. IsSpot f t x s)
 taken g p q here higher from s line up m cell = record {
