@@ -1,6 +1,6 @@
 -- Code of a list of things, with one of them more.
-use Rattle.std.proofs.Common.{◌≡◌, ℕ, ◌+◌, ◌<◌, List, [], ◌∷◌, ◌++◌, length, map, take, drop, get_or, refl, ap, sym, ◌∙◌, arith, append_assoc, append-nil}
-use Rattle.ss_code_generator.proofs.Common.{after_bearer, bearer, bearer_code, CountedClass, creates_code, drop_more, Generator, HasEmitted, InputTarget, Lined, map-append, on_line, place, reads_code, Restart, restarts_code, Site, take_more, to_place_code, TypedScope}
+use Rattle.std.proofs.Common.{◌≡◌, ℕ, ◌+◌, ◌<◌, List, [], ◌∷◌, ◌++◌, length, drop, get_or, refl, ap, sym, ◌∙◌, arith, append_assoc, append-nil}
+use Rattle.ss_code_generator.proofs.Common.{after_bearer, bearer, bearer_code, CountedClass, creates_code, drop_more, Generator, HasEmitted, InputTarget, Lined, on_line, place, reads_code, Restart, restarts_code, Site, to_place_code, TypedScope}
 use Rattle.std.specs.List.{AllByRecursion as Every}
 use Rattle.ss_code_instructions.specs.Instructions.{Placed, Read, CreateAll, Reset}
 use Rattle.ss_code_instructions.specs.declared.instruction.Instruction.TheVariants.{CreateAll as CreatesAll}
@@ -54,12 +54,6 @@ creates_step g p q v here xs x m is = record {
 }
 
 -- ## The next item of a loop
-
-pub next_taken : {A : Type 0} (xs : List A) (i : ℕ) (x : A) → i < length xs → x ≡ get_or xs i x → take (i + 1) xs ≡ take i xs ++ x ∷ []
-next_taken {A} xs i x lt is = take_more xs i x lt ∙ ap (λ (y : A). take i xs ++ y ∷ []) (sym is)
-
-pub next_mapped : {A B : Type 0} (f : A → B) (xs : List A) (i : ℕ) (x : A) → i < length xs → x ≡ get_or xs i x → map f (take (i + 1) xs) ≡ map f (take i xs) ++ f x ∷ []
-next_mapped f xs i x lt is = ap (map f) (next_taken xs i x lt is) ∙ map-append f (take i xs) (x ∷ [])
 
 pub next_dropped : {A : Type 0} (xs : List A) (i : ℕ) (x : A) → i < length xs → x ≡ get_or xs i x → drop i xs ≡ x ∷ drop (i + 1) xs
 next_dropped {A} xs i x lt is = drop_more xs i x lt ∙ ap (λ (y : A). y ∷ drop (i + 1) xs) (sym is)

@@ -2,7 +2,7 @@
 use Rattle.std.proofs.Common.{◌≡◌, ◌≢◌, ℕ, zero, suc, ◌+◌, ◌-◌, ◌<◌, ◌≤◌, ◌^◌, Bool, true, false, List, [], ◌∷◌, ◌++◌, length, take, Option, Some, None, refl, sym, ap, ◌∙◌, subst, arith, append_assoc, append-nil, if◌then◌else◌}
 use Rattle.ss_code_generator.proofs.Common.{Address, AreNumbers, Assignment, AttributeSpot, eq-eqb, eqb-true, Final, Generator, HasAdded, HasAssigned, HasAssignedLanded, HasBorne, HasEmitted, HasGrown, HasHeldMode, HasReadOperand, HasTargetRoom, Held, Instruction, Integer, IsAround, IsInFrame, IsLocated, IsRead, IsRunBy, IsSiteOperand, IsSiteTarget, IsSpot, IsTyped, landing, Lined, Mode, OfAttribute, on_line, Operand, Placed, Spot, spot_cells, Statistic, Stays, storing, Taken, Taking, Target, true≢false, values_high, VariableSpot, watch}
 use Rattle.std.specs.Prelude.{◌==◌}
-use Rattle.std.specs.List.{AllZip, AllByRecursion as Every}
+use Rattle.std.specs.List.{AllByRecursion as Every}
 use Rattle.ss_code_instructions.specs.Translation.{above, after, after_bearer, after_place, after_values, bearer, bearer_code, entity_code, height, is_kept, next, operand, operand_code, place, place_code, restarts_code, Site, stay, values_code, with_operand, forget, when_code, count_code, notice_code, schedule_new_code, schedule_code}
 use Rattle.ss_program.specs.Program.{Expression, Place, Program, Restart, ToAttribute, ToCount, ToVariable, When, At, In, ScheduleNew, Schedule}
 use Rattle.ss_program.specs.WellTyped.{CanTakeMode, HasMode, IsTypedRestart, IsTypedStatement, TypedScope, IsTypedWhen, AreTypedGiven}
@@ -17,6 +17,7 @@ use Rattle.ss_code_generator.proofs.Emitting.{around_old, grows_same, grows_then
 use Rattle.ss_code_generator.proofs.Modes.{on_top}
 use Rattle.ss_code_generator.proofs.Operands.{read_stands, cell_at_site, operand_at, stays_at}
 use Rattle.ss_code_generator.proofs.Spotted.{stored}
+use Rattle.ss_code_generator.proofs.Called.{each_fits}
 use Rattle.ss_code_generator.proofs.Letting.{MakesSpot, Lands, spot_stands, holds_mode}
 
 -- ## One operand, and an instruction that leaves something in the next cell
@@ -74,14 +75,8 @@ room_above h n higher d e room up grows low fits =
     omega (arith, is, low)
 
 -- values of the modes of attributes are typed
-haves_typed : (s : TypedScope) (es : List Expression) (ms : List Mode) → AllZip (HasMode s) es ms → Every (λ e. IsTyped e s) es
-haves_typed s [] [] h = tt
-haves_typed s [] (m ∷ ms) h = absurd h
-haves_typed s (e ∷ es) [] h = absurd h
-haves_typed s (e ∷ es) (m ∷ ms) h = ((m, h.0), haves_typed s es ms h.1)
-
 pub given_typed : (s : TypedScope) (class : ℕ) (es : List Expression) → AreTypedGiven s class es → Every (λ e. IsTyped e s) es
-given_typed s class es h = haves_typed s es (take (length es) h.1.0) h.1.2
+given_typed s class es h = each_fits (HasMode s) es (take (length es) h.1.0) h.1.2
 
 -- none of the first attributes is watched
 unwatched_below : (ss : List Statistic) (class given : ℕ) → any_watched ss class given ≡ false → (field : ℕ) → field < given → watch ss (OfAttribute class field) ≡ false

@@ -1,5 +1,5 @@
 use Rattle.std.proofs.Common.{◌≡◌, ◌+◌, [], ◌∷◌, ◌++◌, map, take, refl, sym, ap, ◌∙◌, subst}
-use Rattle.ss_code_generator.proofs.Common.{after_values, CanTakeMode, change_code, creates_code, file_code, gives_code, HasEmittedBlock, height, Integer, IsTypedRestart, IsTypedStatement, let_code, line_or_none, map-append, on_ok_weaker, place, reads_code, remove_code, remove_end_code, restarts_code, schedule_code, schedule_new_code, take_all, take_more, to_place_code, values_code, with_operand}
+use Rattle.ss_code_generator.proofs.Common.{after_values, CanTakeMode, change_code, creates_code, file_code, gives_code, HasEmittedBlock, height, Integer, IsTypedRestart, IsTypedStatement, let_code, line_or_none, on_ok_weaker, place, reads_code, remove_code, remove_end_code, restarts_code, schedule_code, schedule_new_code, take_all, to_place_code, values_code, with_operand}
 use Rattle.std.specs.List.{AllByRecursion as Every}
 use Rattle.ss_program.specs.View.{view_body, view_condition, view_expression, view_guard, view_item, view_owner, view_phrase, view_place, view_restart, view_target, view_when, view_position, view_head, view_statement, block_of}
 use Rattle.ss_program.specs.Program as p
@@ -7,6 +7,7 @@ use Rattle.ss_program.specs.Views.{view_if_made, view_loop_made, view_for_made, 
 use Rattle.ss_code_instructions.specs.Instructions as i
 use Rattle.ss_code_generator.specs.declared.generator.Site.{Site as Here}
 use Rattle.ss_code_generator.specs.Notices.{simulate_code}
+use Rattle.ss_code_pieces.proofs.Steps.{next_taken}
 use Rattle.ss_code_generator.proofs.Bodies.{let_seen, change_seen, call_seen, return_seen, stop_seen, read_seen, simulate_seen, create_seen, create_every_seen, destroy_seen, file_seen, remove_end_seen, remove_seen, schedule_new_seen, schedule_seen, cancel_seen, reset_seen, print_seen, skip_seen, said, put_said, loop_said, for_said, if_said, find_said, print_said, body_none, body_more}
 use Rattle.ss_code_generator.proofs.generator.Generator.+statements.Goals as goal
 
@@ -185,7 +186,6 @@ body-loop-s-preserved t' c =
     let l = c.loop-s in
     let item = c.s-item.result in
     let xs = c.args.body.now in
-    let more : take (l.s-index + 1) xs ≡ take l.s-index xs ++ item ∷ [] = take_more xs l.s-index item c.loop-s-test.true ∙ ap (λ e. take l.s-index xs ++ e ∷ []) (sym c.s-item.is) in
-    let seen : map view_statement (take (l.s-index + 1) xs) ≡ map view_statement (take l.s-index xs) ++ view_statement item ∷ [] = ap (map view_statement) more ∙ map-append view_statement (take l.s-index xs) (item ∷ []) in
+    let seen = next_taken view_statement xs l.s-index item c.loop-s-test.true c.s-item.is in
     subst (λ ss. HasEmittedBlock c.args.self.now c.statement.new.self c.statement.new.code c.args.height c.args.prints.now.items c.statement.new.prints.items (block_of ss)) (sym seen)
     (body_more c.args.self.now l.self c.statement.new.self l.code c.statement.new.code c.args.height c.args.prints.now.items l.prints.items c.statement.new.prints.items (map view_statement (take l.s-index xs)) (view_statement item) l.invariant c.in_ok-statement.ensures)
