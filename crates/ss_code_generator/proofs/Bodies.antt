@@ -6,7 +6,7 @@ use Rattle.ss_code_generator.specs.Emitted.{Final, HasAdded, HasEmitted, HasEmit
 use Rattle.ss_code_generator.specs.Printed.{HasEmittedBlock, HasPrinted, line_or_none, statement_site, HasPrintedBy, HasPrintedLines, HasEmittedStatement}
 use Rattle.ss_code_instructions.specs.Translation.{code_of, condition_code, for_code, height, phrases_code, place, Site, site_at_line, no_line, if_code, loop_code, in_loop, loop_cells, find_code, items_code, after_items, statement_code, statement_prints, block_code, block_prints}
 use Rattle.ss_program.specs.Program.{Guard, Phrase, TheSystem, Condition, Head, Members, PrintItem, AValue, AMean, AMeanOf, Statement, Block, Done}
-use Rattle.ss_program.specs.View.{view_expression, view_item, view_owner, view_place, view_restart, view_target, view_when, view_position, view_statement, block_of}
+use Rattle.ss_program.specs.View.{view_item, view_statement, block_of}
 use Rattle.ss_program.specs.WellTyped.{IsTypedCondition, IsTypedHead, IsTypedPhrase, IsTypedStatement, TypedScope, IsTypedBlock, CanTakeItem}
 use Rattle.ss_picture.specs.declared.field.Field.{Field}
 use Rattle.ss_program.specs.declared.statement.Statement as statements
@@ -20,83 +20,11 @@ use Rattle.ss_code_generator.proofs.Emitting.{around_old, grows_same, grows_then
 use Rattle.ss_code_generator.proofs.PrintLines.{prints_then, prints_long}
 use Rattle.ss_code_generator.proofs.Rounds.{for_looped}
 
--- ## What is seen of each statement
-
-pub let_seen : (l : _) (x : _) (e : _) → view_statement (forms.Let l x e) ≡ p.Let l (view_place x) (view_expression e)
-unfolding view_statement
-let_seen l x e = refl
-
-pub change_seen : (l : _) (sign : _) (x : _) (e : _) → view_statement (forms.Change l sign x e) ≡ p.Change l sign (view_place x) (view_expression e)
-unfolding view_statement
-change_seen l sign x e = refl
-
-pub call_seen : (l : _) (routine : _) (given : _) (yielding : _) → view_statement (forms.Call l routine given yielding) ≡ p.Call l routine (map view_expression given.items) (map view_place yielding.items)
-unfolding view_statement
-call_seen l routine given yielding = refl
-
-pub return_seen : view_statement forms.Return ≡ p.Return
-unfolding view_statement
-return_seen = refl
-
-pub stop_seen : view_statement forms.Stop ≡ p.Stop
-unfolding view_statement
-stop_seen = refl
-
-pub read_seen : (l : _) (targets : _) → view_statement (forms.Read l targets) ≡ p.Read l (map view_target targets.items)
-unfolding view_statement
-read_seen l targets = refl
-
-pub simulate_seen : view_statement forms.Simulate ≡ p.Simulate
-unfolding view_statement
-simulate_seen = refl
-
-pub create_seen : (l : _) (class : _) (x : _) → view_statement (forms.Create l class x) ≡ p.Create l class (view_place x)
-unfolding view_statement
-create_seen l class x = refl
-
-pub create_every_seen : (l : _) (classes : _) → view_statement (forms.CreateEvery l classes) ≡ p.CreateEvery l classes.items
-unfolding view_statement
-create_every_seen l classes = refl
-
-pub destroy_seen : (l : _) (class : _) (e : _) → view_statement (forms.Destroy l class e) ≡ p.Destroy l class (view_expression e)
-unfolding view_statement
-destroy_seen l class e = refl
-
-pub file_seen : (l : _) (set : _) (e : _) (position : _) (owner : _) → view_statement (forms.File l set e position owner) ≡ p.File l set (view_expression e) (view_position position) (view_owner owner)
-unfolding view_statement
-file_seen l set e position owner = refl
-
-pub remove_end_seen : (l : _) (end : _) (set : _) (x : _) (owner : _) → view_statement (forms.RemoveEnd l end set x owner) ≡ p.RemoveEnd l end set (view_place x) (view_owner owner)
-unfolding view_statement
-remove_end_seen l end set x owner = refl
-
-pub remove_seen : (l : _) (set : _) (e : _) (owner : _) → view_statement (forms.Remove l set e owner) ≡ p.Remove l set (view_expression e) (view_owner owner)
-unfolding view_statement
-remove_seen l set e owner = refl
-
-pub schedule_new_seen : (l : _) (class : _) (x : _) (given : _) (when : _) → view_statement (forms.ScheduleNew l class x given when) ≡ p.ScheduleNew l class (view_place x) (map view_expression given.items) (view_when when)
-unfolding view_statement
-schedule_new_seen l class x given when = refl
-
-pub schedule_seen : (l : _) (class : _) (e : _) (given : _) (when : _) → view_statement (forms.Schedule l class e given when) ≡ p.Schedule l class (view_expression e) (map view_expression given.items) (view_when when)
-unfolding view_statement
-schedule_seen l class e given when = refl
-
-pub cancel_seen : (l : _) (class : _) (e : _) → view_statement (forms.Cancel l class e) ≡ p.Cancel l class (view_expression e)
-unfolding view_statement
-cancel_seen l class e = refl
-
-pub reset_seen : (l : _) (restarts : _) → view_statement (forms.Reset l restarts) ≡ p.Reset l (map view_restart restarts.items)
-unfolding view_statement
-reset_seen l restarts = refl
+-- ## What is seen of a PRINT
 
 pub print_seen : (l : _) (items : _) (pictures : _) → view_statement (forms.Print l items pictures) ≡ p.Print l (map view_item items.items) (map (λ line. line.items) pictures.items)
 unfolding view_statement
 print_seen l items pictures = refl
-
-pub skip_seen : (l : _) (e : _) → view_statement (forms.Skip l e) ≡ p.Skip l (view_expression e)
-unfolding view_statement
-skip_seen l e = refl
 
 -- ## PRINTs
 
@@ -113,22 +41,22 @@ pub lined : (f : Final) (g : Generator) (h : ℕ) (l : Line) (t : Site) → IsLo
 lined f g h l t s = record { program = s.program; locals = s.locals; line = refl; high = s.high; deep = s.deep }
 
 -- a statement without PRINTs
-pub said : (old new : Generator) (a b : Lined) (h : ℕ) (l : Line) (prints : List RunningLines) (s form : statements.Statement) (seen : Statement) (Fits : TypedScope → Type 0) (c : Site → List Placed) → HasEmitted old new a b (record { line = l; height = h }) Fits c → s ≡ form → view_statement form ≡ seen → l ≡ line_or_none (view_statement s) → ((k : TypedScope) → IsTypedStatement k seen → Fits k) → statement_prints seen ≡ [] → ((first : ℕ) (t : Site) → c (site_at_line t (line_or_none seen)) ≡ statement_code t first seen) → HasEmittedStatement old new a b h prints prints (view_statement s)
-said old new a b h l prints s form seen Fits c m is e line fits none same = subst (λ (x : Statement). HasEmittedStatement old new a b h prints prints x) (sym w) base
+pub said : (old new : Generator) (a b : Lined) (h : ℕ) (l : Line) (prints : List RunningLines) (s form : statements.Statement) (Fits : TypedScope → Type 0) (c : Site → List Placed) → HasEmitted old new a b (record { line = l; height = h }) Fits c → s ≡ form → l ≡ line_or_none (view_statement s) → ((k : TypedScope) → IsTypedStatement k (view_statement form) → Fits k) → statement_prints (view_statement form) ≡ [] → ((first : ℕ) (t : Site) → c (site_at_line t (line_or_none (view_statement form))) ≡ statement_code t first (view_statement form)) → HasEmittedStatement old new a b h prints prints (view_statement s)
+said old new a b h l prints s form Fits c m is line fits none same = subst (λ (x : Statement). HasEmittedStatement old new a b h prints prints x) (sym w) base
   where
-    w : view_statement s ≡ seen
-    w = ap view_statement is ∙ e
+    w : view_statement s ≡ view_statement form
+    w = ap view_statement is
 
-    base : HasEmittedStatement old new a b h prints prints seen
+    base : HasEmittedStatement old new a b h prints prints (view_statement form)
     base = record {
       code = record {
         grows = m.grows;
         adds = λ f t u around located good.
-            adds_same f a b (c (site_at_line t l)) (statement_code t (length prints) seen) (ap (λ k. c (site_at_line t k)) (line ∙ ap line_or_none w) ∙ same (length prints) t)
+            adds_same f a b (c (site_at_line t l)) (statement_code t (length prints) (view_statement form)) (ap (λ k. c (site_at_line t k)) (line ∙ ap line_or_none w) ∙ same (length prints) t)
             (m.adds f (site_at_line t l) tt around (lined f new h l t located) (fits t.scope good.1));
         more = λ f t u around located good. tt;
       };
-      prints = none_printed prints (statement_prints seen) none;
+      prints = none_printed prints (statement_prints (view_statement form)) none;
     }
 
 -- one instruction without operands
