@@ -16,7 +16,7 @@ use Rattle.ss_code_instructions.specs.declared.instruction.Instruction.{Instruct
 use Rattle.ss_code_instructions.specs.declared.instruction.Instruction.TheVariants as r
 use Rattle.ss_code_instructions.specs.Instructions as i
 use Rattle.ss_code_generator.specs.declared.generator.Site.{Site as Here}
-use Rattle.ss_code_generator.proofs.Emitting.{around_old, grows_same, grows_then, stands_old, adds_none, adds_then, adds_one, adds_piece, adds_apart, adds_same, piece_long, none_there}
+use Rattle.ss_code_generator.proofs.Emitting.{around_old, grows_same, grows_then, stands_old, adds_none, adds_then, adds_one, adds_piece, adds_apart, adds_same, piece_long, none_there, emits_one}
 use Rattle.ss_code_generator.proofs.PrintLines.{prints_then, prints_long}
 use Rattle.ss_code_generator.proofs.Rounds.{for_looped}
 
@@ -61,11 +61,7 @@ said old new a b h l prints s form Fits c m is line fits none same = subst (λ (
 
 -- one instruction without operands
 pub put_said : (g : Generator) (a b : Lined) (here : Here) (x : i.Instruction) (y : Running) → b ≡ a ++ on_line here.line y ∷ [] → ((f : Final) (t : Site) → IsCarriedOut (code_of f.program) f.constants (place t x) y) → ((f : Final) (t : Site) → HasPrintModes f.prints t.cells x) → HasEmitted g g a b here (λ s. Unit {0}) (λ t. place t x ∷ [])
-put_said g a b here x y is carries shown = record {
-  grows = grows_same g;
-  adds = λ f t u around located good. adds_one f a b here.line (place t x) y is located.line (record { carries = carries f t; deep = located.deep; shown = shown f t });
-  more = λ f t u around located good. tt;
-}
+put_said g a b here x y is carries shown = emits_one g g a b here (λ f t (u : Unit {0}). Unit {0}) (λ t u. x) y (grows_same g) is (λ f t u around located good. (carries f t, shown f t))
 
 -- ## Bodies
 

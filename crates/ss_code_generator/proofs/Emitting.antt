@@ -1,8 +1,8 @@
 -- Pieces put together, and what is around them.
 use Rattle.std.proofs.Common.{◌≡◌, ℕ, suc, ◌+◌, ◌<◌, ◌≤◌, ◌^◌, List, [], ◌∷◌, ◌++◌, length, Result, Ok, Err, refl, sym, ap, ◌∙◌, subst, arith, append_assoc, append-nil}
 use Rattle.std.specs.Prelude.{OnOk}
-use Rattle.ss_code_generator.proofs.Common.{Generator, height, Line, Lined, no_code, on_line, Placed, Site, Value, view_program}
-use Rattle.ss_code_generator.specs.Emitted.{Final, HasAdded, HasGenerated, HasGrown, IsAround, IsLocated, IsRunBy, AreAllRun}
+use Rattle.ss_code_generator.proofs.Common.{code_of, Generator, HasPrintModes, height, Instruction, IsCarriedOut, Line, Lined, no_code, on_line, place, Placed, Site, Value, view_program}
+use Rattle.ss_code_generator.specs.Emitted.{Final, HasAdded, HasGenerated, HasGrown, HasNoMore, IsAround, IsLocated, IsRunBy, AreAllRun}
 use Rattle.ss_code_instructions.specs.declared.instruction.Instruction.{Instruction as Running}
 use Rattle.ss_code_generator.specs.declared.generator.Site.{Site as Here}
 
@@ -78,6 +78,16 @@ adds_then f a b c xs ys h k = record {
 -- one instruction more
 pub adds_one : (f : Final) (a b : Lined) (l : Line) (x : Placed) (y : Running) → b ≡ a ++ on_line l y ∷ [] → x.line ≡ l → IsRunBy f x y → HasAdded f a b (x ∷ [])
 adds_one f a b l x y is same r = record { more = on_line l y ∷ []; added = is; run = (sym same, r, tt) }
+
+-- one instruction at each site, where it carries out what fits there
+pub emits_one : {I : Type 0} (old new : Generator) (p q : Lined) (here : Here) (Fit : Final → Site → I → Type 0) (make : Site → I → Instruction) (y : Running) → HasGrown old new → q ≡ p ++ on_line here.line y ∷ [] → ((f : Final) (t : Site) (x : I) → IsAround f new → IsLocated f new here t → Fit f t x → IsCarriedOut (code_of f.program) f.constants (place t (make t x)) y × HasPrintModes f.prints t.cells (make t x)) → HasGenerated old new p q here Fit (λ t x. place t (make t x) ∷ []) HasNoMore
+emits_one old new p q here Fit make y grows is runs = record {
+  grows = grows;
+  adds = λ f t x around located fits.
+      let c = runs f t x around located fits in
+      adds_one f p q here.line (place t (make t x)) y is located.line (record { carries = c.0; deep = located.deep; shown = c.1 });
+  more = λ f t x around located fits. tt;
+}
 
 -- a piece that was made apart goes after another one, or before
 pub adds_piece : (f : Final) (a b p : Lined) (c : List Placed) → b ≡ a ++ p → HasAdded f no_code p c → HasAdded f a b c

@@ -1,12 +1,12 @@
 -- Values that go into cells, and what loops keep there.
 use Rattle.std.proofs.Common.{◌≡◌, ℕ, ◌+◌, ◌<◌, ◌≤◌, ◌^◌, List, [], ◌∷◌, ◌++◌, length, get_or, map, take, refl, sym, ap, ◌∙◌, subst, arith, append_assoc, append-nil, length-append}
-use Rattle.ss_code_generator.proofs.Common.{above, Address, after_values, Constant, Expression, expression_code, expression_mode, Final, Generator, HasEmitted, HasGrown, HasTakenItems, HasTakenLoopItem, height, Instruction, IsAround, IsInFrame, IsSiteOperand, IsTyped, Lined, next, no_code, on_line, place, Placed, pos, Site, take_all, take_code, values_code, values_high, VariableSpot, view_expression, Whole}
+use Rattle.ss_code_generator.proofs.Common.{above, Address, after_values, Constant, Expression, expression_code, expression_mode, Final, Generator, HasEmitted, HasGrown, HasTakenItems, HasTakenLoopItem, height, IsAround, IsInFrame, IsSiteOperand, IsTyped, Lined, next, no_code, on_line, place, Placed, pos, Site, take_all, take_code, values_code, values_high, VariableSpot, view_expression, Whole}
 use Rattle.std.specs.List.{AllByRecursion as Every}
 use Rattle.ss_program.specs.declared.expression.Expression as expressions
 use Rattle.ss_code_instructions.specs.declared.instruction.Instruction.TheVariants as r
 use Rattle.ss_code_instructions.specs.Instructions as i
 use Rattle.ss_code_generator.specs.declared.generator.Site.{Site as Here}
-use Rattle.ss_code_generator.proofs.Emitting.{around_old, grows_same, grows_then, stands_old, stands_above, adds_then, adds_one, adds_piece, adds_same, piece_long}
+use Rattle.ss_code_generator.proofs.Emitting.{around_old, grows_same, grows_then, stands_old, stands_above, adds_then, adds_one, adds_piece, adds_same, piece_long, emits_one}
 use Rattle.ss_code_generator.proofs.Operands.{cell_at_site}
 use Rattle.ss_code_generator.proofs.Listed.{every_split}
 use Rattle.ss_code_pieces.proofs.Steps.{next_taken, taken_long}
@@ -15,14 +15,9 @@ use Rattle.ss_code_pieces.proofs.Steps.{next_taken, taken_long}
 
 -- the number 1 in the next cell
 pub one_pushed : (old new : Generator) (p q : Lined) (here : Here) (a one : Address) → HasGrown old new → IsInFrame (length new.locals.items + here.height) a → ((f : Final) (t : Site) → IsAround f new → IsSiteOperand f t (Constant (Whole (pos 1))) one) → q ≡ p ++ on_line here.line (r.Move one a) ∷ [] → HasEmitted old new p q here (λ s. Unit {0}) (λ t. place t (i.Move (Constant (Whole (pos 1))) (next t)) ∷ [])
-one_pushed old new p q here a one grows cell at made = record {
-  grows = grows;
-  adds = λ f t u around located typed.
-      let ins : Instruction = i.Move (Constant (Whole (pos 1))) (next t) in
-      adds_one f p q here.line (place t ins) (r.Move one a) made located.line
-      (record { carries = (Constant (Whole (pos 1)), at f t around, (refl, (next t, cell_at_site f new here t a located cell, refl))); deep = located.deep; shown = tt });
-  more = λ f t u around located typed. tt;
-}
+one_pushed old new p q here a one grows cell at made =
+    emits_one old new p q here (λ f t (u : Unit {0}). Unit {0}) (λ t u. i.Move (Constant (Whole (pos 1))) (next t)) (r.Move one a) grows made (λ f t u around located typed.
+    ((Constant (Whole (pos 1)), at f t around, (refl, (next t, cell_at_site f new here t a located cell, refl))), tt))
 
 -- one value more, on top of others
 values_code_more : (t : Site) (es : List Expression) (e : Expression) → values_code t (es ++ e ∷ []) ≡ values_code t es ++ expression_code (after_values t es) (next (after_values t es)) e

@@ -8,7 +8,7 @@ use Rattle.ss_code_instructions.specs.declared.instruction.Instruction.TheVarian
 use Rattle.ss_code_instructions.specs.Instructions as i
 use Rattle.ss_code_generator.specs.declared.expressions.Operand.{Operand as Read}
 use Rattle.ss_code_generator.specs.declared.generator.Site.{Site as Here}
-use Rattle.ss_code_generator.proofs.Emitting.{around_old, grows_same, grows_then, stands_old, adds_then, adds_one, adds_apart, adds_same, piece_long}
+use Rattle.ss_code_generator.proofs.Emitting.{around_old, grows_same, grows_then, stands_old, adds_then, adds_one, adds_apart, adds_same, piece_long, emits_one}
 use Rattle.ss_code_generator.proofs.Forms as forms
 use Rattle.ss_code_generator.proofs.Modes.{operand_mode, mode_after}
 use Rattle.ss_code_generator.proofs.Operands.{read_stands}
@@ -128,12 +128,8 @@ tests_step old mid new rest front whole here skip past x xs m n long is =
 
 -- a jump, as a piece
 jumps : (g : Generator) (here : Here) (skip : ℕ) → HasEmitted g g no_code (on_line here.line (r.Jump skip) ∷ []) here (λ s. Unit {0}) (λ t. place t (i.Jump skip) ∷ [])
-jumps g here skip = record {
-  grows = grows_same g;
-  adds = λ f t u around located good.
-      adds_one f no_code (on_line here.line (r.Jump skip) ∷ []) here.line (place t (i.Jump skip)) (r.Jump skip) refl located.line (record { carries = refl; deep = located.deep; shown = tt });
-  more = λ f t u around located good. tt;
-}
+jumps g here skip =
+    emits_one g g no_code (on_line here.line (r.Jump skip) ∷ []) here (λ f t (u : Unit {0}). Unit {0}) (λ t u. i.Jump skip) (r.Jump skip) (grows_same g) refl (λ f t u around located good. (refl, tt))
 
 pub alternatives_step : (old mid new : Generator) (rest front both whole : Lined) (here : Here) (skip past : ℕ) (xs ys : List Test) (others : List (List Test)) → HasEmitted old mid no_code rest here (λ s. IsTypedCondition s (ys ∷ others)) (λ t. condition_code t skip (ys ∷ others)) → HasEmitted mid new no_code front here (λ s. Every (IsTypedTest s) xs) (λ t. tests_code t 1 xs) → past ≡ length rest → both ≡ front ++ on_line here.line (r.Jump past) ∷ [] → whole ≡ both ++ rest → HasEmitted old new no_code whole here (λ s. IsTypedCondition s (xs ∷ (ys ∷ others))) (λ t. condition_code t skip (xs ∷ (ys ∷ others)))
 alternatives_step old mid new rest front both whole here skip past xs ys others m n long both_is is =

@@ -1,6 +1,6 @@
 -- What the generator emits for each form of an expression.
-use Rattle.std.proofs.Common.{◌≡◌, ℕ, ◌+◌, ◌<◌, ◌≤◌, ◌^◌, List, [], ◌∷◌, ◌++◌, length, get_or, take, Some, None, refl, sym, ap, ◌∙◌, arith}
-use Rattle.ss_code_generator.proofs.Common.{Address, after, asking_member, asking_set, calculating, code_of, Constant, expression_code, fetching, field_mode, Final, Generator, Global, HasEmittedTo, HasGrown, HasMode, HasPrintModes, HasReadOperand, height, Held, Instruction, Integer, IsAround, IsInteger, IsLocated, IsRunBy, IsSiteOperand, IsSiteTarget, IsTyped, Lined, Local, MemberQuery, Mode, mode_at, moving, on_line, Operand, operand, operand_code, operator_of, or_integer, place, Placed, pos, SetQuery, Sign, Site, slice_get, take_all, take_more, Target, TypedScope, Value, Variable, view_expression, view_program, Whole, with_operand}
+use Rattle.std.proofs.Common.{◌≡◌, ℕ, ◌+◌, ◌<◌, ◌^◌, List, [], ◌∷◌, ◌++◌, length, get_or, take, Some, None, refl, sym, ap, ◌∙◌, arith}
+use Rattle.ss_code_generator.proofs.Common.{Address, after, asking_member, asking_set, calculating, code_of, Constant, expression_code, fetching, field_mode, Final, Generator, Global, HasEmittedTo, HasGrown, HasMode, HasPrintModes, HasReadOperand, height, Held, Instruction, Integer, IsAround, IsInteger, IsLocated, IsSiteOperand, IsSiteTarget, IsTyped, Lined, Local, MemberQuery, Mode, mode_at, moving, on_line, Operand, operand, operand_code, operator_of, or_integer, place, Placed, pos, SetQuery, Sign, Site, slice_get, take_all, take_more, Target, TypedScope, Value, Variable, view_expression, view_program, Whole, with_operand}
 use Rattle.std.proofs.lemmas.List.Sums.{fold-append}
 use Rattle.ss_code_generator.specs.Calculations.{with_operations, HasEmittedExpression, operation_code, LeftOperand, HasOperated}
 use Rattle.ss_code_instructions.specs.Carried.{IsCarriedOut, IsInFrame, IsVariableAt}
@@ -16,59 +16,35 @@ use Rattle.ss_code_instructions.specs.Instructions as i
 use Rattle.ss_code_generator.specs.declared.expressions.Operand.{Operand as Read}
 use Rattle.ss_code_generator.specs.declared.generator.Site.{Site as Here}
 use Rattle.ss_code_pieces.specs.Preamble.{mode_in}
-use Rattle.ss_code_generator.proofs.Emitting.{around_old, grows_then, stands_old, adds_then, adds_one, adds_same, makes_later}
+use Rattle.ss_code_generator.proofs.Emitting.{around_old, grows_then, stands_old, adds_then, adds_one, adds_same, makes_later, emits_one}
 use Rattle.ss_code_generator.proofs.Forms as forms
 use Rattle.ss_code_generator.proofs.Modes.{held_mode, has_field}
 use Rattle.ss_code_generator.proofs.Operands.{cell_reads_at, read_stands}
 
 -- ## Forms without an operand
 
--- an instruction that is no PRINT runs where what it carries out is known
-calm : (f : Final) (t : Site) (ins : Instruction) (y : Running) → IsCarriedOut (code_of f.program) f.constants (place t ins) y → height t ≤ f.depth → HasPrintModes f.prints t.cells ins → IsRunBy f (place t ins) y
-calm f t ins y c deep s = record { carries = c; deep = deep; shown = s }
-
 module _ (old new : Generator) (p : Lined) (here : Here) (to : Address) where
   pub constant_emitted : (q : Lined) (v : Value) (from : Address) → HasGrown old new → ((f : Final) (t : Site) → IsAround f new → IsSiteOperand f t (Constant v) from) → q ≡ p ++ on_line here.line (moving (mode_of v) from to) ∷ [] → HasEmittedExpression old new p q here to (AConstant v)
-  constant_emitted q v from grows at is = record {
-    grows = grows;
-    adds = λ f t x around located fits.
-        adds_one f p q here.line (place t (i.Move (Constant v) x)) (moving (mode_of v) from to) is located.line
-        (calm f t (i.Move (Constant v) x) (moving (mode_of v) from to)
-        (forms.moves (code_of f.program) f.constants (place t (i.Move (Constant v) x)) (mode_of v) from to (Constant v, at f t around, (refl, (x, fits.0, refl)))) located.deep tt);
-    more = λ f t x around located fits. tt;
-  }
+  constant_emitted q v from grows at is =
+      emits_one old new p q here (λ f t (x : Target). IsSiteTarget f t x to × IsTyped (AConstant v) t.scope) (λ t x. i.Move (Constant v) x) (moving (mode_of v) from to) grows is (λ f t x around located fits.
+      (forms.moves (code_of f.program) f.constants (place t (i.Move (Constant v) x)) (mode_of v) from to (Constant v, at f t around, (refl, (x, fits.0, refl))), tt))
 
   pub fetch_emitted : (q : Lined) (x : Variable) (m : Mode) (from : Address) → HasGrown old new → IsVariableAt x from → ((f : Final) (t : Site) → IsAround f new → IsLocated f new here t → or_integer (mode_at t.scope x) ≡ m) → q ≡ p ++ on_line here.line (moving m from to) ∷ [] → HasEmittedExpression old new p q here to (Fetch x)
-  fetch_emitted q x m from grows at mode is = record {
-    grows = grows;
-    adds = λ f t y around located fits.
-        let n : Mode = fits.1.0 in
-        let same : n ≡ m = sym (ap or_integer fits.1.1) ∙ mode f t around located in
-        let held = held_mode f t x n (i.Move (Held x) y) located.program fits.1.1 ∙ ap Some same in
-        adds_one f p q here.line (place t (i.Move (Held x) y)) (moving m from to) is located.line
-        (calm f t (i.Move (Held x) y) (moving m from to)
-        (forms.moves (code_of f.program) f.constants (place t (i.Move (Held x) y)) m from to (Held x, at, (held, (y, fits.0, refl)))) located.deep tt);
-    more = λ f t y around located fits. tt;
-  }
+  fetch_emitted q x m from grows at mode is =
+      emits_one old new p q here (λ f t (y : Target). IsSiteTarget f t y to × IsTyped (Fetch x) t.scope) (λ t y. i.Move (Held x) y) (moving m from to) grows is (λ f t y around located fits.
+      let n : Mode = fits.1.0 in
+      let same : n ≡ m = sym (ap or_integer fits.1.1) ∙ mode f t around located in
+      let held = held_mode f t x n (i.Move (Held x) y) located.program fits.1.1 ∙ ap Some same in
+      (forms.moves (code_of f.program) f.constants (place t (i.Move (Held x) y)) m from to (Held x, at, (held, (y, fits.0, refl))), tt))
 
   pub system_set_emitted : (q : Lined) (query : SetQuery) (set : ℕ) (zero : Address) → HasGrown old new → ((f : Final) (t : Site) → IsAround f new → IsSiteOperand f t (Constant (Whole (pos 0))) zero) → q ≡ p ++ on_line here.line (asking_set query set zero to) ∷ [] → HasEmittedExpression old new p q here to (OfSystemSet query set)
-  system_set_emitted q query set zero grows at is = record {
-    grows = grows;
-    adds = λ f t x around located fits.
-        adds_one f p q here.line (place t (i.OfSet query set None x)) (asking_set query set zero to) is located.line
-        (calm f t (i.OfSet query set None x) (asking_set query set zero to)
-        (forms.asks_set (code_of f.program) f.constants (place t (i.OfSet query set None x)) query set zero to (None, at f t around, (x, fits.0, refl))) located.deep tt);
-    more = λ f t x around located fits. tt;
-  }
+  system_set_emitted q query set zero grows at is =
+      emits_one old new p q here (λ f t (x : Target). IsSiteTarget f t x to × IsTyped (OfSystemSet query set) t.scope) (λ t x. i.OfSet query set None x) (asking_set query set zero to) grows is (λ f t x around located fits.
+      (forms.asks_set (code_of f.program) f.constants (place t (i.OfSet query set None x)) query set zero to (None, at f t around, (x, fits.0, refl)), tt))
 
   pub figure_emitted : (q : Lined) (fold' : Fold) (k : ℕ) (zero : Address) → HasGrown old new → ((f : Final) (t : Site) → IsAround f new → IsSiteOperand f t (Constant (Whole (pos 0))) zero) → q ≡ p ++ on_line here.line (r.Figure k zero to fold') ∷ [] → HasEmittedExpression old new p q here to (Figure fold' k)
-  figure_emitted q fold' k zero grows at is = record {
-    grows = grows;
-    adds = λ f t x around located fits.
-        adds_one f p q here.line (place t (i.Figure fold' k None x)) (r.Figure k zero to fold') is located.line
-        (calm f t (i.Figure fold' k None x) (r.Figure k zero to fold') (None, at f t around, (x, fits.0, refl)) located.deep tt);
-    more = λ f t x around located fits. tt;
-  }
+  figure_emitted q fold' k zero grows at is =
+      emits_one old new p q here (λ f t (x : Target). IsSiteTarget f t x to × IsTyped (Figure fold' k) t.scope) (λ t x. i.Figure fold' k None x) (r.Figure k zero to fold') grows is (λ f t x around located fits. ((None, at f t around, (x, fits.0, refl)), tt))
 
   -- ## Forms with one operand
 
