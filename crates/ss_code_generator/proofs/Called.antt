@@ -1,9 +1,9 @@
 -- CALL, and statements of one operand.
 use Rattle.std.proofs.Common.{◌≡◌, ℕ, zero, suc, ◌+◌, ◌-◌, ◌<◌, ◌≤◌, ◌^◌, List, [], ◌∷◌, ◌++◌, length, drop, Some, refl, sym, ap, ◌∙◌, arith, append_assoc, append-nil, length-drop}
-use Rattle.ss_code_generator.proofs.Common.{Expression, Final, Generator, HasEmitted, HasPrintModes, HasReadOperand, Integer, IsAround, IsTyped, IsTypedPlace, Line, Lined, Mode, on_line, Operand, Place, Placed, slice_get, values_high}
+use Rattle.ss_code_generator.proofs.Common.{Expression, Final, Generator, HasEmitted, HasNoMore, HasPrintModes, HasReadOperand, Integer, IsAround, IsTyped, IsTypedPlace, Line, Lined, Mode, on_line, Operand, Place, Placed, slice_get, values_high}
 use Rattle.std.specs.List.{AllZip, AllByRecursion as Every}
 use Rattle.ss_code_instructions.specs.Carried.{IsCarriedOut, IsOperandAt}
-use Rattle.ss_code_instructions.specs.Translation.{after, after_values, code_of, height, operand, operand_code, place, Site, values_code, with_operand, with_results, give_code, gives_code}
+use Rattle.ss_code_instructions.specs.Translation.{after, after_values, code_of, height, operand, place, Site, values_code, with_operand, with_results, give_code, gives_code}
 use Rattle.ss_program.specs.WellTyped.{CanTakeMode, HasMode, IsTypedStatement, TypedScope}
 use Rattle.ss_program.specs.Program as p
 use Rattle.ss_code_instructions.specs.declared.instruction.Instruction.{Instruction as Running}
@@ -12,7 +12,8 @@ use Rattle.ss_code_instructions.specs.Instructions as i
 use Rattle.ss_meaning.proofs.Lists.{every_get}
 use Rattle.ss_code_generator.specs.declared.expressions.Operand.{Operand as Read}
 use Rattle.ss_code_generator.specs.declared.generator.Site.{Site as Here}
-use Rattle.ss_code_generator.proofs.Emitting.{around_old, grows_then, stands_old, stands_above, adds_then, adds_one, adds_same}
+use Rattle.ss_code_generator.proofs.Emitting.{around_old, grows_same, grows_then, stands_old, stands_above, adds_then, adds_one, adds_same}
+use Rattle.ss_code_generator.proofs.Operands.{one_read}
 
 -- ## What is yielded
 
@@ -101,13 +102,5 @@ called g0 g1 g2 x y z w here l routine cell es ps m room at is n = record {
 
 -- an operand, and an instruction of its address alone
 pub of_one : (g0 g1 : Generator) (x y z : Lined) (here : Here) (e : Expression) (o : Read) (Fits : TypedScope → Type 0) (make : Operand → i.Instruction) (run : Running) → HasReadOperand g0 g1 x y here e o → z ≡ y ++ on_line here.line run ∷ [] → ((s : TypedScope) → Fits s → HasMode s e Integer) → ((f : Final) (t : Site) → IsOperandAt (code_of f.program) f.constants (place (after t e) (make (operand t e))) (operand t e) o.address → IsCarriedOut (code_of f.program) f.constants (place (after t e) (make (operand t e))) run) → ((f : Final) (t : Site) → HasPrintModes f.prints (after t e).cells (make (operand t e))) → HasEmitted g0 g1 x z here Fits (λ t. with_operand t e make)
-of_one g0 g1 x y z here e o Fits make run m is fits carries shown = record {
-  grows = m.grows;
-  adds = λ f t u around located good.
-      let typed : IsTyped e t.scope = (Integer, fits t.scope good) in
-      let read = m.more f t tt around located typed in
-      let ins : Placed = place (after t e) (make (operand t e)) in
-      adds_then f x y z (operand_code t e) (ins ∷ []) (m.adds f t tt around located typed)
-      (adds_one f y z here.line ins run is located.line (record { carries = carries f t read.at; deep = read.deep; shown = shown f t }));
-  more = λ f t u around located good. tt;
-}
+of_one g0 g1 x y z here e o Fits make run m is fits carries shown =
+    one_read g0 g0 g1 x y z here e o (λ f t (u : Unit {0}). Fits t.scope) HasNoMore (λ t u. make) run (grows_same g0) m is (λ f t u good. (Integer, fits t.scope good)) (λ f t u around located good read. (carries f t read.at, shown f t)) (λ f t u read. tt)

@@ -8,7 +8,7 @@ pub use Rattle.ss_base.specs.declared.words.End.{End}
 pub use Rattle.ss_base.specs.declared.words.Relation.{Relation}
 pub use Rattle.ss_base.specs.declared.words.Sign.{Sign}
 pub use Rattle.ss_code_generator.specs.Calculations.{with_operations}
-pub use Rattle.ss_code_generator.specs.Emitted.{AreNumbers, Final, HasAdded, HasBorne, HasEmitted, HasEmittedAround, HasEmittedAroundBoth, HasEmittedTo, HasGenerated, HasGrown, HasPrintModes, HasReadBy, HasReadOperand, IsAround, IsInteger, IsLocated, IsRead, IsRunBy, IsSiteBearer, IsSiteOperand, IsSiteTarget, IsTyped}
+pub use Rattle.ss_code_generator.specs.Emitted.{AreNumbers, Final, HasAdded, HasBorne, HasEmitted, HasEmittedAround, HasEmittedAroundBoth, HasEmittedTo, HasGenerated, HasGrown, HasNoMore, HasPrintModes, HasReadBy, HasReadOperand, IsAround, IsInteger, IsLocated, IsRead, IsRunBy, IsSiteBearer, IsSiteOperand, IsSiteTarget, IsTyped}
 pub use Rattle.ss_code_generator.specs.Filings.{filing_instruction}
 pub use Rattle.ss_code_generator.specs.Items.{IsTypedItem, running_kind}
 pub use Rattle.ss_code_generator.specs.Looped.{HasKeptOwner, HasTakenItems, HasTakenLoopItem, begin_of, is_after, item_loop_code, loop_width}

@@ -1,6 +1,6 @@
 -- What the generator emits for members of sets.
 use Rattle.std.proofs.Common.{◌≡◌, ℕ, ◌+◌, ◌<◌, ◌^◌, Bool, true, false, [], ◌∷◌, ◌++◌, refl, sym, ap, ◌∙◌, if◌then◌else◌}
-use Rattle.ss_code_generator.proofs.Common.{filing_instruction, filing_of, Final, Generator, HasBorne, HasEmitted, HasPrintModes, HasReadBy, HasReadOperand, Integer, IsAround, IsCarriedOut, IsInteger, IsSiteBearer, IsSiteOperand, IsTypedOwner, IsTypedStatement, IsTypedTest, Lined, OfCount, on_line, Ordering, slice_get, view_program}
+use Rattle.ss_code_generator.proofs.Common.{filing_instruction, filing_of, Final, Generator, HasBorne, HasEmitted, HasPrintModes, HasReadBy, HasReadOperand, Integer, IsAround, IsCarriedOut, IsInteger, IsRead, IsSiteBearer, IsSiteOperand, IsTypedOwner, IsTypedStatement, IsTypedTest, Lined, OfCount, on_line, Ordering, slice_get, view_program}
 use Rattle.ss_code_instructions.specs.Facts.{expression_of, watch, may_fault}
 use Rattle.ss_code_instructions.specs.Instructions.{Instruction, Operand, Bearer, FilingPlace}
 use Rattle.ss_code_instructions.specs.Translation.{after, after_bearer, bearer, bearer_code, code_of, operand, place, Site, stay, with_owner, member_code, file_code, remove_code, test_code, filing_by}
@@ -11,9 +11,9 @@ use Rattle.ss_code_instructions.specs.Instructions as i
 use Rattle.ss_code_pieces.specs.declared.facts.Ordering.TheVariants as orderings
 use Rattle.ss_code_generator.specs.declared.expressions.Operand.{Operand as Read}
 use Rattle.ss_code_generator.specs.declared.generator.Site.{Site as Here}
-use Rattle.ss_code_generator.proofs.Emitting.{around_old, grows_then, stands_old, adds_then, adds_one, adds_same}
+use Rattle.ss_code_generator.proofs.Emitting.{around_old, grows_same, grows_then, stands_old, adds_then, adds_one, adds_same}
 use Rattle.ss_code_generator.proofs.Forms as forms
-use Rattle.ss_code_generator.proofs.Operands.{read_stands, stays_at, looked_reads}
+use Rattle.ss_code_generator.proofs.Operands.{read_stands, stays_at, one_read}
 use Rattle.ss_code_generator.proofs.Testing.{owner_number, emits_where}
 
 -- whether a statistic watches a set, as the generator knows it
@@ -23,9 +23,8 @@ counts_noted f g set noted around e h = ap (λ (p : Program). watch (code_of p).
 -- a member that is looked at
 pub member_looked : (old new : Generator) (p q v : Lined) (here : Here) (set : ℕ) (e : Expression) (o : Read) → HasReadOperand old new p q here e o → v ≡ q ++ on_line here.line (r.LookMember set o.address) ∷ [] → HasReadBy old new p v here (IsInteger e) e o (λ t. member_code t true set e)
 member_looked old new p q v here set e o m is =
-    looked_reads old new p q v here e o (IsInteger e) (λ x. i.LookMember set (stay x)) (r.LookMember set o.address) m is (λ f t around located good read.
-    ((Integer, good), record { carries = (stay (operand t e), stays_at f t (operand t e) o.address read.at, refl); deep = read.deep; shown = tt }))
-    (λ s h. (Integer, h))
+    one_read old old new p q v here e o (λ f t (u : Unit {0}). IsInteger e t.scope) (λ f t u. IsRead f t e o) (λ t u x. i.LookMember set (stay x)) (r.LookMember set o.address) (grows_same old) m is (λ f t u good. (Integer, good))
+    (λ f t u around located good read. ((stay (operand t e), stays_at f t (operand t e) o.address read.at, refl), tt)) (λ f t u read. read)
 
 -- a member, the owner of its set, and an instruction that works on both
 pub member_works : (old mid new : Generator) (p q v s : Lined) (here higher : Here) (set : ℕ) (e : Expression) (o : SetOwner) (member owner : Read) (make : Operand → Bearer → Instruction) (y : Running) → HasReadBy old mid p q here (IsInteger e) e member (λ t. member_code t (may_fault (expression_of o)) set e) → higher.line ≡ here.line → (here.height + member.cells < 2 ^ 64 → higher.height ≡ here.height + member.cells) → HasBorne mid new q v higher (expression_of o) owner → s ≡ v ++ on_line here.line y ∷ [] → ((f : Final) (t : Site) → IsAround f new → IsSiteOperand f (after_bearer (after t e) (expression_of o)) (operand t e) member.address → IsSiteBearer f (after_bearer (after t e) (expression_of o)) (bearer (after t e) (expression_of o)) owner.address → IsCarriedOut (code_of f.program) f.constants (place (after_bearer (after t e) (expression_of o)) (make (operand t e) (bearer (after t e) (expression_of o)))) y × HasPrintModes f.prints (after_bearer (after t e) (expression_of o)).cells (make (operand t e) (bearer (after t e) (expression_of o)))) → HasEmitted old new p s here (λ k. IsInteger e k × IsTypedOwner k set o) (λ t. member_code t (may_fault (expression_of o)) set e ++ with_owner (after t e) o (make (operand t e)))

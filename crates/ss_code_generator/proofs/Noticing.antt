@@ -1,6 +1,6 @@
 -- What the generator emits for notices and statistics.
 use Rattle.std.proofs.Common.{◌≡◌, ◌≢◌, ℕ, zero, suc, ◌+◌, ◌-◌, ◌<◌, ◌≤◌, ◌^◌, Bool, true, false, List, [], ◌∷◌, ◌++◌, length, take, Option, Some, None, refl, sym, ap, ◌∙◌, subst, arith, append_assoc, append-nil, if◌then◌else◌}
-use Rattle.ss_code_generator.proofs.Common.{Address, AreNumbers, Assignment, AttributeSpot, eq-eqb, eqb-true, Final, Generator, HasAdded, HasAssigned, HasAssignedLanded, HasBorne, HasEmitted, HasGrown, HasHeldMode, HasReadOperand, HasTargetRoom, Held, Instruction, Integer, IsAround, IsInFrame, IsLocated, IsRead, IsRunBy, IsSiteOperand, IsSiteTarget, IsSpot, IsTyped, landing, Lined, Mode, OfAttribute, on_line, Operand, Placed, Spot, spot_cells, Statistic, Stays, storing, Taken, Taking, Target, true≢false, values_high, VariableSpot, watch}
+use Rattle.ss_code_generator.proofs.Common.{Address, AreNumbers, Assignment, AttributeSpot, eq-eqb, eqb-true, Final, Generator, HasAdded, HasAssigned, HasAssignedLanded, HasBorne, HasEmitted, HasGrown, HasHeldMode, HasNoMore, HasReadOperand, HasTargetRoom, Held, Instruction, Integer, IsAround, IsInFrame, IsLocated, IsRead, IsRunBy, IsSiteOperand, IsSiteTarget, IsSpot, IsTyped, landing, Lined, Mode, OfAttribute, on_line, Operand, Placed, Spot, spot_cells, Statistic, Stays, storing, Taken, Taking, Target, true≢false, values_high, VariableSpot, watch}
 use Rattle.std.specs.Prelude.{◌==◌}
 use Rattle.std.specs.List.{AllByRecursion as Every}
 use Rattle.ss_code_instructions.specs.Translation.{above, after, after_bearer, after_place, after_values, bearer, bearer_code, entity_code, height, is_kept, next, operand, operand_code, place, place_code, restarts_code, Site, stay, values_code, with_operand, forget, when_code, count_code, notice_code, schedule_new_code, schedule_code}
@@ -15,7 +15,7 @@ use Rattle.ss_code_generator.specs.declared.targets.Spot.TheVariants as spots
 use Rattle.ss_code_generator.specs.Notices.{any_watched, named_at, named_code, HasNamed}
 use Rattle.ss_code_generator.proofs.Emitting.{around_old, grows_same, grows_then, stands_old, stands_above, adds_then, adds_one, adds_same}
 use Rattle.ss_code_generator.proofs.Modes.{on_top}
-use Rattle.ss_code_generator.proofs.Operands.{read_stands, cell_at_site, operand_at, stays_at}
+use Rattle.ss_code_generator.proofs.Operands.{read_stands, cell_at_site, operand_at, stays_at, one_read}
 use Rattle.ss_code_generator.proofs.Spotted.{stored}
 use Rattle.ss_code_generator.proofs.Called.{each_fits}
 use Rattle.ss_code_generator.proofs.Letting.{MakesSpot, Lands, spot_stands, holds_mode}
@@ -23,16 +23,11 @@ use Rattle.ss_code_generator.proofs.Letting.{MakesSpot, Lands, spot_stands, hold
 -- ## One operand, and an instruction that leaves something in the next cell
 
 pub cell_works : (old mid new : Generator) (p q v : Lined) (here : Here) (e : Expression) (o : Read) (to : Address) (IsTypedStatement : TypedScope → Type 0) (make : Site → Operand → Instruction) (y : Running) → HasGrown old mid → IsInFrame (length mid.locals.items + here.height) to → HasReadOperand mid new p q here e o → v ≡ q ++ on_line here.line y ∷ [] → ((k : TypedScope) → IsTypedStatement k → IsTyped e k) → ((f : Final) (t : Site) → IsSiteTarget f t (next t) to → IsRead f t e o → IsRunBy f (place (after t e) (make t (operand t e))) y) → HasEmitted old new p v here IsTypedStatement (λ t. with_operand t e (make t))
-cell_works old mid new p q v here e o to IsTypedStatement make y g cell m is typed runs = record {
-  grows = grows_then old mid new g m.grows;
-  adds = λ f t u around located good.
-      let there = stands_old f mid new here t m.grows located in
-      let at : IsSiteTarget f t (next t) to = cell_at_site f mid here t to there cell in
-      let read = m.more f t tt around located (typed t.scope good) in
-      adds_then f p q v (operand_code t e) (place (after t e) (make t (operand t e)) ∷ []) (m.adds f t tt around located (typed t.scope good))
-      (adds_one f q v here.line (place (after t e) (make t (operand t e))) y is located.line (runs f t at read));
-  more = λ f t u around located good. tt;
-}
+cell_works old mid new p q v here e o to IsTypedStatement make y g cell m is typed runs =
+    one_read old mid new p q v here e o (λ f t (u : Unit {0}). IsTypedStatement t.scope) HasNoMore (λ t u. make t) y g m is (λ f t u good. typed t.scope good) (λ f t u around located good read.
+    let at : IsSiteTarget f t (next t) to = cell_at_site f mid here t to (stands_old f mid new here t m.grows located) cell in
+    let run = runs f t at read in
+    (run.carries, run.shown)) (λ f t u read. tt)
 
 -- a time, so
 pub at_timed : (old mid new : Generator) (p q v : Lined) (here : Here) (e : Expression) (o : Read) (to : Address) → HasGrown old mid → IsInFrame (length mid.locals.items + here.height) to → HasReadOperand mid new p q here e o → v ≡ q ++ on_line here.line (r.At o.address to) ∷ [] → HasEmitted old new p v here (λ s. IsTypedWhen s (At e)) (λ t. when_code t (At e))

@@ -1,6 +1,6 @@
 -- What the generator emits for each form of an expression.
 use Rattle.std.proofs.Common.{◌≡◌, ℕ, ◌+◌, ◌<◌, ◌^◌, List, [], ◌∷◌, ◌++◌, length, get_or, take, Some, None, refl, sym, ap, ◌∙◌, arith}
-use Rattle.ss_code_generator.proofs.Common.{Address, after, asking_member, asking_set, calculating, code_of, Constant, expression_code, fetching, field_mode, Final, Generator, Global, HasEmittedTo, HasGrown, HasMode, HasPrintModes, HasReadOperand, height, Held, Instruction, Integer, IsAround, IsInteger, IsLocated, IsSiteOperand, IsSiteTarget, IsTyped, Lined, Local, MemberQuery, Mode, mode_at, moving, on_line, Operand, operand, operand_code, operator_of, or_integer, place, Placed, pos, SetQuery, Sign, Site, slice_get, take_all, take_more, Target, TypedScope, Value, Variable, view_expression, view_program, Whole, with_operand}
+use Rattle.ss_code_generator.proofs.Common.{Address, after, asking_member, asking_set, calculating, code_of, Constant, expression_code, fetching, field_mode, Final, Generator, Global, HasEmittedTo, HasGrown, HasMode, HasNoMore, HasPrintModes, HasReadOperand, height, Held, Instruction, Integer, IsAround, IsInteger, IsLocated, IsSiteOperand, IsSiteTarget, IsTyped, Lined, Local, MemberQuery, Mode, mode_at, moving, on_line, Operand, operand, operand_code, operator_of, or_integer, place, Placed, pos, SetQuery, Sign, Site, slice_get, take_all, take_more, Target, TypedScope, Value, Variable, view_expression, view_program, Whole, with_operand}
 use Rattle.std.proofs.lemmas.List.Sums.{fold-append}
 use Rattle.ss_code_generator.specs.Calculations.{with_operations, HasEmittedExpression, operation_code, LeftOperand, HasOperated}
 use Rattle.ss_code_instructions.specs.Carried.{IsCarriedOut, IsInFrame, IsVariableAt}
@@ -16,10 +16,10 @@ use Rattle.ss_code_instructions.specs.Instructions as i
 use Rattle.ss_code_generator.specs.declared.expressions.Operand.{Operand as Read}
 use Rattle.ss_code_generator.specs.declared.generator.Site.{Site as Here}
 use Rattle.ss_code_pieces.specs.Preamble.{mode_in}
-use Rattle.ss_code_generator.proofs.Emitting.{around_old, grows_then, stands_old, adds_then, adds_one, adds_same, makes_later, emits_one}
+use Rattle.ss_code_generator.proofs.Emitting.{around_old, grows_same, grows_then, stands_old, adds_then, adds_one, adds_same, makes_later, emits_one}
 use Rattle.ss_code_generator.proofs.Forms as forms
 use Rattle.ss_code_generator.proofs.Modes.{held_mode, has_field}
-use Rattle.ss_code_generator.proofs.Operands.{cell_reads_at, read_stands}
+use Rattle.ss_code_generator.proofs.Operands.{cell_reads_at, read_stands, one_read}
 
 -- ## Forms without an operand
 
@@ -55,18 +55,9 @@ module _ (old new : Generator) (p : Lined) (here : Here) (to : Address) where
       IsCarriedOut (code_of f.program) f.constants (place (after t e) (make x (operand t e))) y × HasPrintModes f.prints (after t e).cells (make x (operand t e))
 
   pub one_emitted : (q s : Lined) (e : Expression) (o : Read) (g : Generator) (Good : TypedScope → Type 0) (make : Target → Operand → Instruction) (y : Running) → HasGrown g new → HasReadOperand old g p q here e o → ((k : TypedScope) → Good k → HasMode k e Integer) → s ≡ q ++ on_line here.line y ∷ [] → Suits e o new Good make y → HasEmittedTo old new p s here to Good (λ t x. with_operand t e (make x))
-  one_emitted q s e o g Good make y grows m number is suits = record {
-    grows = grows_then old g new m.grows grows;
-    adds = λ f t x around located fits.
-        let mine = around_old f g new grows around in
-        let there = stands_old f g new here t grows located in
-        let typed : IsTyped e t.scope = (Integer, number t.scope fits.1) in
-        let read = m.more f t tt mine there typed in
-        let c = suits f t x around located fits.0 fits.1 read.at in
-        adds_then f p q s (operand_code t e) (place (after t e) (make x (operand t e)) ∷ []) (m.adds f t tt mine there typed)
-        (adds_one f q s here.line (place (after t e) (make x (operand t e))) y is located.line (record { carries = c.0; deep = read.deep; shown = c.1 }));
-    more = λ f t x around located fits. tt;
-  }
+  one_emitted q s e o g Good make y grows m number is suits =
+      one_read old old new p q s here e o (λ f t (x : Target). IsSiteTarget f t x to × Good t.scope) HasNoMore (λ t x. make x) y (grows_same old) (makes_later old g new p q here _ _ _ grows m) is
+      (λ f t x fits. (Integer, number t.scope fits.1)) (λ f t x around located fits read. suits f t x around located fits.0 fits.1 read.at) (λ f t x read. tt)
 
   module _ (q s : Lined) (e : Expression) (o : Read) (g : Generator) (grows : HasGrown g new) (m : HasReadOperand old g p q here e o) where
     pub attribute_emitted : (class field : ℕ) (n : Mode) → ((f : Final) (t : Site) → IsAround f new → IsLocated f new here t → or_integer (field_mode t.scope.program class field) ≡ n) → s ≡ q ++ on_line here.line (fetching n class field o.address to) ∷ [] → HasEmittedExpression old new p s here to (Attribute class field e)
