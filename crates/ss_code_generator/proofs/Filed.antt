@@ -1,10 +1,10 @@
 -- What the generator emits for members of sets.
 use Rattle.std.proofs.Common.{◌≡◌, ℕ, ◌+◌, ◌<◌, ◌^◌, Bool, true, false, [], ◌∷◌, ◌++◌, refl, sym, ap, ◌∙◌, if◌then◌else◌}
-use Rattle.ss_code_generator.proofs.Common.{filing_instruction, filing_of, Final, Generator, HasBorne, HasEmitted, HasPrintModes, HasReadBy, HasReadOperand, Integer, IsAround, IsCarriedOut, IsInteger, IsRead, IsSiteBearer, IsSiteOperand, IsTypedOwner, IsTypedStatement, IsTypedTest, Lined, OfCount, on_line, Ordering, slice_get, view_program}
+use Rattle.ss_code_generator.proofs.Common.{Address, End, filing_instruction, filing_of, Final, Generator, HasAssignedLanded, HasBorne, HasEmitted, HasGrown, HasPrintModes, HasReadBy, HasReadOperand, Integer, IsAround, IsCarriedOut, IsInteger, IsRead, IsSiteBearer, IsSiteOperand, IsSpot, IsTypedOwner, IsTypedStatement, IsTypedTest, Lined, OfCount, on_line, Ordering, place_code, remove_end_code, removing, slice_get, Spot, spot_cells, view_program}
 use Rattle.ss_code_instructions.specs.Facts.{expression_of, watch, may_fault}
 use Rattle.ss_code_instructions.specs.Instructions.{Instruction, Operand, Bearer, FilingPlace}
 use Rattle.ss_code_instructions.specs.Translation.{after, after_bearer, bearer, bearer_code, code_of, operand, place, Site, stay, with_owner, member_code, file_code, remove_code, test_code, filing_by}
-use Rattle.ss_program.specs.Program.{Expression, Program, SetOwner, ByDiscipline, AsFirst, AsLast, BeforeMember, AfterMember, File, Member}
+use Rattle.ss_program.specs.Program.{Expression, Place, Program, RemoveEnd, SetOwner, ByDiscipline, AsFirst, AsLast, BeforeMember, AfterMember, File, Member}
 use Rattle.ss_code_instructions.specs.declared.instruction.Instruction.{Instruction as Running}
 use Rattle.ss_code_instructions.specs.declared.instruction.Instruction.TheVariants as r
 use Rattle.ss_code_instructions.specs.Instructions as i
@@ -15,6 +15,7 @@ use Rattle.ss_code_generator.proofs.Emitting.{around_old, grows_same, grows_then
 use Rattle.ss_code_generator.proofs.Forms as forms
 use Rattle.ss_code_generator.proofs.Operands.{read_stands, stays_at, one_read}
 use Rattle.ss_code_generator.proofs.Testing.{owner_number, emits_where}
+use Rattle.ss_code_generator.proofs.Letting.{MakesSpot, Lands, to_place_by}
 
 -- whether a statistic watches a set, as the generator knows it
 pub counts_noted : (f : Final) (g : Generator) (set : ℕ) (noted : Bool) → IsAround f g → noted ≡ watch g.program.now.statistics.items (OfCount set) → noted ≡ false → watch (code_of f.program).setting.statistics (OfCount set) ≡ false
@@ -120,3 +121,20 @@ member_beside old one two new p q v w s here higher highest set e beside o membe
           (adds_one f w s here.line (place t3 ins) y is located.line (record { carries = carries; deep = borne.deep; shown = tt })))));
       more = λ f t u around located good. tt;
     }
+
+-- ## REMOVE FIRST and REMOVE LAST
+
+-- the place, the owner, the member that is removed, and what is left to do for the place
+pub end_removed : (old mid one new : Generator) (p q v w z : Lined) (here higher : Here) (x : Place) (s : Spot) (end : End) (set : ℕ) (o : SetOwner) (owner : Read) (to : Address) (noted : Bool) → MakesSpot old mid p q here (λ t. place_code t x) x s → higher.line ≡ here.line → (here.height + spot_cells s < 2 ^ 64 → higher.height ≡ here.height + spot_cells s) → HasBorne mid one q v higher (expression_of o) owner → HasGrown one new → Lands new higher s to → noted ≡ watch new.program.now.statistics.items (OfCount set) → w ≡ v ++ on_line here.line (removing end set owner.address to noted) ∷ [] → HasAssignedLanded new w z higher to (λ f t k. IsSpot f t k s) → HasEmitted old new p z here (λ k. IsTypedStatement k (RemoveEnd here.line end set x o)) (λ t. remove_end_code t end set x o)
+end_removed old mid one new p q v w z here higher x s end set o owner to noted l line up b g land watched is n =
+    to_place_by old mid new p q w z here higher x Integer s to (λ k. IsTypedStatement k (RemoveEnd here.line end set x o)) (λ u k. with_owner u o (λ y. i.RemoveEnd end set y k)) l line up (grows_then mid one new b.grows g) land (λ k h. h.0) (λ f u k around on at good.
+    let c = expression_of o in
+    let t2 : Site = after_bearer u c in
+    let number = owner_number u.scope set o good.1 in
+    let around1 = around_old f one new g around in
+    let on1 = stands_old f one new higher u g on in
+    let borne = b.more f u tt around1 on1 number in
+    let ins : Instruction = i.RemoveEnd end set (bearer u c) k in
+    let carries = forms.removes (code_of f.program) f.constants (place t2 ins) end set owner.address to noted (counts_noted f new set noted around watched) (bearer u c, borne.at, (k, at, refl)) in
+    adds_then f q v w (bearer_code u c) (place t2 ins ∷ []) (b.adds f u tt around1 on1 number)
+    (adds_one f v w here.line (place t2 ins) (removing end set owner.address to noted) is (on.line ∙ line) (record { carries = carries; deep = borne.deep; shown = tt }))) n

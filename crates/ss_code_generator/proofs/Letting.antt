@@ -1,7 +1,7 @@
 -- LET, ADD and SUBTRACT, and what takes a value that an instruction leaves.
 use Rattle.std.proofs.Common.{◌≡◌, ℕ, ◌+◌, ◌<◌, ◌≤◌, ◌^◌, Bool, true, false, List, [], ◌∷◌, ◌++◌, length, Some, refl, sym, ap, ◌∙◌, subst, arith, if◌then◌else◌}
-use Rattle.ss_code_generator.proofs.Common.{Address, AttributeSpot, calculating, CanTakeMode, CountedClass, Generator, Global, HasMode, Held, Instruction, Integer, IsCarriedOut, IsInFrame, IsTypedStatement, Leave, Lined, Mode, mode_at, mode_here, must_look, OfAttribute, on_line, operator_of, Placed, RunningLines, Sign, Spot, storing, Taken, Target, Variable, VariableSpot, watch}
-use Rattle.ss_code_generator.specs.Emitted.{Final, HasEmitted, HasGenerated, HasGrown, HasPrintModes, HasReadOperand, IsAround, IsInteger, IsLocated, IsSiteOperand, IsSiteTarget, IsTyped, HasNoMore}
+use Rattle.ss_code_generator.proofs.Common.{Address, AttributeSpot, calculating, CanTakeMode, CountedClass, Generator, Global, HasMode, Held, Instruction, Integer, IsCarriedOut, IsInFrame, IsTypedStatement, Leave, Lined, Mode, mode_at, mode_here, must_look, OfAttribute, on_line, operator_of, Placed, RunningLines, Sign, Spot, storing, Taken, Target, TypedScope, Variable, VariableSpot, watch}
+use Rattle.ss_code_generator.specs.Emitted.{Final, HasAdded, HasEmitted, HasGenerated, HasGrown, HasPrintModes, HasReadOperand, IsAround, IsInteger, IsLocated, IsSiteOperand, IsSiteTarget, IsTyped, HasNoMore}
 use Rattle.ss_code_generator.specs.Spots.{Assignment, HasAssigned, HasAssignedLanded, HasHeldMode, HasTargetRoom, IsSpot, IsTypedPlace, IsVariable, IsWatchedAs, landed_code, landing, spot_cells, Taking, Changed, place_variable, IsHeldBy, spot_code, assigned_code}
 use Rattle.ss_code_instructions.specs.Translation.{above, after, after_place, code_of, entity_code, expression_code, height, is_kept, next, operand, operand_code, or_integer, place, place_code, Site, to_place_code, with_operand, place_mode, count_code, let_code, change_code, give_code}
 use Rattle.ss_program.specs.Program.{Expression, Place, Program, ToAttribute, ToCount, ToVariable, Let, Change}
@@ -192,26 +192,33 @@ abbrev pub MakesSpot : (old new : Generator) → (before after : Lined) → Here
 MakesSpot old new before after here c x s =
     HasGenerated old new before after here (λ f t (u : Unit {0}). IsTypedPlace x t.scope) (λ t u. c t) (λ f t u. IsSpot f t x s)
 
-pub to_place_made : (old mid new : Generator) (p q v w : Lined) (here higher : Here) (x : Place) (m : Mode) (s : Spot) (to : Address) (y : Running) (make : Target → Instruction) → MakesSpot old mid p q here (λ t. place_code t x) x s → higher.line ≡ here.line → (here.height + spot_cells s < 2 ^ 64 → higher.height ≡ here.height + spot_cells s) → HasGrown mid new → Lands new higher s to → ((f : Final) (u : Site) (z : Target) → IsSiteTarget f u z to → IsCarriedOut (code_of f.program) f.constants (place u (make z)) y) → ((prints : List RunningLines) (cells : List Mode) (z : Target) → HasPrintModes prints cells (make z)) → v ≡ q ++ on_line here.line y ∷ [] → HasAssignedLanded new v w higher to (λ f t z. IsSpot f t z s) → HasEmitted old new p w here (λ k. CanTakeMode k x m) (λ t. to_place_code t x m (λ u z. place u (make z) ∷ []))
-to_place_made old mid new p q v w here higher x m s to y make l line up g land carries shown is n = record {
+-- a place whose value comes of this code
+pub to_place_by : (old mid new : Generator) (p q v w : Lined) (here higher : Here) (x : Place) (m : Mode) (s : Spot) (to : Address) (Good : TypedScope → Type 0) (source : Site → Target → List Placed) → MakesSpot old mid p q here (λ t. place_code t x) x s → higher.line ≡ here.line → (here.height + spot_cells s < 2 ^ 64 → higher.height ≡ here.height + spot_cells s) → HasGrown mid new → Lands new higher s to → ((k : TypedScope) → Good k → CanTakeMode k x m) → ((f : Final) (u : Site) (z : Target) → IsAround f new → IsLocated f new higher u → IsSiteTarget f u z to → Good u.scope → HasAdded f q v (source u z)) → HasAssignedLanded new v w higher to (λ f t z. IsSpot f t z s) → HasEmitted old new p w here Good (λ t. to_place_code t x m source)
+to_place_by old mid new p q v w here higher x m s to Good source l line up g land takes leaves n = record {
   grows = grows_then old mid new l.grows g;
   adds = λ f t u around located good.
       let mine = around_old f mid new g around in
       let there = stands_old f mid new here t g located in
-      let fits : IsTypedPlace x t.scope = (m, good) in
+      let can : CanTakeMode t.scope x m = takes t.scope good in
+      let fits : IsTypedPlace x t.scope = (m, can) in
       let spot = l.more f t tt mine there fits in
       let t1 : Site = after_place t x in
       let on = spot_stands f new here higher t x s around located spot line up in
       let at = land f t t1 x around on refl spot in
       let lands : Target = landing t1 x in
       let it : Taking = record { resolved = t; place = x; mode = m } in
-      adds_same f p w (place_code t x ++ (place t1 (make lands) ∷ [] ++ landed_code t t1 x m)) (to_place_code t x m (λ u z. place u (make z) ∷ [])) (to_place_parts t x m (λ u z. place u (make z) ∷ []))
-      (adds_then f p q w (place_code t x) (place t1 (make lands) ∷ [] ++ landed_code t t1 x m) (l.adds f t tt mine there fits)
-      (adds_then f q v w (place t1 (make lands) ∷ []) (landed_code t t1 x m)
-      (adds_one f q v here.line (place t1 (make lands)) y is located.line (record { carries = carries f t1 lands at.0; deep = on.deep; shown = shown f.prints t1.cells lands }))
-      (n.adds f t1 it around on (spot, refl, at.0, at.1, holds_mode f new here t x m around located good))));
+      adds_same f p w (place_code t x ++ (source t1 lands ++ landed_code t t1 x m)) (to_place_code t x m source) (to_place_parts t x m source)
+      (adds_then f p q w (place_code t x) (source t1 lands ++ landed_code t t1 x m) (l.adds f t tt mine there fits)
+      (adds_then f q v w (source t1 lands) (landed_code t t1 x m) (leaves f t1 lands around on at.0 good)
+      (n.adds f t1 it around on (spot, refl, at.0, at.1, holds_mode f new here t x m around located can))));
   more = λ f t u around located good. tt;
 }
+
+-- of one instruction
+pub to_place_made : (old mid new : Generator) (p q v w : Lined) (here higher : Here) (x : Place) (m : Mode) (s : Spot) (to : Address) (y : Running) (make : Target → Instruction) → MakesSpot old mid p q here (λ t. place_code t x) x s → higher.line ≡ here.line → (here.height + spot_cells s < 2 ^ 64 → higher.height ≡ here.height + spot_cells s) → HasGrown mid new → Lands new higher s to → ((f : Final) (u : Site) (z : Target) → IsSiteTarget f u z to → IsCarriedOut (code_of f.program) f.constants (place u (make z)) y) → ((prints : List RunningLines) (cells : List Mode) (z : Target) → HasPrintModes prints cells (make z)) → v ≡ q ++ on_line here.line y ∷ [] → HasAssignedLanded new v w higher to (λ f t z. IsSpot f t z s) → HasEmitted old new p w here (λ k. CanTakeMode k x m) (λ t. to_place_code t x m (λ u z. place u (make z) ∷ []))
+to_place_made old mid new p q v w here higher x m s to y make l line up g land carries shown is n =
+    to_place_by old mid new p q v w here higher x m s to (λ k. CanTakeMode k x m) (λ u z. place u (make z) ∷ []) l line up g land (λ k h. h) (λ f u z around on at good.
+    adds_one f q v here.line (place u (make z)) y is (on.line ∙ line) (record { carries = carries f u z at; deep = on.deep; shown = shown f.prints u.cells z })) n
 
 -- ## A place that takes the value in the topmost cell
 
