@@ -16,7 +16,7 @@ use Rattle.ss_code_instructions.specs.declared.instruction.Instruction.{Instruct
 use Rattle.ss_code_instructions.specs.declared.instruction.Instruction.TheVariants as r
 use Rattle.ss_code_instructions.specs.Instructions as i
 use Rattle.ss_code_generator.specs.declared.generator.Site.{Site as Here}
-use Rattle.ss_code_generator.proofs.Emitting.{around_old, grows_same, grows_then, stands_old, adds_none, adds_then, adds_one, adds_piece, adds_apart, adds_same, piece_long, none_there, emits_one}
+use Rattle.ss_code_generator.proofs.Emitting.{around_old, grows_same, grows_then, stands_old, adds_none, adds_then, adds_one, adds_piece, adds_apart, adds_same, piece_long, none_there, emits_one, emits}
 use Rattle.ss_code_generator.proofs.PrintLines.{prints_then, prints_long}
 use Rattle.ss_code_generator.proofs.Rounds.{for_looped}
 
@@ -49,13 +49,9 @@ said old new a b h l prints s form Fits c m is line fits none same = subst (λ (
 
     base : HasEmittedStatement old new a b h prints prints (view_statement form)
     base = record {
-      code = record {
-        grows = m.grows;
-        adds = λ f t u around located good.
-            adds_same f a b (c (site_at_line t l)) (statement_code t (length prints) (view_statement form)) (ap (λ k. c (site_at_line t k)) (line ∙ ap line_or_none w) ∙ same (length prints) t)
-            (m.adds f (site_at_line t l) tt around (lined f new h l t located) (fits t.scope good.1));
-        more = λ f t u around located good. tt;
-      };
+      code = emits m.grows (λ f t u around located good.
+          adds_same f a b (c (site_at_line t l)) (statement_code t (length prints) (view_statement form)) (ap (λ k. c (site_at_line t k)) (line ∙ ap line_or_none w) ∙ same (length prints) t)
+          (m.adds f (site_at_line t l) tt around (lined f new h l t located) (fits t.scope good.1)));
       prints = none_printed prints (statement_prints (view_statement form)) none;
     }
 
@@ -78,15 +74,11 @@ module _ (g0 g1 : Generator) (h : ℕ) (inner : Lined) (p0 p1 : List RunningLine
   -- WHILE and UNTIL
   pub loop_said : (g2 : Generator) (x y : Lined) (l : Line) (gs : List Guard) → HasEmittedAround g1 g2 x y (record { line = l; height = h }) inner (λ s. Every (λ (g : Guard). IsTypedCondition s g.condition) gs) (λ t b. loop_code t gs b) → HasEmittedStatement g0 g2 x y h p0 p1 (p.Loop l gs a)
   loop_said g2 x y l gs n = record {
-    code = record {
-      grows = grows_then g0 g1 g2 m.code.grows n.grows;
-      adds = λ f t u around located good.
-          let good' : IsTypedStatement t.scope (p.Loop l gs a) = good.1 in
-          let b : List Placed = block_code t (length p0) a in
-          let made : HasAdded f no_code inner b = block_adds f g2 p1 [] t n.grows none_more around located good.0 good'.1 in
-          n.adds f (site_at_line t l) b around (lined f g2 h l t located) (made, good'.0);
-      more = λ f t u around located good. tt;
-    };
+    code = emits (grows_then g0 g1 g2 m.code.grows n.grows) (λ f t u around located good.
+        let good' : IsTypedStatement t.scope (p.Loop l gs a) = good.1 in
+        let b : List Placed = block_code t (length p0) a in
+        let made : HasAdded f no_code inner b = block_adds f g2 p1 [] t n.grows none_more around located good.0 good'.1 in
+        n.adds f (site_at_line t l) b around (lined f g2 h l t located) (made, good'.0));
     prints = m.prints;
   }
 
@@ -98,19 +90,15 @@ loop_line t l _ = refl
 -- FOR
 pub for_said : (g0 g1 g2 g3 g4 : Generator) (x y inner turn : Lined) (h : ℕ) (above_here : Here) (p0 p1 : List RunningLines) (l : Line) (head : Head) (ps : List Phrase) (a : Block) (cells : ℕ) → cells ≡ loop_width head → above_here.line ≡ l → (h + cells < 2 ^ 64 → above_here.height ≡ h + cells) → HasGrown g0 g1 → above_here.height ≤ g1.deepest → HasEmittedBlock g1 g2 inner above_here.height p0 p1 a → HasEmittedAround g2 g3 no_code turn above_here inner (λ s. Every (IsTypedPhrase s) ps) (λ t b. phrases_code t ps b) → HasEmittedAround g3 g4 x y (record { line = l; height = h }) turn (λ s. IsTypedHead s head) (λ t b. for_code t head b) → HasEmittedStatement g0 g4 x y h p0 p1 (p.For l head ps a)
 for_said g0 g1 g2 g3 g4 x y inner turn h above_here p0 p1 l head ps a cells wide up_line up reach room m n o = record {
-  code = record {
-    grows = grows_then g0 g1 g4 reach (grows_then g1 g2 g4 m.code.grows (grows_then g2 g3 g4 n.grows o.grows));
-    adds = λ f t u around located good.
-        let good' : IsTypedStatement t.scope (p.For l head ps a) = good.1 in
-        let u : Site = in_loop (site_at_line t l) head in
-        let v : Site = in_loop t head in
-        let b : List Placed = block_code v (length p0) a in
-        let cells_same : loop_cells (site_at_line t l) head ≡ loop_cells t head = loop_line t l head in
-        let made = λ (around2 : IsAround f g2) (high : IsLocated f g2 above_here u).
-        m.code.adds f v tt around2 (record { program = high.program; locals = high.locals; line = located.line; high = sym (ap length cells_same) ∙ high.high; deep = subst (λ (ms : List Mode). length ms ≤ f.depth) cells_same high.deep }) (good.0, good'.2) in
-        for_looped f g1 g2 g3 g4 x y inner turn (record { line = l; height = h }) above_here head ps cells (site_at_line t l) b wide up_line up room m.code.grows made n o around (lined f g4 h l t located) good'.0 good'.1;
-    more = λ f t u around located good. tt;
-  };
+  code = emits (grows_then g0 g1 g4 reach (grows_then g1 g2 g4 m.code.grows (grows_then g2 g3 g4 n.grows o.grows))) (λ f t u around located good.
+      let good' : IsTypedStatement t.scope (p.For l head ps a) = good.1 in
+      let u : Site = in_loop (site_at_line t l) head in
+      let v : Site = in_loop t head in
+      let b : List Placed = block_code v (length p0) a in
+      let cells_same : loop_cells (site_at_line t l) head ≡ loop_cells t head = loop_line t l head in
+      let made = λ (around2 : IsAround f g2) (high : IsLocated f g2 above_here u).
+      m.code.adds f v tt around2 (record { program = high.program; locals = high.locals; line = located.line; high = sym (ap length cells_same) ∙ high.high; deep = subst (λ (ms : List Mode). length ms ≤ f.depth) cells_same high.deep }) (good.0, good'.2) in
+      for_looped f g1 g2 g3 g4 x y inner turn (record { line = l; height = h }) above_here head ps cells (site_at_line t l) b wide up_line up room m.code.grows made n o around (lined f g4 h l t located) good'.0 good'.1);
   prints = m.prints;
 }
 
@@ -132,32 +120,24 @@ module _ (g0 g1 g2 : Generator) (h : ℕ) (first second : Lined) (p0 p1 p2 : Lis
   -- IF
   pub if_said : (g3 : Generator) (x y : Lined) (l : Line) (c : Condition) → HasEmittedAroundBoth g2 g3 x y (record { line = l; height = h }) first second (λ s. IsTypedCondition s c) (λ t s. if_code t c s.first s.second) → HasEmittedStatement g0 g3 x y h p0 p2 (p.If l c a b)
   if_said g3 x y l c o = record {
-    code = record {
-      grows = grows_then g0 g1 g3 m.code.grows (grows_then g1 g2 g3 n.code.grows o.grows);
-      adds = λ f t u around located good.
-          let good' : IsTypedStatement t.scope (p.If l c a b) = good.1 in
-          let made = both_add f g3 t o.grows around located good.0 good'.1 good'.2 in
-          let one : List Placed = block_code t (length p0) a in
-          let two : List Placed = block_code t (length p0 + length (block_prints a)) b in
-          o.adds f (site_at_line t l) (record { first = one; second = two }) around (lined f g3 h l t located) (made.0, made.1, good'.0);
-      more = λ f t u around located good. tt;
-    };
+    code = emits (grows_then g0 g1 g3 m.code.grows (grows_then g1 g2 g3 n.code.grows o.grows)) (λ f t u around located good.
+        let good' : IsTypedStatement t.scope (p.If l c a b) = good.1 in
+        let made = both_add f g3 t o.grows around located good.0 good'.1 good'.2 in
+        let one : List Placed = block_code t (length p0) a in
+        let two : List Placed = block_code t (length p0 + length (block_prints a)) b in
+        o.adds f (site_at_line t l) (record { first = one; second = two }) around (lined f g3 h l t located) (made.0, made.1, good'.0));
     prints = both_prints;
   }
 
   -- FIND
   pub find_said : (g3 : Generator) (x y : Lined) (l : Line) (head : Head) (ps : List Phrase) → HasEmittedAroundBoth g2 g3 x y (record { line = l; height = h }) first second (λ s. IsTypedHead s head × Every (IsTypedPhrase s) ps) (λ t s. find_code t head ps s.first s.second) → HasEmittedStatement g0 g3 x y h p0 p2 (p.Find l head ps a b)
   find_said g3 x y l head ps o = record {
-    code = record {
-      grows = grows_then g0 g1 g3 m.code.grows (grows_then g1 g2 g3 n.code.grows o.grows);
-      adds = λ f t u around located good.
-          let good' : IsTypedStatement t.scope (p.Find l head ps a b) = good.1 in
-          let made = both_add f g3 t o.grows around located good.0 good'.2 good'.3 in
-          let one : List Placed = block_code t (length p0) a in
-          let two : List Placed = block_code t (length p0 + length (block_prints a)) b in
-          o.adds f (site_at_line t l) (record { first = one; second = two }) around (lined f g3 h l t located) (made.0, made.1, (good'.0, good'.1));
-      more = λ f t u around located good. tt;
-    };
+    code = emits (grows_then g0 g1 g3 m.code.grows (grows_then g1 g2 g3 n.code.grows o.grows)) (λ f t u around located good.
+        let good' : IsTypedStatement t.scope (p.Find l head ps a b) = good.1 in
+        let made = both_add f g3 t o.grows around located good.0 good'.2 good'.3 in
+        let one : List Placed = block_code t (length p0) a in
+        let two : List Placed = block_code t (length p0 + length (block_prints a)) b in
+        o.adds f (site_at_line t l) (record { first = one; second = two }) around (lined f g3 h l t located) (made.0, made.1, (good'.0, good'.1)));
     prints = both_prints;
   }
 
@@ -172,14 +152,10 @@ good_items s (f ∷ fs) (AMeanOf k e ∷ xs) h = (h.0.1, good_items s fs xs h.1)
 
 pub print_said : (g0 g1 : Generator) (x y : Lined) (h : ℕ) (p0 p1 : List RunningLines) (l l' : Line) (items : List PrintItem) (pictures : List (List ℕ)) → l ≡ l' → HasPrintedLines g0 g1 x y (record { line = l; height = h }) p0 p1 items pictures → HasEmittedStatement g0 g1 x y h p0 p1 (p.Print l' items pictures)
 print_said g0 g1 x y h p0 p1 l l' items pictures line m = record {
-  code = record {
-    grows = m.code.grows;
-    adds = λ f t u around located good.
-        let good' : IsTypedStatement t.scope (p.Print l' items pictures) = good.1 in
-        let code = λ (k : Line). items_code (site_at_line t k) items ++ place (after_items (site_at_line t k) items) (i.Print (length p0) (height t)) ∷ [] in
-        adds_same f x y (code l) (code l') (ap code line) (m.code.adds f (site_at_line t l) tt around (lined f g1 h l t located) (good.0, good_items t.scope _ items good'));
-    more = λ f t u around located good. tt;
-  };
+  code = emits m.code.grows (λ f t u around located good.
+      let good' : IsTypedStatement t.scope (p.Print l' items pictures) = good.1 in
+      let code = λ (k : Line). items_code (site_at_line t k) items ++ place (after_items (site_at_line t k) items) (i.Print (length p0) (height t)) ∷ [] in
+      adds_same f x y (code l) (code l') (ap code line) (m.code.adds f (site_at_line t l) tt around (lined f g1 h l t located) (good.0, good_items t.scope _ items good')));
   prints = m.prints;
 }
 
@@ -205,42 +181,30 @@ every_good_more s (y ∷ xs) x h = let k = every_good_more s xs x h.1 in ((h.0, 
 
 pub body_more : (g0 g1 g2 : Generator) (x y : Lined) (h : ℕ) (p0 p1 p2 : List RunningLines) (xs : List Statement) (s : Statement) → HasEmittedBlock g0 g1 x h p0 p1 (block_of xs) → HasEmittedStatement g1 g2 x y h p1 p2 s → HasEmittedBlock g0 g2 y h p0 p2 (block_of (xs ++ s ∷ []))
 body_more g0 g1 g2 x y h p0 p1 p2 xs s m n = record {
-  code = record {
-    grows = grows_then g0 g1 g2 m.code.grows n.code.grows;
-    adds = λ f t u around located good.
-        let parts = every_good_more t.scope xs s good.1 in
-        let long : length p1 ≡ length p0 + length (block_prints (block_of xs)) = prints_long p0 p1 (block_prints (block_of xs)) m.prints in
-        let last : HasAdded f x y (statement_code t (length p0 + length (block_prints (block_of xs))) s) =
-        adds_same f x y (statement_code t (length p1) s) (statement_code t (length p0 + length (block_prints (block_of xs))) s) (ap (λ k. statement_code t k s) long) (n.code.adds f t tt around located (good.0, parts.1)) in
-        let before : HasAdded f no_code x (block_code t (length p0) (block_of xs)) =
-        m.code.adds f t tt (around_old f g1 g2 n.code.grows around) (stands_old f g1 g2 (statement_site h) t n.code.grows located) (has_prints_old f p1 p2 (statement_prints s) n.prints good.0, parts.0) in
-        adds_same f no_code y (block_code t (length p0) (block_of xs) ++ statement_code t (length p0 + length (block_prints (block_of xs))) s) (block_code t (length p0) (block_of (xs ++ s ∷ []))) (sym (every_code_more t (length p0) xs s))
-        (adds_then f no_code x y (block_code t (length p0) (block_of xs)) (statement_code t (length p0 + length (block_prints (block_of xs))) s) before last);
-    more = λ f t u around located good. tt;
-  };
+  code = emits (grows_then g0 g1 g2 m.code.grows n.code.grows) (λ f t u around located good.
+      let parts = every_good_more t.scope xs s good.1 in
+      let long : length p1 ≡ length p0 + length (block_prints (block_of xs)) = prints_long p0 p1 (block_prints (block_of xs)) m.prints in
+      let last : HasAdded f x y (statement_code t (length p0 + length (block_prints (block_of xs))) s) =
+      adds_same f x y (statement_code t (length p1) s) (statement_code t (length p0 + length (block_prints (block_of xs))) s) (ap (λ k. statement_code t k s) long) (n.code.adds f t tt around located (good.0, parts.1)) in
+      let before : HasAdded f no_code x (block_code t (length p0) (block_of xs)) =
+      m.code.adds f t tt (around_old f g1 g2 n.code.grows around) (stands_old f g1 g2 (statement_site h) t n.code.grows located) (has_prints_old f p1 p2 (statement_prints s) n.prints good.0, parts.0) in
+      adds_same f no_code y (block_code t (length p0) (block_of xs) ++ statement_code t (length p0 + length (block_prints (block_of xs))) s) (block_code t (length p0) (block_of (xs ++ s ∷ []))) (sym (every_code_more t (length p0) xs s))
+      (adds_then f no_code x y (block_code t (length p0) (block_of xs)) (statement_code t (length p0 + length (block_prints (block_of xs))) s) before last));
   prints = subst (HasPrinted p0 p2) (sym (every_print_more xs s)) (prints_then p0 p1 p2 (block_prints (block_of xs)) (statement_prints s) m.prints n.prints);
 }
 
 pub body_none : (g : Generator) (x : Lined) (h : ℕ) (prints : List RunningLines) → x ≡ no_code → HasEmittedBlock g g x h prints prints Done
 body_none g x h prints e = record {
-  code = record {
-    grows = grows_same g;
-    adds = λ f t u around located good. subst (λ (y : Lined). HasAdded f no_code y []) (sym e) (adds_none f no_code);
-    more = λ f t u around located good. tt;
-  };
+  code = emits (grows_same g) (λ f t u around located good. subst (λ (y : Lined). HasAdded f no_code y []) (sym e) (adds_none f no_code));
   prints = ([], sym (append-nil prints), refl);
 }
 
 -- and a return at the end
 pub section_said : (g0 g1 : Generator) (x y : Lined) (p0 p1 : List RunningLines) (b : Block) → HasEmittedBlock g0 g1 x 0 p0 p1 b → y ≡ x ++ on_line no_line r.Leave ∷ [] → HasPrintedBy g0 g1 no_code y (statement_site 0) p0 p1 (λ s. IsTypedBlock s b) (block_prints b) (λ first t. block_code t first b ++ place t i.Leave ∷ [])
 section_said g0 g1 x y p0 p1 b m is = record {
-  code = record {
-    grows = m.code.grows;
-    adds = λ f t u around located good.
-        adds_then f no_code x y (block_code t (length p0) b) (place t i.Leave ∷ []) (m.code.adds f t u around located good)
-        (adds_one f x y no_line (place t i.Leave) r.Leave is located.line (record { carries = refl; deep = located.deep; shown = tt }));
-    more = λ f t u around located good. tt;
-  };
+  code = emits m.code.grows (λ f t u around located good.
+      adds_then f no_code x y (block_code t (length p0) b) (place t i.Leave ∷ []) (m.code.adds f t u around located good)
+      (adds_one f x y no_line (place t i.Leave) r.Leave is located.line (record { carries = refl; deep = located.deep; shown = tt })));
   prints = m.prints;
 }
 
@@ -259,35 +223,29 @@ if_some t c a [] h = absurd (omega (arith, h))
 if_some t c a (x ∷ b) h = refl
 
 pub one_sided : (g0 g1 : Generator) (x y : Lined) (here : Here) (side other test : Lined) (c : Condition) (past : ℕ) → length other ≡ 0 → past ≡ length side → HasEmitted g0 g1 no_code test here (λ s. IsTypedCondition s c) (λ t. condition_code t past c) → y ≡ x ++ (test ++ side) → HasEmittedAroundBoth g0 g1 x y here side other (λ s. IsTypedCondition s c) (λ t b. if_code t c b.first b.second)
-one_sided g0 g1 x y here side other test c past none past_is m is = record {
-  grows = m.grows;
-  adds = λ f t b around located fits.
-      let empty : b.second ≡ [] = none_there f other b.second fits.1 none in
-      let long : past ≡ length b.first = past_is ∙ piece_long f side b.first fits.0 in
-      let cond : HasAdded f no_code test (condition_code t (length b.first) c) = adds_same f no_code test (condition_code t past c) (condition_code t (length b.first) c) (ap (λ k. condition_code t k c) long) (m.adds f t tt around located fits.2) in
-      adds_same f x y (condition_code t (length b.first) c ++ b.first) (if_code t c b.first b.second) (sym (if_none t c b.first b.second empty))
-      (sides_add f x y test side (condition_code t (length b.first) c) b.first is cond fits.0);
-  more = λ f t b around located fits. tt;
-}
+one_sided g0 g1 x y here side other test c past none past_is m is =
+    emits m.grows (λ f t b around located fits.
+    let empty : b.second ≡ [] = none_there f other b.second fits.1 none in
+    let long : past ≡ length b.first = past_is ∙ piece_long f side b.first fits.0 in
+    let cond : HasAdded f no_code test (condition_code t (length b.first) c) = adds_same f no_code test (condition_code t past c) (condition_code t (length b.first) c) (ap (λ k. condition_code t k c) long) (m.adds f t tt around located fits.2) in
+    adds_same f x y (condition_code t (length b.first) c ++ b.first) (if_code t c b.first b.second) (sym (if_none t c b.first b.second empty))
+    (sides_add f x y test side (condition_code t (length b.first) c) b.first is cond fits.0))
 
 pub two_sided : (g0 g1 : Generator) (x y1 y2 y3 : Lined) (here : Here) (side other test : Lined) (c : Condition) (past skip : ℕ) → (length other ≡ 0 → ⊥) → past ≡ length side + 1 → HasEmitted g0 g1 no_code test here (λ s. IsTypedCondition s c) (λ t. condition_code t past c) → y1 ≡ x ++ (test ++ side) → skip ≡ length other → y2 ≡ y1 ++ on_line here.line (r.Jump skip) ∷ [] → y3 ≡ y2 ++ other → HasEmittedAroundBoth g0 g1 x y3 here side other (λ s. IsTypedCondition s c) (λ t b. if_code t c b.first b.second)
-two_sided g0 g1 x y1 y2 y3 here side other test c past skip some past_is m is1 skip_is is2 is3 = record {
-  grows = m.grows;
-  adds = λ f t b around located fits.
-      let one : length side ≡ length b.first = piece_long f side b.first fits.0 in
-      let two : length other ≡ length b.second = piece_long f other b.second fits.1 in
-      let there : 0 < length b.second = positive (length other) (length b.second) some two in
-      let long : past ≡ length b.first + 1 = omega (arith, past_is, one) in
-      let cond : HasAdded f no_code test (condition_code t (length b.first + 1) c) = adds_same f no_code test (condition_code t past c) (condition_code t (length b.first + 1) c) (ap (λ k. condition_code t k c) long) (m.adds f t tt around located fits.2) in
-      let over : Placed = place t (i.Jump (length b.second)) in
-      let jump : HasAdded f y1 y2 (over ∷ []) = adds_one f y1 y2 here.line over (r.Jump skip) is2 located.line (record { carries = ap i.Jump (sym (skip_is ∙ two)); deep = located.deep; shown = tt }) in
-      let front : HasAdded f x y1 (condition_code t (length b.first + 1) c ++ b.first) = sides_add f x y1 test side (condition_code t (length b.first + 1) c) b.first is1 cond fits.0 in
-      let all : HasAdded f x y3 ((condition_code t (length b.first + 1) c ++ b.first) ++ (over ∷ b.second)) =
-      adds_then f x y1 y3 (condition_code t (length b.first + 1) c ++ b.first) (over ∷ b.second) front (adds_then f y1 y2 y3 (over ∷ []) b.second jump (adds_piece f y2 y3 other b.second is3 fits.1)) in
-      adds_same f x y3 ((condition_code t (length b.first + 1) c ++ b.first) ++ (over ∷ b.second)) (if_code t c b.first b.second)
-      (append_assoc (condition_code t (length b.first + 1) c) b.first (over ∷ b.second) ∙ sym (if_some t c b.first b.second there)) all;
-  more = λ f t b around located fits. tt;
-}
+two_sided g0 g1 x y1 y2 y3 here side other test c past skip some past_is m is1 skip_is is2 is3 =
+    emits m.grows (λ f t b around located fits.
+    let one : length side ≡ length b.first = piece_long f side b.first fits.0 in
+    let two : length other ≡ length b.second = piece_long f other b.second fits.1 in
+    let there : 0 < length b.second = positive (length other) (length b.second) some two in
+    let long : past ≡ length b.first + 1 = omega (arith, past_is, one) in
+    let cond : HasAdded f no_code test (condition_code t (length b.first + 1) c) = adds_same f no_code test (condition_code t past c) (condition_code t (length b.first + 1) c) (ap (λ k. condition_code t k c) long) (m.adds f t tt around located fits.2) in
+    let over : Placed = place t (i.Jump (length b.second)) in
+    let jump : HasAdded f y1 y2 (over ∷ []) = adds_one f y1 y2 here.line over (r.Jump skip) is2 located.line (record { carries = ap i.Jump (sym (skip_is ∙ two)); deep = located.deep; shown = tt }) in
+    let front : HasAdded f x y1 (condition_code t (length b.first + 1) c ++ b.first) = sides_add f x y1 test side (condition_code t (length b.first + 1) c) b.first is1 cond fits.0 in
+    let all : HasAdded f x y3 ((condition_code t (length b.first + 1) c ++ b.first) ++ (over ∷ b.second)) =
+    adds_then f x y1 y3 (condition_code t (length b.first + 1) c ++ b.first) (over ∷ b.second) front (adds_then f y1 y2 y3 (over ∷ []) b.second jump (adds_piece f y2 y3 other b.second is3 fits.1)) in
+    adds_same f x y3 ((condition_code t (length b.first + 1) c ++ b.first) ++ (over ∷ b.second)) (if_code t c b.first b.second)
+    (append_assoc (condition_code t (length b.first + 1) c) b.first (over ∷ b.second) ∙ sym (if_some t c b.first b.second there)) all)
   where
     positive : (n m : ℕ) → (n ≡ 0 → ⊥) → n ≡ m → 0 < m
     positive n zero h e = absurd (h e)

@@ -12,7 +12,7 @@ use Rattle.ss_code_instructions.specs.Instructions as i
 use Rattle.ss_meaning.proofs.Lists.{every_get}
 use Rattle.ss_code_generator.specs.declared.expressions.Operand.{Operand as Read}
 use Rattle.ss_code_generator.specs.declared.generator.Site.{Site as Here}
-use Rattle.ss_code_generator.proofs.Emitting.{around_old, grows_same, grows_then, stands_old, stands_above, adds_then, adds_one, adds_same}
+use Rattle.ss_code_generator.proofs.Emitting.{around_old, grows_same, grows_then, stands_old, stands_above, adds_then, adds_one, adds_same, emits}
 use Rattle.ss_code_generator.proofs.Operands.{one_read}
 
 -- ## What is yielded
@@ -48,27 +48,21 @@ GoodPlaces ps s = Every (λ (p : Place). IsTypedPlace p s) ps
 
 -- one place more, where the frame has room for all
 pub gives_more : (g0 g1 g2 : Generator) (x y z : Lined) (here lower : Here) (ps : List Place) (k count : ℕ) (p : Place) → slice_get ps k ≡ Some p → count ≡ length ps → k < count → lower.line ≡ here.line → (here.height + (count - 1 - k) < 2 ^ 64 → lower.height ≡ here.height + (count - 1 - k)) → ((f : Final) → IsAround f g1 → here.height + count ≤ f.depth) → HasEmitted g0 g1 x y here (GoodPlaces ps) (λ t. gives_front t k ps) → HasEmitted g1 g2 y z lower (IsTypedPlace p) (λ t. give_code t p) → HasEmitted g0 g2 x z here (GoodPlaces ps) (λ t. gives_front t (k + 1) ps)
-gives_more g0 g1 g2 x y z here lower ps k count p is all below line up room m n = record {
-  grows = grows_then g0 g1 g2 m.grows n.grows;
-  adds = λ f t u around located good.
-      let mine = around_old f g1 g2 n.grows around in
-      let v : Site = with_results t (drop (suc k) ps) in
-      let tall : height v ≡ height t + (count - 1 - k) = omega (arith, results_high t (drop (suc k) ps), length-drop (suc k) ps, all, below) in
-      let deep : height v ≤ f.depth = omega (arith, tall, located.high, room f mine, below) in
-      let there = stands_above f g2 here lower t v (count - 1 - k) around.small located line up refl refl tall deep in
-      let next : suc k ≡ k + 1 = omega arith in
-      let last : List Placed = give_code v p in
-      adds_same f x z (gives_front t k ps ++ last) (gives_front t (k + 1) ps) (sym (front_more t ps k p is) ∙ ap (λ n. gives_front t n ps) next)
-      (adds_then f x y z (gives_front t k ps) last (m.adds f t tt mine (stands_old f g1 g2 here t n.grows located) good) (n.adds f v tt around there (every_get (λ (p : Place). IsTypedPlace p t.scope) ps k p good is)));
-  more = λ f t u around located good. tt;
-}
+gives_more g0 g1 g2 x y z here lower ps k count p is all below line up room m n =
+    emits (grows_then g0 g1 g2 m.grows n.grows) (λ f t u around located good.
+    let mine = around_old f g1 g2 n.grows around in
+    let v : Site = with_results t (drop (suc k) ps) in
+    let tall : height v ≡ height t + (count - 1 - k) = omega (arith, results_high t (drop (suc k) ps), length-drop (suc k) ps, all, below) in
+    let deep : height v ≤ f.depth = omega (arith, tall, located.high, room f mine, below) in
+    let there = stands_above f g2 here lower t v (count - 1 - k) around.small located line up refl refl tall deep in
+    let next : suc k ≡ k + 1 = omega arith in
+    let last : List Placed = give_code v p in
+    adds_same f x z (gives_front t k ps ++ last) (gives_front t (k + 1) ps) (sym (front_more t ps k p is) ∙ ap (λ n. gives_front t n ps) next)
+    (adds_then f x y z (gives_front t k ps) last (m.adds f t tt mine (stands_old f g1 g2 here t n.grows located) good) (n.adds f v tt around there (every_get (λ (p : Place). IsTypedPlace p t.scope) ps k p good is))))
 
 pub gives_all : (g0 g1 : Generator) (x y : Lined) (here : Here) (ps : List Place) (n : ℕ) → n ≡ length ps → HasEmitted g0 g1 x y here (GoodPlaces ps) (λ t. gives_front t n ps) → HasEmitted g0 g1 x y here (GoodPlaces ps) (λ t. gives_code t ps)
-gives_all g0 g1 x y here ps n e m = record {
-  grows = m.grows;
-  adds = λ f t u around located good. adds_same f x y (gives_front t n ps) (gives_code t ps) (ap (λ k. gives_front t k ps) e ∙ front_all t ps) (m.adds f t tt around located good);
-  more = λ f t u around located good. tt;
-}
+gives_all g0 g1 x y here ps n e m =
+    emits m.grows (λ f t u around located good. adds_same f x y (gives_front t n ps) (gives_code t ps) (ap (λ k. gives_front t k ps) e ∙ front_all t ps) (m.adds f t tt around located good))
 
 -- ## CALL
 
@@ -79,24 +73,21 @@ each_fits P (x ∷ xs) (m ∷ ms) h = ((m, h.0), each_fits P xs ms h.1)
 each_fits P _ _ h = absurd h
 
 pub called : (g0 g1 g2 : Generator) (x y z w : Lined) (here : Here) (l : Line) (routine cell : ℕ) (es : List Expression) (ps : List Place) → HasEmitted g0 g1 x y here (λ s. Every (λ (e : Expression). IsTyped e s) es) (λ t. values_code t es) → here.height + length es ≤ g1.deepest → cell ≡ length g1.locals.items + here.height → z ≡ y ++ on_line here.line (r.Call routine cell) ∷ [] → HasEmitted g1 g2 z w here (GoodPlaces ps) (λ t. gives_code t ps) → HasEmitted g0 g2 x w here (λ s. IsTypedStatement s (p.Call l routine es ps)) (λ t. values_code t es ++ place (after_values t es) (i.Call routine (height t)) ∷ gives_code t ps)
-called g0 g1 g2 x y z w here l routine cell es ps m room at is n = record {
-  grows = grows_then g0 g1 g2 m.grows n.grows;
-  adds = λ f t u around located good.
-      let mine = around_old f g1 g2 n.grows around in
-      let there = stands_old f g1 g2 here t n.grows located in
-      let good' : IsTypedStatement t.scope (p.Call l routine es ps) = good in
-      let v : Site = after_values t es in
-      let long : height v ≡ length es + height t = values_high t.scope es t.cells in
-      let deep : height v ≤ f.depth = omega (arith, long, located.high, room, mine.depth) in
-      let locals : length t.scope.locals ≡ length g1.locals.items = ap length there.locals in
-      let cell_at : cell ≡ length t.scope.locals + height t = omega (arith, at, locals, located.high) in
-      let calls : Placed = place v (i.Call routine (height t)) in
-      adds_then f x y w (values_code t es) (calls ∷ gives_code t ps) (m.adds f t tt mine there (each_fits (HasMode t.scope) es good'.0.given good'.2))
-      (adds_then f y z w (calls ∷ []) (gives_code t ps)
-      (adds_one f y z here.line calls (r.Call routine cell) is located.line (record { carries = (height t, cell_at, refl); deep = deep; shown = tt }))
-      (n.adds f t tt around located (each_fits (CanTakeMode t.scope) ps good'.0.yielding good'.3)));
-  more = λ f t u around located good. tt;
-}
+called g0 g1 g2 x y z w here l routine cell es ps m room at is n =
+    emits (grows_then g0 g1 g2 m.grows n.grows) (λ f t u around located good.
+    let mine = around_old f g1 g2 n.grows around in
+    let there = stands_old f g1 g2 here t n.grows located in
+    let good' : IsTypedStatement t.scope (p.Call l routine es ps) = good in
+    let v : Site = after_values t es in
+    let long : height v ≡ length es + height t = values_high t.scope es t.cells in
+    let deep : height v ≤ f.depth = omega (arith, long, located.high, room, mine.depth) in
+    let locals : length t.scope.locals ≡ length g1.locals.items = ap length there.locals in
+    let cell_at : cell ≡ length t.scope.locals + height t = omega (arith, at, locals, located.high) in
+    let calls : Placed = place v (i.Call routine (height t)) in
+    adds_then f x y w (values_code t es) (calls ∷ gives_code t ps) (m.adds f t tt mine there (each_fits (HasMode t.scope) es good'.0.given good'.2))
+    (adds_then f y z w (calls ∷ []) (gives_code t ps)
+    (adds_one f y z here.line calls (r.Call routine cell) is located.line (record { carries = (height t, cell_at, refl); deep = deep; shown = tt }))
+    (n.adds f t tt around located (each_fits (CanTakeMode t.scope) ps good'.0.yielding good'.3))))
 
 -- ## One operand
 

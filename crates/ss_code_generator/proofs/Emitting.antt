@@ -79,15 +79,16 @@ adds_then f a b c xs ys h k = record {
 pub adds_one : (f : Final) (a b : Lined) (l : Line) (x : Placed) (y : Running) → b ≡ a ++ on_line l y ∷ [] → x.line ≡ l → IsRunBy f x y → HasAdded f a b (x ∷ [])
 adds_one f a b l x y is same r = record { more = on_line l y ∷ []; added = is; run = (sym same, r, tt) }
 
+-- what is promised of each end, where nothing more is
+pub emits : {I : Type 0} {old new : Generator} {p q : Lined} {here : Here} {Fit : Final → Site → I → Type 0} {c : Site → I → List Placed} → HasGrown old new → ((f : Final) (t : Site) (x : I) → IsAround f new → IsLocated f new here t → Fit f t x → HasAdded f p q (c t x)) → HasGenerated old new p q here Fit c HasNoMore
+emits grows adds = record { grows = grows; adds = adds; more = λ f t x around located fits. tt }
+
 -- one instruction at each site, where it carries out what fits there
 pub emits_one : {I : Type 0} (old new : Generator) (p q : Lined) (here : Here) (Fit : Final → Site → I → Type 0) (make : Site → I → Instruction) (y : Running) → HasGrown old new → q ≡ p ++ on_line here.line y ∷ [] → ((f : Final) (t : Site) (x : I) → IsAround f new → IsLocated f new here t → Fit f t x → IsCarriedOut (code_of f.program) f.constants (place t (make t x)) y × HasPrintModes f.prints t.cells (make t x)) → HasGenerated old new p q here Fit (λ t x. place t (make t x) ∷ []) HasNoMore
-emits_one old new p q here Fit make y grows is runs = record {
-  grows = grows;
-  adds = λ f t x around located fits.
-      let c = runs f t x around located fits in
-      adds_one f p q here.line (place t (make t x)) y is located.line (record { carries = c.0; deep = located.deep; shown = c.1 });
-  more = λ f t x around located fits. tt;
-}
+emits_one old new p q here Fit make y grows is runs =
+    emits grows (λ f t x around located fits.
+    let c = runs f t x around located fits in
+    adds_one f p q here.line (place t (make t x)) y is located.line (record { carries = c.0; deep = located.deep; shown = c.1 }))
 
 -- a piece that was made apart goes after another one, or before
 pub adds_piece : (f : Final) (a b p : Lined) (c : List Placed) → b ≡ a ++ p → HasAdded f no_code p c → HasAdded f a b c

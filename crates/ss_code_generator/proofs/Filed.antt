@@ -11,7 +11,7 @@ use Rattle.ss_code_instructions.specs.Instructions as i
 use Rattle.ss_code_pieces.specs.declared.facts.Ordering.TheVariants as orderings
 use Rattle.ss_code_generator.specs.declared.expressions.Operand.{Operand as Read}
 use Rattle.ss_code_generator.specs.declared.generator.Site.{Site as Here}
-use Rattle.ss_code_generator.proofs.Emitting.{around_old, grows_same, grows_then, stands_old, adds_then, adds_one, adds_same}
+use Rattle.ss_code_generator.proofs.Emitting.{around_old, grows_same, grows_then, stands_old, adds_then, adds_one, adds_same, emits}
 use Rattle.ss_code_generator.proofs.Forms as forms
 use Rattle.ss_code_generator.proofs.Operands.{read_stands, stays_at, one_read}
 use Rattle.ss_code_generator.proofs.Testing.{owner_number, emits_where}
@@ -29,24 +29,21 @@ member_looked old new p q v here set e o m is =
 
 -- a member, the owner of its set, and an instruction that works on both
 pub member_works : (old mid new : Generator) (p q v s : Lined) (here higher : Here) (set : ℕ) (e : Expression) (o : SetOwner) (member owner : Read) (make : Operand → Bearer → Instruction) (y : Running) → HasReadBy old mid p q here (IsInteger e) e member (λ t. member_code t (may_fault (expression_of o)) set e) → higher.line ≡ here.line → (here.height + member.cells < 2 ^ 64 → higher.height ≡ here.height + member.cells) → HasBorne mid new q v higher (expression_of o) owner → s ≡ v ++ on_line here.line y ∷ [] → ((f : Final) (t : Site) → IsAround f new → IsSiteOperand f (after_bearer (after t e) (expression_of o)) (operand t e) member.address → IsSiteBearer f (after_bearer (after t e) (expression_of o)) (bearer (after t e) (expression_of o)) owner.address → IsCarriedOut (code_of f.program) f.constants (place (after_bearer (after t e) (expression_of o)) (make (operand t e) (bearer (after t e) (expression_of o)))) y × HasPrintModes f.prints (after_bearer (after t e) (expression_of o)).cells (make (operand t e) (bearer (after t e) (expression_of o)))) → HasEmitted old new p s here (λ k. IsInteger e k × IsTypedOwner k set o) (λ t. member_code t (may_fault (expression_of o)) set e ++ with_owner (after t e) o (make (operand t e)))
-member_works old mid new p q v s here higher set e o member owner make y m line above n is suits = record {
-  grows = grows_then old mid new m.grows n.grows;
-  adds = λ f t u around located good.
-      let b = expression_of o in
-      let t1 : Site = after t e in
-      let t2 : Site = after_bearer t1 b in
-      let mine = around_old f mid new n.grows around in
-      let there = stands_old f mid new here t n.grows located in
-      let read = m.more f t tt mine there good.0 in
-      let on_top = read_stands f new here higher t e member around located read line above in
-      let number = owner_number t.scope set o good.1 in
-      let borne = n.more f t1 tt around on_top number in
-      let c = suits f t around read.at borne.at in
-      adds_then f p q s (member_code t (may_fault b) set e) (bearer_code t1 b ++ place t2 (make (operand t e) (bearer t1 b)) ∷ []) (m.adds f t tt mine there good.0)
-      (adds_then f q v s (bearer_code t1 b) (place t2 (make (operand t e) (bearer t1 b)) ∷ []) (n.adds f t1 tt around on_top number)
-      (adds_one f v s here.line (place t2 (make (operand t e) (bearer t1 b))) y is located.line (record { carries = c.0; deep = borne.deep; shown = c.1 })));
-  more = λ f t u around located good. tt;
-}
+member_works old mid new p q v s here higher set e o member owner make y m line above n is suits =
+    emits (grows_then old mid new m.grows n.grows) (λ f t u around located good.
+    let b = expression_of o in
+    let t1 : Site = after t e in
+    let t2 : Site = after_bearer t1 b in
+    let mine = around_old f mid new n.grows around in
+    let there = stands_old f mid new here t n.grows located in
+    let read = m.more f t tt mine there good.0 in
+    let on_top = read_stands f new here higher t e member around located read line above in
+    let number = owner_number t.scope set o good.1 in
+    let borne = n.more f t1 tt around on_top number in
+    let c = suits f t around read.at borne.at in
+    adds_then f p q s (member_code t (may_fault b) set e) (bearer_code t1 b ++ place t2 (make (operand t e) (bearer t1 b)) ∷ []) (m.adds f t tt mine there good.0)
+    (adds_then f q v s (bearer_code t1 b) (place t2 (make (operand t e) (bearer t1 b)) ∷ []) (n.adds f t1 tt around on_top number)
+    (adds_one f v s here.line (place t2 (make (operand t e) (bearer t1 b))) y is located.line (record { carries = c.0; deep = borne.deep; shown = c.1 }))))
 
 pub member_filed : (old mid new : Generator) (p q v s : Lined) (here higher : Here) (set : ℕ) (e : Expression) (o : SetOwner) (member owner : Read) (ordering : Ordering) (noted : Bool) → HasReadBy old mid p q here (IsInteger e) e member (λ t. member_code t (may_fault (expression_of o)) set e) → higher.line ≡ here.line → (here.height + member.cells < 2 ^ 64 → higher.height ≡ here.height + member.cells) → HasBorne mid new q v higher (expression_of o) owner → noted ≡ watch new.program.now.statistics.items (OfCount set) → s ≡ v ++ on_line here.line (filing_instruction ordering set member.address owner.address noted) ∷ [] → HasEmitted old new p s here (λ k. IsInteger e k × IsTypedOwner k set o) (λ t. member_code t (may_fault (expression_of o)) set e ++ with_owner (after t e) o (i.File (filing_of ordering) set (operand t e)))
 member_filed old mid new p q v s here higher set e o member owner ordering noted m line above n watched is =
@@ -94,33 +91,29 @@ beside_is t set e beside o false = refl
 pub member_beside : (old one two new : Generator) (p q v w s : Lined) (here higher highest : Here) (set : ℕ) (e beside : Expression) (o : SetOwner) (member neighbour owner : Read) (b noted : Bool) → HasReadBy old one p q here (IsInteger e) e member (λ t. member_code t true set e) → higher.line ≡ here.line → (here.height + member.cells < 2 ^ 64 → higher.height ≡ here.height + member.cells) → HasReadBy one two q v higher (IsInteger beside) beside neighbour (λ t. member_code t true set beside) → highest.line ≡ higher.line → (higher.height + neighbour.cells < 2 ^ 64 → highest.height ≡ higher.height + neighbour.cells) → HasBorne two new v w highest (expression_of o) owner → noted ≡ watch new.program.now.statistics.items (OfCount set) → s ≡ w ++ on_line here.line (r.FileBeside noted b set member.address neighbour.address owner.address) ∷ [] → HasEmitted old new p s here (λ k. IsInteger e k × IsInteger beside k × IsTypedOwner k set o) (λ t. file_code t set e (if b then AfterMember beside else BeforeMember beside) o)
 member_beside old one two new p q v w s here higher highest set e beside o member neighbour owner b noted m line above n line2 above2 n2 watched is =
     let late = grows_then one two new n.grows n2.grows in
-    record {
-      grows = grows_then old one new m.grows late;
-      adds = λ f t u around located good.
-          let c = expression_of o in
-          let t1 : Site = after t e in
-          let t2 : Site = after t1 beside in
-          let t3 : Site = after_bearer t2 c in
-          let around2 = around_old f two new n2.grows around in
-          let around1 = around_old f one new late around in
-          let read = m.more f t tt around1 (stands_old f one new here t late located) good.0 in
-          let on_top = read_stands f new here higher t e member around located read line above in
-          let on_top1 = stands_old f two new higher t1 n2.grows on_top in
-          let read2 = n.more f t1 tt around2 on_top1 good.1 in
-          let on_top2 = read_stands f new higher highest t1 beside neighbour around on_top read2 line2 above2 in
-          let number = owner_number t.scope set o good.2 in
-          let borne = n2.more f t2 tt around on_top2 number in
-          let ins : Instruction = i.File (next_to b (operand t1 beside)) set (operand t e) (bearer t2 c) in
-          let y : Running = r.FileBeside noted b set member.address neighbour.address owner.address in
-          let carries : IsCarriedOut (code_of f.program) f.constants (place t3 ins) y =
-          (counts_noted f new set noted around watched, (operand t1 beside, read2.at, (operand t e, read.at, (bearer t2 c, borne.at, refl)))) in
-          adds_same f p s (member_code t true set e ++ (member_code t1 true set beside ++ (bearer_code t2 c ++ place t3 ins ∷ []))) (file_code t set e (if b then AfterMember beside else BeforeMember beside) o) (beside_is t set e beside o b)
-          (adds_then f p q s (member_code t true set e) (member_code t1 true set beside ++ (bearer_code t2 c ++ place t3 ins ∷ [])) (m.adds f t tt around1 (stands_old f one new here t late located) good.0)
-          (adds_then f q v s (member_code t1 true set beside) (bearer_code t2 c ++ place t3 ins ∷ []) (n.adds f t1 tt around2 on_top1 good.1)
-          (adds_then f v w s (bearer_code t2 c) (place t3 ins ∷ []) (n2.adds f t2 tt around on_top2 number)
-          (adds_one f w s here.line (place t3 ins) y is located.line (record { carries = carries; deep = borne.deep; shown = tt })))));
-      more = λ f t u around located good. tt;
-    }
+    emits (grows_then old one new m.grows late) (λ f t u around located good.
+    let c = expression_of o in
+    let t1 : Site = after t e in
+    let t2 : Site = after t1 beside in
+    let t3 : Site = after_bearer t2 c in
+    let around2 = around_old f two new n2.grows around in
+    let around1 = around_old f one new late around in
+    let read = m.more f t tt around1 (stands_old f one new here t late located) good.0 in
+    let on_top = read_stands f new here higher t e member around located read line above in
+    let on_top1 = stands_old f two new higher t1 n2.grows on_top in
+    let read2 = n.more f t1 tt around2 on_top1 good.1 in
+    let on_top2 = read_stands f new higher highest t1 beside neighbour around on_top read2 line2 above2 in
+    let number = owner_number t.scope set o good.2 in
+    let borne = n2.more f t2 tt around on_top2 number in
+    let ins : Instruction = i.File (next_to b (operand t1 beside)) set (operand t e) (bearer t2 c) in
+    let y : Running = r.FileBeside noted b set member.address neighbour.address owner.address in
+    let carries : IsCarriedOut (code_of f.program) f.constants (place t3 ins) y =
+    (counts_noted f new set noted around watched, (operand t1 beside, read2.at, (operand t e, read.at, (bearer t2 c, borne.at, refl)))) in
+    adds_same f p s (member_code t true set e ++ (member_code t1 true set beside ++ (bearer_code t2 c ++ place t3 ins ∷ []))) (file_code t set e (if b then AfterMember beside else BeforeMember beside) o) (beside_is t set e beside o b)
+    (adds_then f p q s (member_code t true set e) (member_code t1 true set beside ++ (bearer_code t2 c ++ place t3 ins ∷ [])) (m.adds f t tt around1 (stands_old f one new here t late located) good.0)
+    (adds_then f q v s (member_code t1 true set beside) (bearer_code t2 c ++ place t3 ins ∷ []) (n.adds f t1 tt around2 on_top1 good.1)
+    (adds_then f v w s (bearer_code t2 c) (place t3 ins ∷ []) (n2.adds f t2 tt around on_top2 number)
+    (adds_one f w s here.line (place t3 ins) y is located.line (record { carries = carries; deep = borne.deep; shown = tt }))))))
 
 -- ## REMOVE FIRST and REMOVE LAST
 

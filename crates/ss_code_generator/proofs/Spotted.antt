@@ -7,7 +7,7 @@ use Rattle.ss_code_instructions.specs.declared.instruction.Instruction.TheVarian
 use Rattle.ss_code_instructions.specs.Instructions as i
 use Rattle.ss_code_generator.specs.declared.generator.Site.{Site as Here}
 use Rattle.ss_code_generator.specs.declared.targets.Spot.TheVariants as spots
-use Rattle.ss_code_generator.proofs.Emitting.{grows_same, stands_above, adds_none, adds_then, adds_one, adds_same}
+use Rattle.ss_code_generator.proofs.Emitting.{grows_same, stands_above, adds_none, adds_then, adds_one, adds_same, emits}
 use Rattle.ss_code_generator.proofs.Operands.{operand_at, stays_at}
 use Rattle.ss_code_generator.proofs.Modes.{on_top}
 use Rattle.ss_code_generator.proofs.Watching.{text_unwatched, kept_integer}
@@ -86,11 +86,8 @@ module _ (g : Generator) (p q : Lined) (here : Here) (from : Address) where
   moved_at_place s watched is f t u y _ m v same at holds mode located = absurd v
 
   pub moved_given : (s : VariableSpot) → s.watched ≡ None → q ≡ p ++ on_line here.line (moving s.mode from s.address) ∷ [] → HasAssigned g p q here from (λ f t x. IsPlaceOf t x s)
-  moved_given s watched is = record {
-    grows = grows_same g;
-    adds = λ f u x around located fits. moved_at_place s watched is f x.resolved u x.from x.place x.mode fits.0 fits.1 fits.2 fits.3 fits.4 located;
-    more = λ f u x around located fits. tt;
-  }
+  moved_given s watched is =
+      emits (grows_same g) (λ f u x around located fits. moved_at_place s watched is f x.resolved u x.from x.place x.mode fits.0 fits.1 fits.2 fits.3 fits.4 located)
 
 -- what goes to an attribute that was found
 pub stored : (f : Final) (p q : Lined) (l : Line) (from : Address) (s : AttributeSpot) → q ≡ p ++ on_line l (storing s.mode s.class s.field s.entity from s.is_watched) ∷ [] → (g : Generator) → IsAround f g → (t u : Site) (class field : ℕ) (e : Expression) (z y : Operand) (m : Mode) → IsAttribute f t class field e s → t.scope ≡ u.scope → IsSiteOperand f u z s.entity → IsSiteOperand f u y from → field_mode u.scope.program class field ≡ Some m → u.line ≡ l → u.scope.program ≡ f.program → height u ≤ f.depth → HasAdded f p q (place u (i.SetAttribute class field z y) ∷ [])
@@ -111,11 +108,8 @@ module _ (g : Generator) (p q : Lined) (here : Here) (from : Address) where
   stored_at_place s is f t u y _ m v same at holds around located = absurd v
 
   pub attribute_given : (s : AttributeSpot) → q ≡ p ++ on_line here.line (storing s.mode s.class s.field s.entity from s.is_watched) ∷ [] → HasAssigned g p q here from (λ f t x. IsSpot f t x (spots.Attribute s))
-  attribute_given s is = record {
-    grows = grows_same g;
-    adds = λ f u x around located fits. stored_at_place s is f x.resolved u x.from x.place x.mode fits.0 fits.1 fits.2 fits.3 around located;
-    more = λ f u x around located fits. tt;
-  }
+  attribute_given s is =
+      emits (grows_same g) (λ f u x around located fits. stored_at_place s is f x.resolved u x.from x.place x.mode fits.0 fits.1 fits.2 fits.3 around located)
 
 -- N. of a class: it is looked whether there are entities yet
 module _ (g : Generator) (p q v : Lined) (here : Here) (from : Address) (class : ℕ) (s : VariableSpot) (is : q ≡ p ++ on_line here.line (r.LookCount class) ∷ []) (m : HasAssigned g q v here from (λ f t x. IsPlaceOf t x s)) where
@@ -129,11 +123,8 @@ module _ (g : Generator) (p q v : Lined) (here : Here) (from : Address) (class :
   counted_at_place f t u y _ k h same at holds mode around located = absurd h
 
   pub count_given : HasAssigned g p v here from (λ f t x. IsSpot f t x (spots.Count class s))
-  count_given = record {
-    grows = grows_same g;
-    adds = λ f u x around located fits. counted_at_place f x.resolved u x.from x.place x.mode fits.0 fits.1 fits.2 fits.3 fits.4 around located;
-    more = λ f u x around located fits. tt;
-  }
+  count_given =
+      emits (grows_same g) (λ f u x around located fits. counted_at_place f x.resolved u x.from x.place x.mode fits.0 fits.1 fits.2 fits.3 fits.4 around located)
 
 -- ## What a value is given to that lies where it comes at first
 
@@ -175,11 +166,8 @@ taken_at_place g p q here higher from (spots.Count class s) line up m cell f t u
 taken_at_place g p q here higher from _ line up m cell f t u _ k v same at room holds around located = absurd v
 
 pub taken : (g : Generator) (p q : Lined) (here higher : Here) (from : Address) (s : Spot) → higher.line ≡ here.line → (here.height + 1 < 2 ^ 64 → higher.height ≡ here.height + 1) → HasAssigned g p q higher from (λ f t x. IsSpot f t x s) → ComesToCell s → HasAssignedLanded g p q here from (λ f t x. IsSpot f t x s)
-taken g p q here higher from s line up m cell = record {
-  grows = grows_same g;
-  adds = λ f u x around located fits. taken_at_place g p q here higher from s line up m cell f x.resolved u x.place x.mode fits.0 fits.1 fits.2 fits.3 fits.4 around located;
-  more = λ f u x around located fits. tt;
-}
+taken g p q here higher from s line up m cell =
+    emits (grows_same g) (λ f u x around located fits. taken_at_place g p q here higher from s line up m cell f x.resolved u x.place x.mode fits.0 fits.1 fits.2 fits.3 fits.4 around located)
 
 pub count_spotted_ok : {E : Type 0} (g : Generator) (p : Lined) (here : Here) (c : CountedClass) (found : Result Spot E) → IfOk found (λ s. (f : Final) (here : Here) (t : Site) → IsAround f g → IsLocated f g here t → IsSpot f t (ToCount c) s) → IfOk found (λ s. HasGenerated g g p p here (λ f t (u : Unit {0}). IsTypedPlace (ToCount c) t.scope) (λ t u. []) (λ f t u. IsSpot f t (ToCount c) s))
 count_spotted_ok g p here c (Ok s) h = count_spotted g p here c s h

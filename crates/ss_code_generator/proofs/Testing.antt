@@ -8,7 +8,7 @@ use Rattle.ss_code_instructions.specs.declared.instruction.Instruction.TheVarian
 use Rattle.ss_code_instructions.specs.Instructions as i
 use Rattle.ss_code_generator.specs.declared.expressions.Operand.{Operand as Read}
 use Rattle.ss_code_generator.specs.declared.generator.Site.{Site as Here}
-use Rattle.ss_code_generator.proofs.Emitting.{around_old, grows_same, grows_then, stands_old, adds_then, adds_one, adds_apart, adds_same, piece_long, emits_one}
+use Rattle.ss_code_generator.proofs.Emitting.{around_old, grows_same, grows_then, stands_old, adds_then, adds_one, adds_apart, adds_same, piece_long, emits_one, emits}
 use Rattle.ss_code_generator.proofs.Forms as forms
 use Rattle.ss_code_generator.proofs.Modes.{operand_mode, mode_after}
 use Rattle.ss_code_generator.proofs.Operands.{read_stands}
@@ -22,94 +22,73 @@ owner_number s set (Entity e) h = h.1
 
 -- two values are compared
 pub compared : (old mid new : Generator) (p q s v : Lined) (here higher : Here) (skip : ℕ) (relation : Relation) (a b : Expression) (left right : Read) (m : Mode) → HasReadOperand old mid p q here a left → higher.line ≡ here.line → (here.height + left.cells < 2 ^ 64 → higher.height ≡ here.height + left.cells) → HasReadOperand mid new q s higher b right → ((f : Final) (t : Site) (n : Mode) → IsAround f new → IsLocated f new here t → HasMode t.scope a n → n ≡ m) → v ≡ s ++ on_line here.line (comparing m relation left.address right.address skip) ∷ [] → HasEmitted old new p v here (λ k. IsTypedTest k (Compare relation a b)) (λ t. test_code t skip (Compare relation a b))
-compared old mid new p q s v here higher skip relation a b left right m ra line above rb mode is = record {
-  grows = grows_then old mid new ra.grows rb.grows;
-  adds = λ f t u around located good.
-      let n : Mode = good.0 in
-      let t1 : Site = after t a in
-      let t2 : Site = after t1 b in
-      let mine = around_old f mid new rb.grows around in
-      let there = stands_old f mid new here t rb.grows located in
-      let typed_a : IsTyped a t.scope = (n, good.1) in
-      let typed_b : IsTyped b t1.scope = (n, good.2) in
-      let read_a = ra.more f t tt mine there typed_a in
-      let above_a = read_stands f new here higher t a left around located read_a line above in
-      let read_b = rb.more f t1 tt around above_a typed_b in
-      let ins : Instruction = i.Unless relation (operand t a) (operand t1 b) skip in
-      let same : n ≡ m = mode f t n around located good.1 in
-      let mode_a = mode_after f t1 b (operand t a) n ins ins (operand_mode f t a n ins located.program good.1) ∙ ap Some same in
-      let mode_b = operand_mode f t1 b n ins located.program good.2 ∙ ap Some same in
-      let c = forms.compares (code_of f.program) f.constants (place t2 ins) m relation left.address right.address skip (operand t a, read_a.at, (operand t1 b, read_b.at, (mode_a, mode_b, refl))) in
-      adds_then f p q v (operand_code t a) (operand_code t1 b ++ place t2 ins ∷ []) (ra.adds f t tt mine there typed_a)
-      (adds_then f q s v (operand_code t1 b) (place t2 ins ∷ []) (rb.adds f t1 tt around above_a typed_b)
-      (adds_one f s v here.line (place t2 ins) (comparing m relation left.address right.address skip) is located.line (record { carries = c; deep = read_b.deep; shown = tt })));
-  more = λ f t u around located good. tt;
-}
+compared old mid new p q s v here higher skip relation a b left right m ra line above rb mode is =
+    emits (grows_then old mid new ra.grows rb.grows) (λ f t u around located good.
+    let n : Mode = good.0 in
+    let t1 : Site = after t a in
+    let t2 : Site = after t1 b in
+    let mine = around_old f mid new rb.grows around in
+    let there = stands_old f mid new here t rb.grows located in
+    let typed_a : IsTyped a t.scope = (n, good.1) in
+    let typed_b : IsTyped b t1.scope = (n, good.2) in
+    let read_a = ra.more f t tt mine there typed_a in
+    let above_a = read_stands f new here higher t a left around located read_a line above in
+    let read_b = rb.more f t1 tt around above_a typed_b in
+    let ins : Instruction = i.Unless relation (operand t a) (operand t1 b) skip in
+    let same : n ≡ m = mode f t n around located good.1 in
+    let mode_a = mode_after f t1 b (operand t a) n ins ins (operand_mode f t a n ins located.program good.1) ∙ ap Some same in
+    let mode_b = operand_mode f t1 b n ins located.program good.2 ∙ ap Some same in
+    let c = forms.compares (code_of f.program) f.constants (place t2 ins) m relation left.address right.address skip (operand t a, read_a.at, (operand t1 b, read_b.at, (mode_a, mode_b, refl))) in
+    adds_then f p q v (operand_code t a) (operand_code t1 b ++ place t2 ins ∷ []) (ra.adds f t tt mine there typed_a)
+    (adds_then f q s v (operand_code t1 b) (place t2 ins ∷ []) (rb.adds f t1 tt around above_a typed_b)
+    (adds_one f s v here.line (place t2 ins) (comparing m relation left.address right.address skip) is located.line (record { carries = c; deep = read_b.deep; shown = tt }))))
 
 -- whether a set has no member
 pub emptiness_tested : (old new : Generator) (p q v : Lined) (here : Here) (skip : ℕ) (negated : Bool) (set : ℕ) (o : SetOwner) (owner : Read) → HasBorne old new p q here (expression_of o) owner → v ≡ q ++ on_line here.line (r.UnlessEmpty set owner.address skip negated) ∷ [] → HasEmitted old new p v here (λ k. IsTypedTest k (Empty negated set o)) (λ t. test_code t skip (Empty negated set o))
-emptiness_tested old new p q v here skip negated set o owner m is = record {
-  grows = m.grows;
-  adds = λ f t u around located good.
-      let e : Option Expression = expression_of o in
-      let number = owner_number t.scope set o good in
-      let read = m.more f t tt around located number in
-      let ins : Instruction = i.UnlessEmpty negated set (bearer t e) skip in
-      adds_then f p q v (bearer_code t e) (place (after_bearer t e) ins ∷ []) (m.adds f t tt around located number)
-      (adds_one f q v here.line (place (after_bearer t e) ins) (r.UnlessEmpty set owner.address skip negated) is located.line (record { carries = (bearer t e, read.at, refl); deep = read.deep; shown = tt }));
-  more = λ f t u around located good. tt;
-}
+emptiness_tested old new p q v here skip negated set o owner m is =
+    emits m.grows (λ f t u around located good.
+    let e : Option Expression = expression_of o in
+    let number = owner_number t.scope set o good in
+    let read = m.more f t tt around located number in
+    let ins : Instruction = i.UnlessEmpty negated set (bearer t e) skip in
+    adds_then f p q v (bearer_code t e) (place (after_bearer t e) ins ∷ []) (m.adds f t tt around located number)
+    (adds_one f q v here.line (place (after_bearer t e) ins) (r.UnlessEmpty set owner.address skip negated) is located.line (record { carries = (bearer t e, read.at, refl); deep = read.deep; shown = tt })))
 
 -- ## Pieces that are made from the end
 
 -- A piece comes before another one, by whose length it may go. The first is made last
 pub before_made : (old mid new : Generator) (front back whole : Lined) (here : Here) (Front Back : TypedScope → Type 0) (c : ℕ → Site → List Placed) (d : Site → List Placed) (past : ℕ) → HasEmitted old mid no_code back here Back d → HasEmitted mid new no_code front here Front (c past) → whole ≡ front ++ back → (more : ℕ) → past ≡ length back + more → HasEmitted old new no_code whole here (λ k. Front k × Back k) (λ t. c (length (d t) + more) t ++ d t)
-before_made old mid new front back whole here Front Back c d past m n is more same = record {
-  grows = grows_then old mid new m.grows n.grows;
-  adds = λ f t u around located good.
-      let h = m.adds f t tt (around_old f mid new n.grows around) (stands_old f mid new here t n.grows located) good.1 in
-      let k = n.adds f t tt around located good.0 in
-      let long : past ≡ length (d t) + more = same ∙ ap (λ j. j + more) (piece_long f back (d t) h) in
-      adds_apart f front back whole (c (length (d t) + more) t) (d t) is (adds_same f no_code front (c past t) (c (length (d t) + more) t) (ap (λ j. c j t) long) k) h;
-  more = λ f t u around located good. tt;
-}
+before_made old mid new front back whole here Front Back c d past m n is more same =
+    emits (grows_then old mid new m.grows n.grows) (λ f t u around located good.
+    let h = m.adds f t tt (around_old f mid new n.grows around) (stands_old f mid new here t n.grows located) good.1 in
+    let k = n.adds f t tt around located good.0 in
+    let long : past ≡ length (d t) + more = same ∙ ap (λ j. j + more) (piece_long f back (d t) h) in
+    adds_apart f front back whole (c (length (d t) + more) t) (d t) is (adds_same f no_code front (c past t) (c (length (d t) + more) t) (ap (λ j. c j t) long) k) h)
 
 -- a piece comes before another one, around which code is made, by whose length it may go
 pub before_around : (old mid new : Generator) (front back whole inner : Lined) (here : Here) (Front Back : TypedScope → Type 0) (c : ℕ → Site → List Placed) (d : Site → List Placed → List Placed) (past : ℕ) → HasEmittedAround old mid no_code back here inner Back d → HasEmitted mid new no_code front here Front (c past) → whole ≡ front ++ back → (more : ℕ) → past ≡ length back + more → HasEmittedAround old new no_code whole here inner (λ k. Front k × Back k) (λ t b. c (length (d t b) + more) t ++ d t b)
-before_around old mid new front back whole inner here Front Back c d past m n is more same = record {
-  grows = grows_then old mid new m.grows n.grows;
-  adds = λ f t b around located fits.
-      let h = m.adds f t b (around_old f mid new n.grows around) (stands_old f mid new here t n.grows located) (fits.0, fits.1.1) in
-      let k = n.adds f t tt around located fits.1.0 in
-      let long : past ≡ length (d t b) + more = same ∙ ap (λ j. j + more) (piece_long f back (d t b) h) in
-      adds_apart f front back whole (c (length (d t b) + more) t) (d t b) is (adds_same f no_code front (c past t) (c (length (d t b) + more) t) (ap (λ j. c j t) long) k) h;
-  more = λ f t b around located fits. tt;
-}
+before_around old mid new front back whole inner here Front Back c d past m n is more same =
+    emits (grows_then old mid new m.grows n.grows) (λ f t b around located fits.
+    let h = m.adds f t b (around_old f mid new n.grows around) (stands_old f mid new here t n.grows located) (fits.0, fits.1.1) in
+    let k = n.adds f t tt around located fits.1.0 in
+    let long : past ≡ length (d t b) + more = same ∙ ap (λ j. j + more) (piece_long f back (d t b) h) in
+    adds_apart f front back whole (c (length (d t b) + more) t) (d t b) is (adds_same f no_code front (c past t) (c (length (d t b) + more) t) (ap (λ j. c j t) long) k) h)
 
 -- one piece after another, of two that were made apart
 pub then_made : (old mid new : Generator) (front back whole : Lined) (here : Here) (Front Back : TypedScope → Type 0) (c d : Site → List Placed) → HasEmitted old mid no_code front here Front c → HasEmitted mid new no_code back here Back d → whole ≡ front ++ back → HasEmitted old new no_code whole here (λ k. Front k × Back k) (λ t. c t ++ d t)
-then_made old mid new front back whole here Front Back c d m n is = record {
-  grows = grows_then old mid new m.grows n.grows;
-  adds = λ f t u around located good.
-      adds_apart f front back whole (c t) (d t) is (m.adds f t tt (around_old f mid new n.grows around) (stands_old f mid new here t n.grows located) good.0) (n.adds f t tt around located good.1);
-  more = λ f t u around located good. tt;
-}
+then_made old mid new front back whole here Front Back c d m n is =
+    emits (grows_then old mid new m.grows n.grows) (λ f t u around located good.
+    adds_apart f front back whole (c t) (d t) is (m.adds f t tt (around_old f mid new n.grows around) (stands_old f mid new here t n.grows located) good.0) (n.adds f t tt around located good.1))
 
 -- what was made, for another code that is the same at each site at which the generator may be, where other things are well typed
 pub emits_where : (old new : Generator) (p q : Lined) (here : Here) (Good Other : TypedScope → Type 0) (c d : Site → List Placed) → ((k : TypedScope) → Other k → Good k) → ((f : Final) (t : Site) → IsAround f new → IsLocated f new here t → c t ≡ d t) → HasEmitted old new p q here Good c → HasEmitted old new p q here Other d
-emits_where old new p q here Good Other c d good same m = record {
-  grows = m.grows;
-  adds = λ f t u around located other. adds_same f p q (c t) (d t) (same f t around located) (m.adds f t u around located (good t.scope other));
-  more = λ f t u around located other. tt;
-}
+emits_where old new p q here Good Other c d good same m =
+    emits m.grows (λ f t u around located other. adds_same f p q (c t) (d t) (same f t around located) (m.adds f t u around located (good t.scope other)))
 
 -- and around a piece
 pub around_for : (old new : Generator) (p q inner : Lined) (here : Here) (Good Other : TypedScope → Type 0) (c d : Site → List Placed → List Placed) → ((k : TypedScope) → Other k → Good k) → ((t : Site) (b : List Placed) → c t b ≡ d t b) → HasEmittedAround old new p q here inner Good c → HasEmittedAround old new p q here inner Other d
-around_for old new p q inner here Good Other c d so same m = record {
-  grows = m.grows;
-  adds = λ f t b around located fits. adds_same f p q (c t b) (d t b) (same t b) (m.adds f t b around located (fits.0, so t.scope fits.1));
-  more = λ f t b around located fits. tt;
-}
+around_for old new p q inner here Good Other c d so same m =
+    emits m.grows (λ f t b around located fits. adds_same f p q (c t b) (d t b) (same t b) (m.adds f t b around located (fits.0, so t.scope fits.1)))
 
 -- ## Where alternatives are made from the end
 

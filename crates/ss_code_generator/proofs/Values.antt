@@ -16,7 +16,7 @@ use Rattle.ss_code_instructions.specs.Instructions as i
 use Rattle.ss_code_generator.specs.declared.expressions.Operand.{Operand as Read}
 use Rattle.ss_code_generator.specs.declared.generator.Site.{Site as Here}
 use Rattle.ss_code_pieces.specs.Preamble.{mode_in}
-use Rattle.ss_code_generator.proofs.Emitting.{around_old, grows_same, grows_then, stands_old, adds_then, adds_one, adds_same, makes_later, emits_one}
+use Rattle.ss_code_generator.proofs.Emitting.{around_old, grows_same, grows_then, stands_old, adds_then, adds_one, adds_same, makes_later, emits_one, emits}
 use Rattle.ss_code_generator.proofs.Forms as forms
 use Rattle.ss_code_generator.proofs.Modes.{held_mode, has_field}
 use Rattle.ss_code_generator.proofs.Operands.{cell_reads_at, read_stands, one_read}
@@ -102,21 +102,18 @@ module _ (old new : Generator) (p : Lined) (here : Here) (to : Address) where
 
 -- an operation on a number that is there
 pub operation_emitted : (old new : Generator) (p q s : Lined) (here higher : Here) (left right : Read) (to : Address) (op : Operation) → higher.line ≡ here.line → (here.height + left.cells < 2 ^ 64 → higher.height ≡ here.height + left.cells) → HasReadOperand old new p q higher (view_expression op.operand) right → s ≡ q ++ on_line here.line (calculating op.operator left.address right.address to) ∷ [] → HasOperated old new p s here left to op
-operation_emitted old new p q s here higher left right to op line above m is = record {
-  grows = m.grows;
-  adds = λ f t x around located fits.
-      let b : Expression = view_expression op.operand in
-      let u : Site = after t x.left in
-      let there = read_stands f new here higher t x.left left around located fits.0 line above in
-      let typed : IsTyped b u.scope = (Integer, fits.2) in
-      let read = m.more f u tt around there typed in
-      let ins : Instruction = i.Calculate op.operator (operand t x.left) (operand u b) x.to in
-      let from : IsSiteOperand f (after u b) (operand t x.left) left.address = fits.0.at in
-      let c = forms.calculates (code_of f.program) f.constants (place (after u b) ins) op.operator left.address right.address to (operand t x.left, from, (operand u b, read.at, (x.to, fits.1, refl))) in
-      adds_then f p q s (operand_code u b) (place (after u b) ins ∷ []) (m.adds f u tt around there typed)
-      (adds_one f q s here.line (place (after u b) ins) (calculating op.operator left.address right.address to) is located.line (record { carries = c; deep = read.deep; shown = tt }));
-  more = λ f t x around located fits. tt;
-}
+operation_emitted old new p q s here higher left right to op line above m is =
+    emits m.grows (λ f t x around located fits.
+    let b : Expression = view_expression op.operand in
+    let u : Site = after t x.left in
+    let there = read_stands f new here higher t x.left left around located fits.0 line above in
+    let typed : IsTyped b u.scope = (Integer, fits.2) in
+    let read = m.more f u tt around there typed in
+    let ins : Instruction = i.Calculate op.operator (operand t x.left) (operand u b) x.to in
+    let from : IsSiteOperand f (after u b) (operand t x.left) left.address = fits.0.at in
+    let c = forms.calculates (code_of f.program) f.constants (place (after u b) ins) op.operator left.address right.address to (operand t x.left, from, (operand u b, read.at, (x.to, fits.1, refl))) in
+    adds_then f p q s (operand_code u b) (place (after u b) ins ∷ []) (m.adds f u tt around there typed)
+    (adds_one f q s here.line (place (after u b) ins) (calculating op.operator left.address right.address to) is located.line (record { carries = c; deep = read.deep; shown = tt })))
 
 -- a number and an operation after it are an expression
 pub calculated_code : (t : Site) (e : Expression) (o : Operation) (to : Target) → operand_code t e ++ operation_code t e o to ≡ expression_code t to (with_operation e o)
@@ -128,19 +125,16 @@ parts_typed s e o h = (h.1.1, h.1.2)
 
 -- one operation more, whose result goes to a target
 pub more_emitted : (old mid new : Generator) (p q s : Lined) (here : Here) (e : Expression) (o : Operation) (left : Read) (to : Address) → HasReadOperand old mid p q here e left → HasOperated mid new q s here left to o → HasEmittedExpression old new p s here to (with_operation e o)
-more_emitted old mid new p q s here e o left to m n = record {
-  grows = grows_then old mid new m.grows n.grows;
-  adds = λ f t x around located fits.
-      let mine = around_old f mid new n.grows around in
-      let there = stands_old f mid new here t n.grows located in
-      let parts = parts_typed t.scope e o fits.1 in
-      let typed : IsTyped e t.scope = (Integer, parts.0) in
-      let both : LeftOperand = record { left = e; to = x } in
-      adds_same f p s (operand_code t e ++ operation_code t e o x) (expression_code t x (with_operation e o)) (calculated_code t e o x)
-      (adds_then f p q s (operand_code t e) (operation_code t e o x) (m.adds f t tt mine there typed)
-      (n.adds f t both around located (m.more f t tt mine there typed, fits.0, parts.1)));
-  more = λ f t x around located fits. tt;
-}
+more_emitted old mid new p q s here e o left to m n =
+    emits (grows_then old mid new m.grows n.grows) (λ f t x around located fits.
+    let mine = around_old f mid new n.grows around in
+    let there = stands_old f mid new here t n.grows located in
+    let parts = parts_typed t.scope e o fits.1 in
+    let typed : IsTyped e t.scope = (Integer, parts.0) in
+    let both : LeftOperand = record { left = e; to = x } in
+    adds_same f p s (operand_code t e ++ operation_code t e o x) (expression_code t x (with_operation e o)) (calculated_code t e o x)
+    (adds_then f p q s (operand_code t e) (operation_code t e o x) (m.adds f t tt mine there typed)
+    (n.adds f t both around located (m.more f t tt mine there typed, fits.0, parts.1))))
 
 -- one operation more, whose result goes into the next cell
 pub next_reads : (old mid cell new : Generator) (p q s : Lined) (here : Here) (e : Expression) (o : Operation) (left : Read) (a : Address) → HasReadOperand old mid p q here e left → HasGrown mid cell → IsInFrame (length cell.locals.items + here.height) a → here.height < cell.deepest → HasOperated cell new q s here left a o → HasReadOperand old new p s here (with_operation e o) (record { address = a; cells = 1 })
