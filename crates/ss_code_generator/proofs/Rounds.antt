@@ -2,10 +2,9 @@
 use Rattle.std.proofs.Common.{◌≡◌, ℕ, ◌+◌, ◌-◌, ◌<◌, ◌≤◌, ◌^◌, Bool, true, false, List, [], ◌∷◌, ◌++◌, length, Option, Some, None, refl, sym, ap, ◌∙◌, subst, arith, append_assoc, append-nil, length-append}
 use Rattle.std.specs.Prelude.{IfSome}
 use Rattle.std.specs.List.{AllByRecursion as Every}
-use Rattle.ss_code_generator.proofs.Common.{Address, AreNumbers, Bearer, expression_of, Final, Generator, HasAdded, HasBorne, HasEmitted, HasEmittedAround, HasEmittedAroundBoth, HasGrown, HasMode, Integer, IsAround, IsInFrame, IsInteger, IsLocated, IsRunBy, IsSiteBearer, IsTyped, IsTypedCondition, IsTypedHead, IsTypedPhrase, IsVariable, Line, Lined, MemberLoop, no_code, on_line, Placed, TypedScope, Variable, VariableSpot}
+use Rattle.ss_code_generator.proofs.Common.{Address, AreNumbers, Bearer, expression_of, Final, Generator, HasAdded, HasBorne, HasEmitted, HasEmittedAround, HasEmittedAroundBoth, HasGrown, HasMode, Integer, IsAround, IsInFrame, IsInteger, IsLocated, IsSiteBearer, IsTyped, IsTypedCondition, IsTypedHead, IsTypedPhrase, IsVariable, Line, Lined, MemberLoop, no_code, on_line, Placed, TypedScope, Variable, VariableSpot}
 use Rattle.ss_code_instructions.specs.Translation.{above, expression_code, for_code, guards_code, height, next, phrases_code, place, Site, forget, forget_to, loop_code, take_code, turns_code, step_code, range_code, number_loop, walk_loop, owner_code, owner_cell, owner_kept, start_code, begin_code, in_loop, find_code}
 use Rattle.ss_program.specs.Program.{Entity, Expression, Guard, Phrase, SetOwner, TheSystem, Start, AtEnd, From, After, Head, Numbers, Members}
-use Rattle.ss_code_instructions.specs.declared.instruction.Instruction.{Instruction as Running}
 use Rattle.ss_code_instructions.specs.declared.instruction.Instruction.TheVariants as r
 use Rattle.ss_code_instructions.specs.Instructions as i
 use Rattle.ss_code_generator.specs.declared.expressions.Operand.{Operand as Read}
@@ -14,15 +13,6 @@ use Rattle.ss_code_generator.specs.Looped.{loop_width, is_after, begin_of, items
 use Rattle.ss_code_generator.proofs.Emitting.{around_old, grows_same, grows_then, stands_old, stands_new, stands_above, adds_none, adds_then, adds_one, adds_piece, adds_same, piece_long, emits}
 use Rattle.ss_code_generator.proofs.Operands.{cell_at_site}
 use Rattle.ss_code_generator.proofs.Testing.{owner_number}
-
--- ## Instructions one after another
-
-put_one : (f : Final) (g : Generator) (here : Here) (t : Site) (p q : Lined) (x : i.Instruction) (y : Running) → IsLocated f g here t → q ≡ p ++ on_line here.line y ∷ [] → IsRunBy f (place t x) y → HasAdded f p q (place t x ∷ [])
-put_one f g here t p q x y located put runs = adds_one f p q here.line (place t x) y put located.line runs
-
--- a site that located where the generator is, and one some cells above it
-higher : (f : Final) (g : Generator) (here above_here : Here) (t u : Site) (k : ℕ) → IsAround f g → IsLocated f g here t → above_here.line ≡ here.line → (here.height + k < 2 ^ 64 → above_here.height ≡ here.height + k) → u.scope ≡ t.scope → u.line ≡ t.line → height u ≡ height t + k → height u ≤ f.depth → IsLocated f g above_here u
-higher f g here above_here t u k around located line up scope same high deep = stands_above f g here above_here t u k around.small located line up scope same high deep
 
 -- ## WHILE and UNTIL
 
@@ -39,7 +29,7 @@ module _ (g0 g1 g2 : Generator) (here : Here) (body : Lined) (gs : List Guard) w
       let none : HasAdded f no_code empty [] = subst (λ (e : Lined). HasAdded f no_code e []) (sym empty_is) (adds_none f no_code) in
       let guards : HasAdded f no_code again G = adds_same f no_code again (G ++ []) G (append-nil G) (m.adds f t [] mine there (none, fits.1)) in
       let tick : Placed = place t i.Turn in
-      let begun : HasAdded f t0 t1 (tick ∷ []) = put_one f g2 here t t0 t1 i.Turn r.Turn located first (record { carries = refl; deep = located.deep; shown = tt }) in
+      let begun : HasAdded f t0 t1 (tick ∷ []) = adds_one f t0 t1 here.line (place t i.Turn) r.Turn first located.line (record { carries = refl; deep = located.deep; shown = tt }) in
       let inner : HasAdded f t0 t3 (tick ∷ (b ++ G)) =
       adds_then f t0 t1 t3 (tick ∷ []) (b ++ G) begun (adds_then f t1 t2 t3 b G (adds_piece f t1 t2 body b second fits.0) (adds_piece f t2 t3 again G third guards)) in
       let from_none : HasAdded f no_code t3 (tick ∷ (b ++ G)) = subst (λ (e : Lined). HasAdded f e t3 (tick ∷ (b ++ G))) t0_is inner in
@@ -48,7 +38,7 @@ module _ (g0 g1 g2 : Generator) (here : Here) (body : Lined) (gs : List Guard) w
       let end : Placed = place t (i.Repeat (length b + length G + 1)) in
       let T : List Placed = tick ∷ (b ++ (G ++ end ∷ [])) in
       let ended : HasAdded f t3 turn (end ∷ []) =
-      put_one f g2 here t t3 turn (i.Repeat (length b + length G + 1)) (r.Repeat back) located last (record { carries = ap i.Repeat (sym back_long); deep = located.deep; shown = tt }) in
+      adds_one f t3 turn here.line (place t (i.Repeat (length b + length G + 1))) (r.Repeat back) last located.line (record { carries = ap i.Repeat (sym back_long); deep = located.deep; shown = tt }) in
       let turned : HasAdded f no_code turn T =
       adds_same f no_code turn ((tick ∷ (b ++ G)) ++ end ∷ []) T (ap (λ (l : List Placed). tick ∷ l) (append_assoc b G (end ∷ [])))
       (adds_then f no_code t3 turn (tick ∷ (b ++ G)) (end ∷ []) from_none ended) in
@@ -74,7 +64,7 @@ members_taken g a b c turn here w back m both back_is last =
     ap (λ s. i.NextMember w.reverse s x.owner x.cell (length head + length x.turn)) (sym set) ∙ ap (i.NextMember w.reverse w.set x.owner x.cell) (sym back_long) in
     adds_then f no_code a c head (x.turn ++ place u again ∷ []) one
     (adds_then f a b c x.turn (place u again ∷ []) two
-    (put_one f g here u b c again (r.NextMember w.set w.owner w.cell back w.reverse false) located last (record { carries = (x.owner, owner, (x.cell, fits.0.3, is_that)); deep = located.deep; shown = tt }))))
+    (adds_one f b c here.line (place u again) (r.NextMember w.set w.owner w.cell back w.reverse false) last located.line (record { carries = (x.owner, owner, (x.cell, fits.0.3, is_that)); deep = located.deep; shown = tt }))))
 
 -- ## The head of a loop over numbers
 
@@ -97,8 +87,8 @@ ranged g0 g1 g2 g3 p q s v here second third a b c Also m n o line1 line2 high1 
     let limit : IsTyped b t.scope = (Integer, good.1) in
     adds_then f p q v (expression_code t (next t) a) (expression_code t1 (next t1) b ++ step_code t2 c) (m.adds f t tt around1 stands1 first)
     (adds_then f q s v (expression_code t1 (next t1) b) (step_code t2 c)
-    (n.adds f t1 tt around2 (higher f g2 here second t t1 1 around2 stands2 line1 high1 refl refl tall1 deep1) limit)
-    (o.adds f t2 tt around (higher f g3 here third t t2 2 around located line2 high2 refl refl tall2 deep2) (also t.scope good.2))))
+    (n.adds f t1 tt around2 (stands_above f g2 here second t t1 1 around2.small stands2 line1 high1 refl refl tall1 deep1) limit)
+    (o.adds f t2 tt around (stands_above f g3 here third t t2 2 around.small located line2 high2 refl refl tall2 deep2) (also t.scope good.2))))
 
 -- ## FOR over numbers, and over a class
 
@@ -109,10 +99,10 @@ three_up t = omega arith
 -- the instruction with which it begins
 items_begun : (f : Final) (g : Generator) (here above_here : Here) (t : Site) (class : Option ℕ) (cell skip n : ℕ) (p q : Lined) → IsLocated f g here t → IsLocated f g above_here (number_loop t) → above_here.line ≡ here.line → cell ≡ length t.scope.locals + height t → skip ≡ n → q ≡ p ++ on_line here.line (items_begin class cell skip) ∷ [] → HasAdded f p q (begins_items t class n ∷ [])
 items_begun f g here above_here t None cell skip n p q located on_top line at long put =
-    put_one f g above_here (number_loop t) p q (i.Begin (height t) n) (r.Begin cell skip) on_top (put ∙ ap (λ (l : Line). p ++ on_line l (r.Begin cell skip) ∷ []) (sym line))
+    adds_one f p q above_here.line (place (number_loop t) (i.Begin (height t) n)) (r.Begin cell skip) (put ∙ ap (λ (l : Line). p ++ on_line l (r.Begin cell skip) ∷ []) (sym line)) on_top.line
     (record { carries = (height t, at, ap (i.Begin (height t)) (sym long)); deep = on_top.deep; shown = tt })
 items_begun f g here above_here t (Some class) cell skip n p q located on_top line at long put =
-    put_one f g here t p q (i.BeginClass class (height t) n) (r.BeginClass class cell skip) located put (record { carries = (height t, at, ap (i.BeginClass class (height t)) (sym long)); deep = located.deep; shown = tt })
+    adds_one f p q here.line (place t (i.BeginClass class (height t) n)) (r.BeginClass class cell skip) put located.line (record { carries = (height t, at, ap (i.BeginClass class (height t)) (sym long)); deep = located.deep; shown = tt })
 
 pub items_looped : (g0 g : Generator) (p q q1 q2 : Lined) (here above_here : Here) (class : Option ℕ) (cell skip : ℕ) (spot : VariableSpot) (turn items : Lined) (x : Variable) → above_here.line ≡ here.line → (here.height + 3 < 2 ^ 64 → above_here.height ≡ here.height + 3) → HasGrown g0 g → above_here.height ≤ g.deepest → cell ≡ length g.locals.items + here.height → ((f : Final) (h : Here) (t : Site) → IsAround f g → IsLocated f g h t → IsVariable t x spot) → HasTakenItems g items above_here cell spot turn → skip ≡ length items → q ≡ p ++ on_line here.line (items_begin class cell skip) ∷ [] → q1 ≡ q ++ items → HasEmitted g g q1 q2 above_here (λ s. Unit {0}) (λ u. forget u 3) → HasEmittedAround g0 g p q2 here turn (λ s. Unit {0}) (λ t b. item_loop_code t class x b)
 items_looped g0 g p q q1 q2 here above_here class cell skip spot turn items x line up grows room at is m skip_is put join forgets =
@@ -121,7 +111,7 @@ items_looped g0 g p q q1 q2 here above_here class cell skip spot turn items x li
     let fit : here.height + 3 < 2 ^ 64 = omega (arith, located.high, located.deep, around.small) in
     let tall : height u ≡ height t + 3 = omega arith in
     let deep : height u ≤ f.depth = omega (arith, tall, located.high, up fit, room, around.depth) in
-    let on_top : IsLocated f g above_here u = higher f g here above_here t u 3 around located line up refl refl tall deep in
+    let on_top : IsLocated f g above_here u = stands_above f g here above_here t u 3 around.small located line up refl refl tall deep in
     let locals : length t.scope.locals ≡ length g.locals.items = ap length located.locals in
     let cell_is : cell ≡ length t.scope.locals + height t = omega (arith, at, locals, located.high) in
     let turns : List Placed = turns_code u (height t) x body (i.Next (height t)) in
@@ -175,7 +165,7 @@ starts_at g0 g p q s here w e put m =
     let look : i.Instruction = i.LookOwner x.set x.owner in
     let member : IsTyped e u.scope = (Integer, fits.1) in
     adds_then f p q s (place u look ∷ []) (expression_code u (next u) e)
-    (put_one f g here u p q look (r.LookOwner w.set w.owner) located put
+    (adds_one f p q here.line (place u look) (r.LookOwner w.set w.owner) put located.line
     (record { carries = (x.owner, owner, ap (λ k. i.LookOwner k x.owner) (sym fits.0.1)); deep = located.deep; shown = tt }))
     (m.adds f u tt around located member))
 
@@ -198,7 +188,7 @@ begins : (f : Final) (g : Generator) (here : Here) (u : Site) (w : MemberLoop) (
 begins f g here u w set owner AtEnd skip n reverse p q located deep is at cell turned long put =
     let ins : i.Instruction = i.BeginSet reverse set owner (height u) n in
     let same : ins ≡ i.BeginSet w.reverse w.set owner (height u) skip = cc in
-    put_one f g here u p q ins (r.BeginSet w.set w.owner w.cell skip w.reverse) located put
+    adds_one f p q here.line (place u ins) (r.BeginSet w.set w.owner w.cell skip w.reverse) put located.line
     (record { carries = (owner, at, (height u, cell, same)); deep = located.deep; shown = tt })
 begins f g here u w set owner (From e) skip n reverse p q located deep is at cell turned long put = begins_at f g here u w set owner false skip n reverse p q located deep is at cell turned long put
 begins f g here u w set owner (After e) skip n reverse p q located deep is at cell turned long put = begins_at f g here u w set owner true skip n reverse p q located deep is at cell turned long put
@@ -240,13 +230,13 @@ members_walked g0 g1 g2 g3 p q q1 q2 q3 q4 here below_here above_here w kept tur
     let u : Site = owner_cell t o in
     let v : Site = walk_loop t o in
     let bearer : Bearer = owner_kept t o in
-    let low1 : IsLocated f g1 below_here u = higher f g1 here below_here t u kept.cells around1 stands1 k.below_line k.below_height refl refl keep.1 keep.2 in
+    let low1 : IsLocated f g1 below_here u = stands_above f g1 here below_here t u kept.cells around1.small stands1 k.below_line k.below_height refl refl keep.1 keep.2 in
     let low2 : IsLocated f g2 below_here u = stands_new f g1 g2 below_here u k.starts.grows low1 in
     let low3 : IsLocated f g3 below_here u = stands_new f g2 g3 below_here u k.reaches low2 in
     let fit : below_here.height + 2 < 2 ^ 64 = omega (arith, low1.high, low1.deep, around.small) in
     let tall : height v ≡ height u + 2 = omega arith in
     let deep : height v ≤ f.depth = omega (arith, tall, low1.high, k.above_height fit, k.room, around.depth) in
-    let high3 : IsLocated f g3 above_here v = higher f g3 below_here above_here u v 2 around low3 k.above_line k.above_height refl refl tall deep in
+    let high3 : IsLocated f g3 above_here v = stands_above f g3 below_here above_here u v 2 around.small low3 k.above_line k.above_height refl refl tall deep in
     let high1 : IsLocated f g1 above_here v = stands_old f g1 g3 above_here v (grows_then g1 g2 g3 k.starts.grows k.reaches) high3 in
     let owner : IsSiteBearer f t bearer w.owner = subst (IsSiteBearer f t bearer) (sym k.of_owner) keep.0 in
     let locals : length u.scope.locals ≡ length g1.locals.items = ap length low1.locals in
@@ -288,7 +278,7 @@ loop_stands f g0 g1 here above_here t head cells wide line up room around0 aroun
     let tall : height u ≡ height t + cells = loop_high t head ∙ ap (λ k. height t + k) (sym wide) in
     let fits : here.height + cells < 2 ^ 64 = omega (arith, located.high, located.deep, around.small, wide, few_kept head) in
     let deep : height u ≤ f.depth = omega (arith, tall, located.high, up fits, room, around0.depth) in
-    higher f g1 here above_here t u cells around located line up refl refl tall deep
+    stands_above f g1 here above_here t u cells around.small located line up refl refl tall deep
 
 -- a loop with phrases around what is done for each case
 pub for_looped : (f : Final) (g1 g2 g3 g4 : Generator) (p q inner turn : Lined) (here above_here : Here) (head : Head) (ps : List Phrase) (cells : ℕ) (t : Site) (body : List Placed) → cells ≡ loop_width head → above_here.line ≡ here.line → (here.height + cells < 2 ^ 64 → above_here.height ≡ here.height + cells) → above_here.height ≤ g1.deepest → HasGrown g1 g2 → (IsAround f g2 → IsLocated f g2 above_here (in_loop t head) → HasAdded f no_code inner body) → HasEmittedAround g2 g3 no_code turn above_here inner (λ s. Every (IsTypedPhrase s) ps) (λ t b. phrases_code t ps b) → HasEmittedAround g3 g4 p q here turn (λ s. IsTypedHead s head) (λ t b. for_code t head b) → IsAround f g4 → IsLocated f g4 here t → IsTypedHead t.scope head → Every (IsTypedPhrase t.scope) ps → HasAdded f p q (for_code t head (phrases_code (in_loop t head) ps body))
@@ -320,7 +310,7 @@ found_or_not g0 g1 g2 g3 p q q1 q2 q3 q4 here above_here head ps cells skip past
     for_looped f g1 g1 g2 g3 p q case turn here above_here head ps cells t (place u (i.Jump (length b.second + 3)) ∷ []) wide line up room (grows_same g1) jump n o around located good.0 good.1 in
     let high3 : IsLocated f g3 above_here u = loop_stands f g1 g3 here above_here t head cells wide line up room (around_old f g1 g3 grown around) around located in
     let passed : HasAdded f q1 q2 (place t (i.Jump (length b.first + 1)) ∷ []) =
-    put_one f g3 here t q1 q2 (i.Jump (length b.first + 1)) (r.Jump past_skip) located second (record { carries = ap i.Jump (sym past_long); deep = located.deep; shown = tt }) in
+    adds_one f q1 q2 here.line (place t (i.Jump (length b.first + 1))) (r.Jump past_skip) second located.line (record { carries = ap i.Jump (sym past_long); deep = located.deep; shown = tt }) in
     let count : cells ≡ height u - height t = omega (arith, loop_high t head, wide) in
     let gone : HasAdded f q2 q3 (forget_to t u) = adds_same f q2 q3 (forget u cells) (forget_to t u) (ap (forget u) count) (forgets.adds f u tt around high3 tt) in
     let rest : List Placed = forget_to t u ++ b.first in
