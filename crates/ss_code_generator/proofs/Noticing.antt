@@ -18,6 +18,7 @@ use Rattle.ss_code_generator.proofs.Modes.{on_top}
 use Rattle.ss_code_generator.proofs.Operands.{read_stands, cell_at_site, operand_at, stays_at, one_read}
 use Rattle.ss_code_generator.proofs.Spotted.{stored}
 use Rattle.ss_code_generator.proofs.Called.{each_fits}
+use Rattle.ss_code_generator.proofs.Pushing.{values_stand}
 use Rattle.ss_code_generator.proofs.Letting.{MakesSpot, Lands, spot_stands, holds_mode}
 
 -- ## One operand, and an instruction that leaves something in the next cell
@@ -41,15 +42,6 @@ in_timed old mid new p q v here e o to g cell m is =
     (λ f t at read. record { carries = (operand t e, read.at, (next t, at, refl)); deep = read.deep; shown = tt })
 
 -- ## What a notice is given, and its time
-
--- where the values lie
-pub values_stand : (f : Final) (mid new : Generator) (here higher : Here) (t : Site) (es : List Expression) → HasGrown mid new → here.height + length es ≤ mid.deepest → higher.line ≡ here.line → (here.height + length es < 2 ^ 64 → higher.height ≡ here.height + length es) → IsAround f new → IsLocated f new here t → IsLocated f new higher (after_values t es)
-values_stand f mid new here higher t es g room line up around located =
-    let mine = around_old f mid new g around in
-    let long : height (after_values t es) ≡ length es + height t = values_high t.scope es t.cells in
-    let high : height (after_values t es) ≡ height t + length es = omega (arith, long) in
-    let deep : height (after_values t es) ≤ f.depth = omega (arith, high, located.high, room, mine.depth) in
-    stands_above f new here higher t (after_values t es) (length es) around.small located line up refl refl high deep
 
 pub values_timed : (old mid new : Generator) (p q v : Lined) (here higher : Here) (es : List Expression) (w : When) → HasEmitted old mid p q here (λ s. Every (λ e. IsTyped e s) es) (λ t. values_code t es) → here.height + length es ≤ mid.deepest → higher.line ≡ here.line → (here.height + length es < 2 ^ 64 → higher.height ≡ here.height + length es) → HasEmitted mid new q v higher (λ s. IsTypedWhen s w) (λ t. when_code t w) → HasEmitted old new p v here (λ s. Every (λ e. IsTyped e s) es × IsTypedWhen s w) (λ t. values_code t es ++ when_code (after_values t es) w)
 values_timed old mid new p q v here higher es w m room line up n =

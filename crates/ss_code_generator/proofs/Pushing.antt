@@ -1,6 +1,6 @@
 -- Values that go into cells, and what loops keep there.
 use Rattle.std.proofs.Common.{◌≡◌, ℕ, ◌+◌, ◌<◌, ◌≤◌, ◌^◌, List, [], ◌∷◌, ◌++◌, length, get_or, map, take, refl, sym, ap, ◌∙◌, subst, arith, append_assoc, append-nil, length-append}
-use Rattle.ss_code_generator.proofs.Common.{above, Address, after_values, Constant, Expression, expression_code, expression_mode, Final, Generator, HasEmitted, HasGrown, HasTakenItems, HasTakenLoopItem, height, IsAround, IsInFrame, IsSiteOperand, IsTyped, Lined, next, no_code, on_line, place, Placed, pos, Site, take_all, take_code, values_code, values_high, VariableSpot, view_expression, Whole}
+use Rattle.ss_code_generator.proofs.Common.{above, Address, after_values, Constant, Expression, expression_code, expression_mode, Final, Generator, HasEmitted, HasGrown, HasTakenItems, HasTakenLoopItem, height, IsAround, IsInFrame, IsLocated, IsSiteOperand, IsTyped, Lined, next, no_code, on_line, place, Placed, pos, Site, take_all, take_code, values_code, values_high, VariableSpot, view_expression, Whole}
 use Rattle.std.specs.List.{AllByRecursion as Every}
 use Rattle.ss_program.specs.declared.expression.Expression as expressions
 use Rattle.ss_code_instructions.specs.declared.instruction.Instruction.TheVariants as r
@@ -27,16 +27,22 @@ values_code_more t (x ∷ es) e =
     let last : List Placed = expression_code (after_values u es) (next (after_values u es)) e in
     ap (λ (c : List Placed). expression_code t (next t) x ++ c) (values_code_more u es e) ∙ sym (append_assoc (expression_code t (next t) x) (values_code u es) last)
 
+-- where the values lie
+pub values_stand : (f : Final) (mid new : Generator) (here higher : Here) (t : Site) (es : List Expression) → HasGrown mid new → here.height + length es ≤ mid.deepest → higher.line ≡ here.line → (here.height + length es < 2 ^ 64 → higher.height ≡ here.height + length es) → IsAround f new → IsLocated f new here t → IsLocated f new higher (after_values t es)
+values_stand f mid new here higher t es g room line up around located =
+    let mine = around_old f mid new g around in
+    let long : height (after_values t es) ≡ length es + height t = values_high t.scope es t.cells in
+    let high : height (after_values t es) ≡ height t + length es = omega (arith, long) in
+    let deep : height (after_values t es) ≤ f.depth = omega (arith, high, located.high, room, mine.depth) in
+    stands_above f new here higher t (after_values t es) (length es) around.small located line up refl refl high deep
+
 pub values_more : (old mid new : Generator) (p q s : Lined) (here higher : Here) (es : List Expression) (e : Expression) → HasEmitted old mid p q here (λ k. Every (λ x. IsTyped x k) es) (λ t. values_code t es) → here.height + length es ≤ mid.deepest → higher.line ≡ here.line → (here.height + length es < 2 ^ 64 → higher.height ≡ here.height + length es) → HasEmitted mid new q s higher (IsTyped e) (λ t. expression_code t (next t) e) → HasEmitted old new p s here (λ k. Every (λ x. IsTyped x k) (es ++ e ∷ [])) (λ t. values_code t (es ++ e ∷ []))
 values_more old mid new p q s here higher es e m room line above_ n =
     emits (grows_then old mid new m.grows n.grows) (λ f t u around located typed.
     let mine = around_old f mid new n.grows around in
     let there = stands_old f mid new here t n.grows located in
     let each = every_split (λ (x : Expression). IsTyped x t.scope) es e typed in
-    let long : height (after_values t es) ≡ length es + height t = values_high t.scope es t.cells in
-    let high : height (after_values t es) ≡ height t + length es = omega (arith, long) in
-    let deep : height (after_values t es) ≤ f.depth = omega (arith, high, located.high, room, mine.depth) in
-    let on_top = stands_above f new here higher t (after_values t es) (length es) around.small located line above_ refl refl high deep in
+    let on_top = values_stand f mid new here higher t es n.grows room line above_ around located in
     adds_same f p s (values_code t es ++ expression_code (after_values t es) (next (after_values t es)) e) (values_code t (es ++ e ∷ [])) (sym (values_code_more t es e))
     (adds_then f p q s (values_code t es) (expression_code (after_values t es) (next (after_values t es)) e) (m.adds f t tt mine there each.0)
     (n.adds f (after_values t es) tt around on_top each.1)))
