@@ -22,9 +22,8 @@ halfway_more depth zero old (n ∷ ns) x y h e d =
     let d' : IsDeepened depth n y = subst (λ (w : SectionEntry). IsDeepened depth w y) (same_some (sym e)) d in
     subst (λ (l : List SectionEntry). Halfway depth (suc zero) l (y ∷ ns)) (sym h) (d', refl)
 halfway_more depth (suc k) [] [] x y h e d = absurd (no_item (suc k) x e)
-halfway_more depth (suc k) [] (n ∷ ns) x y h e d = absurd h
-halfway_more depth (suc k) (o ∷ os) [] x y h e d = absurd h
 halfway_more depth (suc k) (o ∷ os) (n ∷ ns) x y h e d = (h.0, halfway_more depth k os ns x y h.1 e d)
+halfway_more depth (suc k) _ _ x y h e d = absurd h
 
 pub one_deeper : (depth k : ℕ) (old new : List SectionEntry) (x y : SectionEntry) → Halfway depth k old new → slice_get new k ≡ Some x → IsDeepened depth x y → Halfway depth (k + 1) old (slice_set new k y)
 one_deeper depth k old new x y h e d =
@@ -35,6 +34,5 @@ pub all_deeper : (depth k : ℕ) (old new : List SectionEntry) → length old �
 all_deeper depth zero [] new few h = subst (λ (l : List SectionEntry). AreAllDeepened depth [] l) h tt
 all_deeper depth zero (o ∷ os) new few h = absurd (omega (arith, few))
 all_deeper depth (suc k) [] [] few h = tt
-all_deeper depth (suc k) [] (n ∷ ns) few h = absurd h
-all_deeper depth (suc k) (o ∷ os) [] few h = absurd h
 all_deeper depth (suc k) (o ∷ os) (n ∷ ns) few h = (h.0, all_deeper depth k os ns (omega (arith, few)) h.1)
+all_deeper depth (suc k) _ _ few h = absurd h

@@ -79,11 +79,10 @@ entry_of depth e old new b d few =
 
 entries_of : (depth : ℕ) (es : List EntryPoint) (olds news : List SectionEntry) → AreAllFramed 0 es olds → AreAllDeepened depth olds news → Every Yields es → AreEntries depth es news
 entries_of depth [] [] [] b d y = tt
-entries_of depth [] [] (n ∷ ns) b d y = absurd d
-entries_of depth [] (o ∷ os) news b d y = absurd b
-entries_of depth (e ∷ es) [] news b d y = absurd b
-entries_of depth (e ∷ es) (o ∷ os) [] b d y = absurd d
 entries_of depth (e ∷ es) (o ∷ os) (n ∷ ns) b d y = (entry_of depth e o n b.0 d.0 y.0, entries_of depth es os ns b.1 d.1 y.1)
+entries_of depth [] [] _ b d y = absurd d
+entries_of depth (e ∷ es) (o ∷ os) _ b d y = absurd d
+entries_of depth _ _ news b d y = absurd b
 
 routines_yield : (p : Program) (at first : ℕ) (rs : List Routine) → Every Yields (routine_entries p at first rs)
 routines_yield p at first [] = tt
