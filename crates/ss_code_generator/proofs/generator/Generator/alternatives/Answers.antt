@@ -1,13 +1,13 @@
 use Rattle.std.proofs.Common.{◌≡◌, ℕ, ◌+◌, ◌-◌, ◌<◌, List, [], ◌∷◌, length, map, drop, get_or, ap, sym, ◌∙◌, arith}
-use Rattle.std.proofs.lemmas.List.{drop_all, drop_more}
+use Rattle.std.proofs.lemmas.List.{drop_all, drop_more, nil_from_length}
 use Rattle.ss_program.specs.declared.condition.Conjunction.{Conjunction}
 use Rattle.ss_program.specs.View.{view_conjunction}
-use Rattle.ss_code_generator.proofs.Listed.{next_dropped, none_there_is}
+use Rattle.ss_code_generator.proofs.Listed.{next_dropped}
 use Rattle.ss_code_generator.proofs.Testing.{alternatives_step, last_alternative}
 use Rattle.ss_code_generator.proofs.generator.Generator.alternatives.Goals as goal
 
 pub returns-then-count-eq0 : goal.returns-then-count-eq0
-returns-then-count-eq0 c = rw (none_there_is c.args.alternatives.now c.if-count-eq0.true) c.jump.ensures
+returns-then-count-eq0 c = rw (nil_from_length c.args.alternatives.now c.if-count-eq0.true) c.jump.ensures
 
 pub loop-i-init : goal.loop-i-init
 loop-i-init c =
