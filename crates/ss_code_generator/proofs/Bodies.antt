@@ -1,7 +1,8 @@
 -- Statements and bodies, from what was emitted for their parts.
-use Rattle.std.proofs.Common.{◌≡◌, ℕ, zero, suc, ◌+◌, ◌<◌, ◌≤◌, ◌^◌, List, [], ◌∷◌, ◌++◌, length, map, refl, sym, ap, ◌∙◌, subst, arith, append_assoc, append-nil, length-append}
+use Rattle.std.proofs.Common.{◌≡◌, ℕ, zero, suc, ◌+◌, ◌<◌, ◌≤◌, ◌^◌, List, [], ◌∷◌, ◌++◌, length, map, Result, refl, sym, ap, ◌∙◌, subst, arith, append_assoc, append-nil, length-append}
+use Rattle.std.specs.Prelude.{OnOk}
 use Rattle.std.specs.List.{AllZip, AllByRecursion as Every}
-use Rattle.ss_code_generator.proofs.Common.{Generator, IsCarriedOut, IsTypedItem, Line, Lined, Lines, loop_width, Mode, no_code, on_line, Placed, RunningLines}
+use Rattle.ss_code_generator.proofs.Common.{Generator, IsCarriedOut, IsTypedItem, Line, Lined, Lines, loop_width, Mode, no_code, on_line, on_ok_weaker, Placed, RunningLines}
 use Rattle.ss_code_generator.specs.Emitted.{Final, HasAdded, HasEmitted, HasEmittedAround, HasGrown, HasPrintModes, IsAround, IsLocated, HasEmittedAroundBoth, HasPrints}
 use Rattle.ss_code_generator.specs.Printed.{HasEmittedBlock, HasPrinted, line_or_none, statement_site, HasPrintedBy, HasPrintedLines, HasEmittedStatement}
 use Rattle.ss_code_instructions.specs.Translation.{code_of, condition_code, for_code, height, phrases_code, place, Site, site_at_line, no_line, if_code, loop_code, in_loop, loop_cells, find_code, items_code, after_items, statement_code, statement_prints, block_code, block_prints}
@@ -41,14 +42,14 @@ pub lined : (f : Final) (g : Generator) (h : ℕ) (l : Line) (t : Site) → IsLo
 lined f g h l t s = record { program = s.program; locals = s.locals; line = refl; high = s.high; deep = s.deep }
 
 -- a statement without PRINTs
-pub said : (old new : Generator) (a b : Lined) (h : ℕ) (l : Line) (prints : List RunningLines) (s form : statements.Statement) (Fits : TypedScope → Type 0) (c : Site → List Placed) → HasEmitted old new a b (record { line = l; height = h }) Fits c → s ≡ form → l ≡ line_or_none (view_statement s) → ((k : TypedScope) → IsTypedStatement k (view_statement form) → Fits k) → statement_prints (view_statement form) ≡ [] → ((first : ℕ) (t : Site) → c (site_at_line t (line_or_none (view_statement form))) ≡ statement_code t first (view_statement form)) → HasEmittedStatement old new a b h prints prints (view_statement s)
-said old new a b h l prints s form Fits c m is line fits none same = subst (λ (x : Statement). HasEmittedStatement old new a b h prints prints x) (sym w) base
+pub said : {T E : Type 0} (r : Result T E) (old new : Generator) (a b : Lined) (h : ℕ) (l : Line) (prints : List RunningLines) (s form : statements.Statement) (Fits : TypedScope → Type 0) (c : Site → List Placed) → OnOk r (HasEmitted old new a b (record { line = l; height = h }) Fits c) → s ≡ form → l ≡ line_or_none (view_statement s) → ((k : TypedScope) → IsTypedStatement k (view_statement form) → Fits k) → statement_prints (view_statement form) ≡ [] → ((first : ℕ) (t : Site) → c (site_at_line t (line_or_none (view_statement form))) ≡ statement_code t first (view_statement form)) → OnOk r (HasEmittedStatement old new a b h prints prints (view_statement s))
+said r old new a b h l prints s form Fits c made is line fits none same = on_ok_weaker r (λ m. subst (λ (x : Statement). HasEmittedStatement old new a b h prints prints x) (sym w) (base m)) made
   where
     w : view_statement s ≡ view_statement form
     w = ap view_statement is
 
-    base : HasEmittedStatement old new a b h prints prints (view_statement form)
-    base = record {
+    base : HasEmitted old new a b (record { line = l; height = h }) Fits c → HasEmittedStatement old new a b h prints prints (view_statement form)
+    base m = record {
       code = emits m.grows (λ f t u around located good.
           adds_same f a b (c (site_at_line t l)) (statement_code t (length prints) (view_statement form)) (ap (λ k. c (site_at_line t k)) (line ∙ ap line_or_none w) ∙ same (length prints) t)
           (m.adds f (site_at_line t l) tt around (lined f new h l t located) (fits t.scope good.1)));
