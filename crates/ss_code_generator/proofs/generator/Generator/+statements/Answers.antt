@@ -34,16 +34,16 @@ unfolding view_statement
 statement-returns-in-Return t' c =
     let i' = c.in-Return in
     let site : Here = record { line = c.line_of.result; height = c.args.height } in
-    said c.put.result c.args.self.now c.args.self.now c.args.code.now c.put.new.code c.args.height c.line_of.result c.args.prints.now.items c.args.s.now _ (λ k. Unit {0}) (λ t. place t i.Leave ∷ [])
-    (on_ok_weaker c.put.result (λ is. put_said c.args.self.now c.args.code.now c.put.new.code site i.Leave _ is (λ f t. refl) (λ f t. tt)) c.put.ensures) i'.is c.line_of.ensures (λ k h. tt) refl (λ first t. refl)
+    said c.put.result c.args.self.now c.args.self.now c.args.code.now c.put.new.self c.args.height c.line_of.result c.args.prints.now.items c.args.s.now _ (λ k. Unit {0}) (λ t. place t i.Leave ∷ [])
+    (on_ok_weaker c.put.result (λ is. put_said c.args.self.now c.args.code.now c.put.new.self site i.Leave _ is (λ f t. refl) (λ f t. tt)) c.put.ensures) i'.is c.line_of.ensures (λ k h. tt) refl (λ first t. refl)
 
 pub statement-returns-in-Stop : goal.statement-returns-in-Stop
 unfolding view_statement
 statement-returns-in-Stop t' c =
     let i' = c.in-Stop in
     let site : Here = record { line = c.line_of.result; height = c.args.height } in
-    said c.put-in-Stop.result c.args.self.now c.args.self.now c.args.code.now c.put-in-Stop.new.code c.args.height c.line_of.result c.args.prints.now.items c.args.s.now _ (λ k. Unit {0}) (λ t. place t i.Halt ∷ [])
-    (on_ok_weaker c.put-in-Stop.result (λ is. put_said c.args.self.now c.args.code.now c.put-in-Stop.new.code site i.Halt _ is (λ f t. refl) (λ f t. tt)) c.put-in-Stop.ensures) i'.is c.line_of.ensures (λ k h. tt) refl (λ first t. refl)
+    said c.put-in-Stop.result c.args.self.now c.args.self.now c.args.code.now c.put-in-Stop.new.self c.args.height c.line_of.result c.args.prints.now.items c.args.s.now _ (λ k. Unit {0}) (λ t. place t i.Halt ∷ [])
+    (on_ok_weaker c.put-in-Stop.result (λ is. put_said c.args.self.now c.args.code.now c.put-in-Stop.new.self site i.Halt _ is (λ f t. refl) (λ f t. tt)) c.put-in-Stop.ensures) i'.is c.line_of.ensures (λ k h. tt) refl (λ first t. refl)
 
 pub statement-returns-in-Read : goal.statement-returns-in-Read
 unfolding view_statement
