@@ -1,5 +1,5 @@
 -- Code of a list of things, with one of them more.
-use Rattle.std.proofs.Common.{◌≡◌, ℕ, ◌+◌, ◌<◌, List, [], ◌∷◌, ◌++◌, length, drop, get_or, refl, ap, sym, ◌∙◌, append_assoc, append-nil}
+use Rattle.std.proofs.Common.{◌≡◌, ℕ, ◌+◌, ◌-◌, ◌<◌, ◌≤◌, List, [], ◌∷◌, ◌++◌, length, drop, get_or, refl, ap, sym, ◌∙◌, arith, append_assoc, append-nil}
 use Rattle.ss_code_generator.proofs.Common.{after_bearer, bearer, bearer_code, CountedClass, creates_code, drop_more, Generator, HasEmitted, InputTarget, Lined, on_line, place, reads_code, Restart, restarts_code, Site, to_place_code, TypedScope}
 use Rattle.std.specs.List.{AllByRecursion as Every}
 use Rattle.ss_code_instructions.specs.Instructions.{Placed, Read, CreateAll, Reset}
@@ -51,3 +51,10 @@ creates_step g p q v here xs x m is =
 
 pub next_dropped : {A : Type 0} (xs : List A) (i : ℕ) (x : A) → i < length xs → x ≡ get_or xs i x → drop i xs ≡ x ∷ drop (i + 1) xs
 next_dropped {A} xs i x lt is = drop_more xs i x lt ∙ ap (λ (y : A). y ∷ drop (i + 1) xs) (sym is)
+
+-- the item before a place, of a loop that goes back
+pub next_before : {A : Type 0} (xs : List A) (i : ℕ) (x : A) → 0 < i → i ≤ length xs → x ≡ get_or xs (i - 1) x → drop (i - 1) xs ≡ x ∷ drop i xs
+next_before xs i x some within is =
+    let low : i - 1 < length xs = omega arith in
+    let up : i - 1 + 1 ≡ i = omega arith in
+    next_dropped xs (i - 1) x low is ∙ ap (λ (k : ℕ). x ∷ drop k xs) up
