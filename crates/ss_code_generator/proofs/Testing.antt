@@ -8,7 +8,7 @@ use Rattle.ss_code_instructions.specs.declared.instruction.Instruction.TheVarian
 use Rattle.ss_code_instructions.specs.Instructions as i
 use Rattle.ss_code_generator.specs.declared.expressions.Operand.{Operand as Read}
 use Rattle.ss_code_generator.specs.declared.generator.Site.{Site as Here}
-use Rattle.ss_code_generator.proofs.Emitting.{around_old, grows_same, grows_then, stands_old, adds_then, adds_one, adds_apart, adds_same, piece_long, emits_one, emits}
+use Rattle.ss_code_generator.proofs.Emitting.{around_old, grows_then, stands_old, adds_then, adds_one, adds_apart, adds_same, piece_long, emits}
 use Rattle.ss_code_generator.proofs.Forms as forms
 use Rattle.ss_code_generator.proofs.Modes.{operand_mode, mode_after}
 use Rattle.ss_code_generator.proofs.Operands.{read_stands}
@@ -74,12 +74,6 @@ before_around old mid new front back whole inner here Front Back c d past m n is
     let long : past ≡ length (d t b) + more = same ∙ ap (λ j. j + more) (piece_long f back (d t b) h) in
     adds_apart f front back whole (c (length (d t b) + more) t) (d t b) is (adds_same f no_code front (c past t) (c (length (d t b) + more) t) (ap (λ j. c j t) long) k) h)
 
--- one piece after another, of two that were made apart
-pub then_made : (old mid new : Generator) (front back whole : Lined) (here : Here) (Front Back : TypedScope → Type 0) (c d : Site → List Placed) → HasEmitted old mid no_code front here Front c → HasEmitted mid new no_code back here Back d → whole ≡ front ++ back → HasEmitted old new no_code whole here (λ k. Front k × Back k) (λ t. c t ++ d t)
-then_made old mid new front back whole here Front Back c d m n is =
-    emits (grows_then old mid new m.grows n.grows) (λ f t u around located good.
-    adds_apart f front back whole (c t) (d t) is (m.adds f t tt (around_old f mid new n.grows around) (stands_old f mid new here t n.grows located) good.0) (n.adds f t tt around located good.1))
-
 -- what was made, for another code that is the same at each site at which the generator may be, where other things are well typed
 pub emits_where : (old new : Generator) (p q : Lined) (here : Here) (Good Other : TypedScope → Type 0) (c d : Site → List Placed) → ((k : TypedScope) → Other k → Good k) → ((f : Final) (t : Site) → IsAround f new → IsLocated f new here t → c t ≡ d t) → HasEmitted old new p q here Good c → HasEmitted old new p q here Other d
 emits_where old new p q here Good Other c d good same m =
@@ -105,10 +99,12 @@ pub tests_step : (old mid new : Generator) (rest front whole : Lined) (here : He
 tests_step old mid new rest front whole here skip past x xs m n long is =
     before_made old mid new front rest whole here (λ s. IsTypedTest s x) (λ s. Every (IsTypedTest s) xs) (λ k t. test_code t k x) (λ t. tests_code t skip xs) past m n is skip long
 
--- a jump, as a piece
-jumps : (g : Generator) (here : Here) (skip : ℕ) → HasEmitted g g no_code (on_line here.line (r.Jump skip) ∷ []) here (λ s. Unit {0}) (λ t. place t (i.Jump skip) ∷ [])
-jumps g here skip =
-    emits_one g g no_code (on_line here.line (r.Jump skip) ∷ []) here (λ f t (u : Unit {0}). Unit {0}) (λ t u. i.Jump skip) (r.Jump skip) (grows_same g) refl (λ f t u around located good. (refl, tt))
+-- a piece, and a jump after it
+then_jumps : (old new : Generator) (front both : Lined) (here : Here) (Good : TypedScope → Type 0) (c : Site → List Placed) (skip : ℕ) → HasEmitted old new no_code front here Good c → both ≡ front ++ on_line here.line (r.Jump skip) ∷ [] → HasEmitted old new no_code both here Good (λ t. c t ++ place t (i.Jump skip) ∷ [])
+then_jumps old new front both here Good c skip m is =
+    emits m.grows (λ f t u around located good.
+    adds_then f no_code front both (c t) (place t (i.Jump skip) ∷ []) (m.adds f t tt around located good)
+    (adds_one f front both here.line (place t (i.Jump skip)) (r.Jump skip) is located.line (record { carries = refl; deep = located.deep; shown = tt })))
 
 pub alternatives_step : (old mid new : Generator) (rest front both whole : Lined) (here : Here) (skip past : ℕ) (xs ys : List Test) (others : List (List Test)) → HasEmitted old mid no_code rest here (λ s. IsTypedCondition s (ys ∷ others)) (λ t. condition_code t skip (ys ∷ others)) → HasEmitted mid new no_code front here (λ s. Every (IsTypedTest s) xs) (λ t. tests_code t 1 xs) → past ≡ length rest → both ≡ front ++ on_line here.line (r.Jump past) ∷ [] → whole ≡ both ++ rest → HasEmitted old new no_code whole here (λ s. IsTypedCondition s (xs ∷ (ys ∷ others))) (λ t. condition_code t skip (xs ∷ (ys ∷ others)))
 alternatives_step old mid new rest front both whole here skip past xs ys others m n long both_is is =
@@ -116,15 +112,13 @@ alternatives_step old mid new rest front both whole here skip past xs ys others 
     let first : ℕ → Site → List Placed = λ (k : ℕ) (t : Site). tests_code t 1 xs ++ place t (i.Jump k) ∷ [] in
     let plus : (k : ℕ) → k + 0 ≡ k = λ (k : ℕ). omega arith in
     let past_is : past ≡ length rest + 0 = long ∙ sym (plus (length rest)) in
-    let two = then_made mid new new front (on_line here.line (r.Jump past) ∷ []) both here (λ s. Every (IsTypedTest s) xs) (λ s. Unit {0}) (λ t. tests_code t 1 xs) (λ t. place t (i.Jump past) ∷ []) n (jumps new here past) both_is in
-    let all = before_made old mid new both rest whole here (λ s. Every (IsTypedTest s) xs × Unit {0}) (λ s. IsTypedCondition s (ys ∷ others)) first code past m two is 0 past_is in
-    emits_where old new no_code whole here (λ s. (Every (IsTypedTest s) xs × Unit {0}) × IsTypedCondition s (ys ∷ others)) (λ s. IsTypedCondition s (xs ∷ (ys ∷ others))) (λ t. first (length (code t) + 0) t ++ code t) (λ t. condition_code t skip (xs ∷ (ys ∷ others))) (λ s h. ((h.0, tt), h.1))
+    let two = then_jumps mid new front both here (λ s. Every (IsTypedTest s) xs) (λ t. tests_code t 1 xs) past n both_is in
+    let all = before_made old mid new both rest whole here (λ s. Every (IsTypedTest s) xs) (λ s. IsTypedCondition s (ys ∷ others)) first code past m two is 0 past_is in
+    emits_where old new no_code whole here (λ s. Every (IsTypedTest s) xs × IsTypedCondition s (ys ∷ others)) (λ s. IsTypedCondition s (xs ∷ (ys ∷ others))) (λ t. first (length (code t) + 0) t ++ code t) (λ t. condition_code t skip (xs ∷ (ys ∷ others))) (λ s h. (h.0, h.1))
     (λ f t around located. ap (λ (k : ℕ). first k t ++ code t) (plus (length (code t))) ∙ append_assoc (tests_code t 1 xs) (place t (i.Jump (length (code t))) ∷ []) (code t)) all
 
 pub negated_made : (old new : Generator) (front whole : Lined) (here : Here) (skip : ℕ) (c : Condition) → HasEmitted old new no_code front here (λ s. IsTypedCondition s c) (λ t. condition_code t 1 c) → whole ≡ front ++ on_line here.line (r.Jump skip) ∷ [] → HasEmitted old new no_code whole here (λ s. IsTypedCondition s c) (λ t. negated_code t skip c)
-negated_made old new front whole here skip c m is =
-    let both = then_made old new new front (on_line here.line (r.Jump skip) ∷ []) whole here (λ s. IsTypedCondition s c) (λ s. Unit {0}) (λ t. condition_code t 1 c) (λ t. place t (i.Jump skip) ∷ []) m (jumps new here skip) is in
-    emits_where old new no_code whole here (λ s. IsTypedCondition s c × Unit {0}) (λ s. IsTypedCondition s c) (λ t. negated_code t skip c) (λ t. negated_code t skip c) (λ s h. (h, tt)) (λ f t around located. refl) both
+negated_made old new front whole here skip c m is = then_jumps old new front whole here (λ s. IsTypedCondition s c) (λ t. condition_code t 1 c) skip m is
 
 pub guards_step : (old mid new : Generator) (rest front whole inner : Lined) (here : Here) (more past : ℕ) (g : Guard) (gs : List Guard) → HasEmittedAround old mid no_code rest here inner (λ s. Every (λ g. IsTypedCondition s g.condition) gs) (λ t b. guards_code t (length b + more) gs ++ b) → HasEmitted mid new no_code front here (λ s. IsTypedCondition s g.condition) (λ t. guard_code t past g.kind g.condition) → past ≡ length rest + more → whole ≡ front ++ rest → HasEmittedAround old new no_code whole here inner (λ s. Every (λ g. IsTypedCondition s g.condition) (g ∷ gs)) (λ t b. guards_code t (length b + more) (g ∷ gs) ++ b)
 guards_step old mid new rest front whole inner here more past g gs m n long is =
