@@ -1,6 +1,6 @@
 -- What the generator emits for conditions.
 use Rattle.std.proofs.Common.{◌≡◌, ℕ, ◌+◌, ◌<◌, ◌^◌, Bool, List, [], ◌∷◌, ◌++◌, length, Option, Some, refl, sym, ap, ◌∙◌, subst, arith, append_assoc, length-append}
-use Rattle.ss_code_generator.proofs.Common.{AreNumbers, comparing, expression_of, Final, Generator, HasBorne, HasEmitted, HasEmittedAround, HasMode, HasReadOperand, Instruction, IsAround, IsLocated, IsTyped, IsTypedCondition, IsTypedOwner, IsTypedPhrase, IsTypedTest, Lined, Mode, no_code, on_line, Placed, Relation, TypedScope}
+use Rattle.ss_code_generator.proofs.Common.{AreNumbers, comparing, expression_of, Final, Generator, HasAdded, HasBorne, HasEmitted, HasEmittedAround, HasGenerated, HasMode, HasNoMore, HasReadOperand, Instruction, IsAround, IsLocated, IsTyped, IsTypedCondition, IsTypedOwner, IsTypedPhrase, IsTypedTest, Lined, Mode, no_code, on_line, Placed, Relation, TypedScope}
 use Rattle.ss_code_instructions.specs.Translation.{after, after_bearer, bearer, bearer_code, code_of, condition_code, guards_code, operand, operand_code, phrases_code, place, Site, test_code, tests_code, negated_code, guard_code, phrase_code}
 use Rattle.ss_program.specs.Program.{Entity, Expression, Guard, Phrase, SetOwner, TheSystem, Test, Compare, Empty, Condition}
 use Rattle.std.specs.List.{AllByRecursion as Every}
@@ -57,22 +57,13 @@ emptiness_tested old new p q v here skip negated set o owner m is =
 -- ## Pieces that are made from the end
 
 -- A piece comes before another one, by whose length it may go. The first is made last
-pub before_made : (old mid new : Generator) (front back whole : Lined) (here : Here) (Front Back : TypedScope → Type 0) (c : ℕ → Site → List Placed) (d : Site → List Placed) (past : ℕ) → HasEmitted old mid no_code back here Back d → HasEmitted mid new no_code front here Front (c past) → whole ≡ front ++ back → (more : ℕ) → past ≡ length back + more → HasEmitted old new no_code whole here (λ k. Front k × Back k) (λ t. c (length (d t) + more) t ++ d t)
+pub before_made : {I : Type 0} (old mid new : Generator) (front back whole : Lined) (here : Here) (Front : TypedScope → Type 0) (Back : Final → Site → I → Type 0) (c : ℕ → Site → List Placed) (d : Site → I → List Placed) (past : ℕ) → HasGenerated old mid no_code back here Back d HasNoMore → HasEmitted mid new no_code front here Front (c past) → whole ≡ front ++ back → (more : ℕ) → past ≡ length back + more → HasGenerated old new no_code whole here (λ f t x. Front t.scope × Back f t x) (λ t x. c (length (d t x) + more) t ++ d t x) HasNoMore
 before_made old mid new front back whole here Front Back c d past m n is more same =
-    emits (grows_then old mid new m.grows n.grows) (λ f t u around located good.
-    let h = m.adds f t tt (around_old f mid new n.grows around) (stands_old f mid new here t n.grows located) good.1 in
-    let k = n.adds f t tt around located good.0 in
-    let long : past ≡ length (d t) + more = same ∙ ap (λ j. j + more) (piece_long f back (d t) h) in
-    adds_apart f front back whole (c (length (d t) + more) t) (d t) is (adds_same f no_code front (c past t) (c (length (d t) + more) t) (ap (λ j. c j t) long) k) h)
-
--- a piece comes before another one, around which code is made, by whose length it may go
-pub before_around : (old mid new : Generator) (front back whole inner : Lined) (here : Here) (Front Back : TypedScope → Type 0) (c : ℕ → Site → List Placed) (d : Site → List Placed → List Placed) (past : ℕ) → HasEmittedAround old mid no_code back here inner Back d → HasEmitted mid new no_code front here Front (c past) → whole ≡ front ++ back → (more : ℕ) → past ≡ length back + more → HasEmittedAround old new no_code whole here inner (λ k. Front k × Back k) (λ t b. c (length (d t b) + more) t ++ d t b)
-before_around old mid new front back whole inner here Front Back c d past m n is more same =
-    emits (grows_then old mid new m.grows n.grows) (λ f t b around located fits.
-    let h = m.adds f t b (around_old f mid new n.grows around) (stands_old f mid new here t n.grows located) (fits.0, fits.1.1) in
-    let k = n.adds f t tt around located fits.1.0 in
-    let long : past ≡ length (d t b) + more = same ∙ ap (λ j. j + more) (piece_long f back (d t b) h) in
-    adds_apart f front back whole (c (length (d t b) + more) t) (d t b) is (adds_same f no_code front (c past t) (c (length (d t b) + more) t) (ap (λ j. c j t) long) k) h)
+    emits (grows_then old mid new m.grows n.grows) (λ f t x around located fits.
+    let h = m.adds f t x (around_old f mid new n.grows around) (stands_old f mid new here t n.grows located) fits.1 in
+    let k = n.adds f t tt around located fits.0 in
+    let long : past ≡ length (d t x) + more = same ∙ ap (λ j. j + more) (piece_long f back (d t x) h) in
+    adds_apart f front back whole (c (length (d t x) + more) t) (d t x) is (adds_same f no_code front (c past t) (c (length (d t x) + more) t) (ap (λ j. c j t) long) k) h)
 
 -- what was made, for another code that is the same at each site at which the generator may be, where other things are well typed
 pub emits_where : (old new : Generator) (p q : Lined) (here : Here) (Good Other : TypedScope → Type 0) (c d : Site → List Placed) → ((k : TypedScope) → Other k → Good k) → ((f : Final) (t : Site) → IsAround f new → IsLocated f new here t → c t ≡ d t) → HasEmitted old new p q here Good c → HasEmitted old new p q here Other d
@@ -97,7 +88,7 @@ guards_more t more g gs b =
 
 pub tests_step : (old mid new : Generator) (rest front whole : Lined) (here : Here) (skip past : ℕ) (x : Test) (xs : List Test) → HasEmitted old mid no_code rest here (λ s. Every (IsTypedTest s) xs) (λ t. tests_code t skip xs) → HasEmitted mid new no_code front here (λ s. IsTypedTest s x) (λ t. test_code t past x) → past ≡ length rest + skip → whole ≡ front ++ rest → HasEmitted old new no_code whole here (λ s. Every (IsTypedTest s) (x ∷ xs)) (λ t. tests_code t skip (x ∷ xs))
 tests_step old mid new rest front whole here skip past x xs m n long is =
-    before_made old mid new front rest whole here (λ s. IsTypedTest s x) (λ s. Every (IsTypedTest s) xs) (λ k t. test_code t k x) (λ t. tests_code t skip xs) past m n is skip long
+    before_made old mid new front rest whole here (λ s. IsTypedTest s x) (λ f t (u : Unit {0}). Every (IsTypedTest t.scope) xs) (λ k t. test_code t k x) (λ t u. tests_code t skip xs) past m n is skip long
 
 -- a piece, and a jump after it
 then_jumps : (old new : Generator) (front both : Lined) (here : Here) (Good : TypedScope → Type 0) (c : Site → List Placed) (skip : ℕ) → HasEmitted old new no_code front here Good c → both ≡ front ++ on_line here.line (r.Jump skip) ∷ [] → HasEmitted old new no_code both here Good (λ t. c t ++ place t (i.Jump skip) ∷ [])
@@ -113,7 +104,7 @@ alternatives_step old mid new rest front both whole here skip past xs ys others 
     let plus : (k : ℕ) → k + 0 ≡ k = λ (k : ℕ). omega arith in
     let past_is : past ≡ length rest + 0 = long ∙ sym (plus (length rest)) in
     let two = then_jumps mid new front both here (λ s. Every (IsTypedTest s) xs) (λ t. tests_code t 1 xs) past n both_is in
-    let all = before_made old mid new both rest whole here (λ s. Every (IsTypedTest s) xs) (λ s. IsTypedCondition s (ys ∷ others)) first code past m two is 0 past_is in
+    let all = before_made old mid new both rest whole here (λ s. Every (IsTypedTest s) xs) (λ f t (u : Unit {0}). IsTypedCondition t.scope (ys ∷ others)) first (λ t u. code t) past m two is 0 past_is in
     emits_where old new no_code whole here (λ s. Every (IsTypedTest s) xs × IsTypedCondition s (ys ∷ others)) (λ s. IsTypedCondition s (xs ∷ (ys ∷ others))) (λ t. first (length (code t) + 0) t ++ code t) (λ t. condition_code t skip (xs ∷ (ys ∷ others))) (λ s h. (h.0, h.1))
     (λ f t around located. ap (λ (k : ℕ). first k t ++ code t) (plus (length (code t))) ∙ append_assoc (tests_code t 1 xs) (place t (i.Jump (length (code t))) ∷ []) (code t)) all
 
@@ -124,17 +115,18 @@ pub guards_step : (old mid new : Generator) (rest front whole inner : Lined) (he
 guards_step old mid new rest front whole inner here more past g gs m n long is =
     let code : Site → List Placed → List Placed = λ (t : Site) (b : List Placed). guards_code t (length b + more) gs ++ b in
     let first : ℕ → Site → List Placed = λ (k : ℕ) (t : Site). guard_code t k g.kind g.condition in
-    let all = before_around old mid new front rest whole inner here (λ s. IsTypedCondition s g.condition) (λ s. Every (λ g. IsTypedCondition s g.condition) gs) first code past m n is more long in
-    around_for old new no_code whole inner here (λ s. IsTypedCondition s g.condition × Every (λ g. IsTypedCondition s g.condition) gs) (λ s. Every (λ g. IsTypedCondition s g.condition) (g ∷ gs)) (λ t b. first (length (code t b) + more) t ++ code t b) (λ t b. guards_code t (length b + more) (g ∷ gs) ++ b) (λ s h. h) (λ t b. guards_more t more g gs b) all
+    let all = before_made old mid new front rest whole here (λ s. IsTypedCondition s g.condition) (λ f t (b : List Placed). HasAdded f no_code inner b × Every (λ g. IsTypedCondition t.scope g.condition) gs) first code past m n is more long in
+    emits all.grows (λ f t b around located fits.
+    adds_same f no_code whole (first (length (code t b) + more) t ++ code t b) (guards_code t (length b + more) (g ∷ gs) ++ b) (guards_more t more g gs b) (all.adds f t b around located (fits.1.0, (fits.0, fits.1.1))))
 
 pub phrases_step : (old mid new : Generator) (rest front whole inner : Lined) (here : Here) (past : ℕ) (x : Phrase) (xs : List Phrase) → HasEmittedAround old mid no_code rest here inner (λ s. Every (IsTypedPhrase s) xs) (λ t b. phrases_code t xs b) → HasEmitted mid new no_code front here (λ s. IsTypedCondition s x.condition) (λ t. phrase_code t past x.kind x.condition) → past ≡ length rest → whole ≡ front ++ rest → HasEmittedAround old new no_code whole here inner (λ s. Every (IsTypedPhrase s) (x ∷ xs)) (λ t b. phrases_code t (x ∷ xs) b)
 phrases_step old mid new rest front whole inner here past x xs m n long is =
     let code : Site → List Placed → List Placed = λ (t : Site) (b : List Placed). phrases_code t xs b in
     let first : ℕ → Site → List Placed = λ (k : ℕ) (t : Site). phrase_code t k x.kind x.condition in
     let plus : (k : ℕ) → k + 0 ≡ k = λ (k : ℕ). omega arith in
-    let all = before_around old mid new front rest whole inner here (λ s. IsTypedCondition s x.condition) (λ s. Every (IsTypedPhrase s) xs) first code past m n is 0 (long ∙ sym (plus (length rest))) in
-    around_for old new no_code whole inner here (λ s. IsTypedCondition s x.condition × Every (IsTypedPhrase s) xs) (λ s. Every (IsTypedPhrase s) (x ∷ xs)) (λ t b. first (length (code t b) + 0) t ++ code t b) (λ t b. phrases_code t (x ∷ xs) b) (λ s h. h)
-    (λ t b. ap (λ (k : ℕ). first k t ++ code t b) (plus (length (code t b)))) all
+    let all = before_made old mid new front rest whole here (λ s. IsTypedCondition s x.condition) (λ f t (b : List Placed). HasAdded f no_code inner b × Every (IsTypedPhrase t.scope) xs) first code past m n is 0 (long ∙ sym (plus (length rest))) in
+    emits all.grows (λ f t b around located fits.
+    adds_same f no_code whole (first (length (code t b) + 0) t ++ code t b) (phrases_code t (x ∷ xs) b) (ap (λ (k : ℕ). first k t ++ code t b) (plus (length (code t b)))) (all.adds f t b around located (fits.1.0, (fits.0, fits.1.1))))
 
 -- the last of the alternatives
 pub last_alternative : (old new : Generator) (last whole : Lined) (here : Here) (skip : ℕ) (xs : List Test) → HasEmitted old new no_code last here (λ s. Every (IsTypedTest s) xs) (λ t. tests_code t skip xs) → whole ≡ last → HasEmitted old new no_code whole here (λ s. IsTypedCondition s (xs ∷ [])) (λ t. condition_code t skip (xs ∷ []))
