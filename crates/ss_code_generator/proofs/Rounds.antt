@@ -169,10 +169,6 @@ starts_at g0 g p q s here w e put m =
     (record { carries = (x.owner, owner, ap (λ k. i.LookOwner k x.owner) (sym fits.0.1)); deep = located.deep; shown = tt }))
     (m.adds f u tt around located member))
 
--- what comes before the walk is the code of a start from a member, also where it starts after that
-pub starts_after : (g0 g : Generator) (p s : Lined) (here : Here) (w : MemberLoop) (e : Expression) → HasStartedWalk g0 g p s here w (From e) → HasStartedWalk g0 g p s here w (After e)
-starts_after g0 g p s here w e m = emits m.grows (λ f u x around located fits. m.adds f u x around located fits)
-
 -- the instruction that begins a walk from a member, or after it
 begins_at : (f : Final) (g : Generator) (here : Here) (u : Site) (w : MemberLoop) (set : ℕ) (owner : Bearer) (after : Bool) (skip n : ℕ) (reverse : Bool) (p q : Lined) → IsLocated f g here u → height u + 1 ≤ f.depth → w.set ≡ set → IsSiteBearer f u owner w.owner → w.cell ≡ length u.scope.locals + height u → w.reverse ≡ reverse → skip ≡ n → q ≡ p ++ on_line here.line (r.BeginAt w.set w.owner w.cell skip w.reverse after) ∷ [] → HasAdded f p q (place (above u Integer) (i.BeginAt reverse after set owner (height u) n) ∷ [])
 begins_at f g here u w set owner after skip n reverse p q located deep is at cell turned long put =
