@@ -83,16 +83,13 @@ unlooked_reads old new p q here e o Good typed m = record {
   more = λ f t u around located good. m.more f t u around located (typed t.scope good);
 }
 
-pub entity_bears : (old new : Generator) (p q : Lined) (here : Here) (e : Expression) (o : Read) → HasReadOperand old new p q here e o → HasBorne old new p q here (Some e) o
-entity_bears old new p q here e o m = record {
+-- an operand that a call gives is one of an owner
+pub entity_ok : {E : Type 0} (r : Result Read E) (old new : Generator) (p q : Lined) (here : Here) (e : Expression) → IfOk r (λ o. HasReadOperand old new p q here e o) → IfOk r (λ o. HasBorne old new p q here (Some e) o)
+entity_ok (Ok o) old new p q here e m = record {
   grows = m.grows;
   adds = λ f t u around located good. m.adds f t u around located (_, good);
   more = λ f t u around located good.
       let r = m.more f t u around located (_, good) in
       record { at = r.at; high = r.high; deep = r.deep };
 }
-
--- an operand that a call gives is one of an owner
-pub entity_ok : {E : Type 0} (r : Result Read E) (old new : Generator) (p q : Lined) (here : Here) (e : Expression) → IfOk r (λ o. HasReadOperand old new p q here e o) → IfOk r (λ o. HasBorne old new p q here (Some e) o)
-entity_ok (Ok o) old new p q here e h = entity_bears old new p q here e o h
-entity_ok (Err x) old new p q here e h = tt
+entity_ok (Err x) old new p q here e m = tt

@@ -61,12 +61,13 @@ attribute_looked old new p q v here class field e s false m is = record {
 
 -- ## Places that are found
 
-pub count_spotted : (g : Generator) (p : Lined) (here : Here) (c : CountedClass) (s : Spot) → ((f : Final) (here : Here) (t : Site) → IsAround f g → IsLocated f g here t → IsSpot f t (ToCount c) s) → HasGenerated g g p p here (λ f t (u : Unit {0}). IsTypedPlace (ToCount c) t.scope) (λ t u. []) (λ f t u. IsSpot f t (ToCount c) s)
-count_spotted g p here c s h = record {
+pub count_spotted_ok : {E : Type 0} (g : Generator) (p : Lined) (here : Here) (c : CountedClass) (found : Result Spot E) → IfOk found (λ s. (f : Final) (here : Here) (t : Site) → IsAround f g → IsLocated f g here t → IsSpot f t (ToCount c) s) → IfOk found (λ s. HasGenerated g g p p here (λ f t (u : Unit {0}). IsTypedPlace (ToCount c) t.scope) (λ t u. []) (λ f t u. IsSpot f t (ToCount c) s))
+count_spotted_ok g p here c (Ok s) h = record {
   grows = grows_same g;
   adds = λ f t u around located good. adds_none f p;
   more = λ f t u around located good. h f here t around located;
 }
+count_spotted_ok g p here c (Err e) h = tt
 
 pub attribute_spotted : (old new : Generator) (p q : Lined) (here : Here) (c : Site → List Placed) (class field : ℕ) (e : Expression) (s : AttributeSpot) → MakesAttribute old new p q here c class field e s → HasGenerated old new p q here (λ f t (u : Unit {0}). IsTypedPlace (ToAttribute class field e) t.scope) (λ t u. c t) (λ f t u. IsSpot f t (ToAttribute class field e) (spots.Attribute s))
 attribute_spotted old new p q here c class field e s m = record {
@@ -168,7 +169,3 @@ taken_at_place g p q here higher from _ line up m cell f t u _ k v same at room 
 pub taken : (g : Generator) (p q : Lined) (here higher : Here) (from : Address) (s : Spot) → higher.line ≡ here.line → (here.height + 1 < 2 ^ 64 → higher.height ≡ here.height + 1) → HasAssigned g p q higher from (λ f t x. IsSpot f t x s) → ComesToCell s → HasAssignedLanded g p q here from (λ f t x. IsSpot f t x s)
 taken g p q here higher from s line up m cell =
     emits (grows_same g) (λ f u x around located fits. taken_at_place g p q here higher from s line up m cell f x.resolved u x.place x.mode fits.0 fits.1 fits.2 fits.3 fits.4 around located)
-
-pub count_spotted_ok : {E : Type 0} (g : Generator) (p : Lined) (here : Here) (c : CountedClass) (found : Result Spot E) → IfOk found (λ s. (f : Final) (here : Here) (t : Site) → IsAround f g → IsLocated f g here t → IsSpot f t (ToCount c) s) → IfOk found (λ s. HasGenerated g g p p here (λ f t (u : Unit {0}). IsTypedPlace (ToCount c) t.scope) (λ t u. []) (λ f t u. IsSpot f t (ToCount c) s))
-count_spotted_ok g p here c (Ok s) h = count_spotted g p here c s h
-count_spotted_ok g p here c (Err e) h = tt
