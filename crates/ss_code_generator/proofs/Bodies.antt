@@ -32,9 +32,6 @@ print_seen l items pictures = refl
 pub has_prints_old : (f : Final) (a b : List RunningLines) (ls : List Lines) → HasPrinted a b ls → HasPrints f b → HasPrints f a
 has_prints_old f a b ls h k = (h.0 ++ k.0, k.1 ∙ ap (λ (l : List RunningLines). l ++ k.0) h.1 ∙ append_assoc a h.0 k.0)
 
-pub none_printed : (a : List RunningLines) (ls : List Lines) → ls ≡ [] → HasPrinted a a ls
-none_printed a ls e = ([], sym (append-nil a), sym e)
-
 -- ## One statement
 
 -- a site of a statement, at the line of that
@@ -53,7 +50,7 @@ said r old new a b h l prints s form Fits c made is line fits none same = on_ok_
       code = emits m.grows (λ f t u around located good.
           adds_same f a b (c (site_at_line t l)) (statement_code t (length prints) (view_statement form)) (ap (λ k. c (site_at_line t k)) (line ∙ ap line_or_none w) ∙ same (length prints) t)
           (m.adds f (site_at_line t l) tt around (lined f new h l t located) (fits t.scope good.1)));
-      prints = none_printed prints (statement_prints (view_statement form)) none;
+      prints = ([], sym (append-nil prints), sym none);
     }
 
 -- one instruction without operands
@@ -64,21 +61,13 @@ put_said g a b here x y is carries shown = emits_one g g a b here (λ f t (u : U
 
 -- the code of a statement around a body
 module _ (g0 g1 : Generator) (h : ℕ) (inner : Lined) (p0 p1 : List RunningLines) (a : Block) (m : HasEmittedBlock g0 g1 inner h p0 p1 a) where
-  -- what was made for it
-  pub block_adds : (f : Final) (g2 : Generator) (p2 : List RunningLines) (ls : List Lines) (t : Site) → HasGrown g1 g2 → HasPrinted p1 p2 ls → IsAround f g2 → IsLocated f g2 (statement_site h) t → HasPrints f p2 → IsTypedBlock t.scope a → HasAdded f no_code inner (block_code t (length p0) a)
-  block_adds f g2 p2 ls t grows more around located has good =
-      m.code.adds f t tt (around_old f g1 g2 grows around) (stands_old f g1 g2 (statement_site h) t grows located) (has_prints_old f p1 p2 ls more has, good)
-
-  none_more : HasPrinted p1 p1 []
-  none_more = ([], sym (append-nil p1), refl)
-
   -- WHILE and UNTIL
   pub loop_said : (g2 : Generator) (x y : Lined) (l : Line) (gs : List Guard) → HasEmittedAround g1 g2 x y (record { line = l; height = h }) inner (λ s. Every (λ (g : Guard). IsTypedCondition s g.condition) gs) (λ t b. loop_code t gs b) → HasEmittedStatement g0 g2 x y h p0 p1 (p.Loop l gs a)
   loop_said g2 x y l gs n = record {
     code = emits (grows_then g0 g1 g2 m.code.grows n.grows) (λ f t u around located good.
         let good' : IsTypedStatement t.scope (p.Loop l gs a) = good.1 in
         let b : List Placed = block_code t (length p0) a in
-        let made : HasAdded f no_code inner b = block_adds f g2 p1 [] t n.grows none_more around located good.0 good'.1 in
+        let made : HasAdded f no_code inner b = m.code.adds f t tt (around_old f g1 g2 n.grows around) (stands_old f g1 g2 (statement_site h) t n.grows located) (good.0, good'.1) in
         n.adds f (site_at_line t l) b around (lined f g2 h l t located) (made, good'.0));
     prints = m.prints;
   }
@@ -216,9 +205,6 @@ sides_add : (f : Final) (x y test side : Lined) (c d : List Placed) → y ≡ x 
 sides_add f x y test side c d is m n =
     adds_piece f x y (test ++ side) (c ++ d) is (adds_apart f test side (test ++ side) c d refl m n)
 
-if_none : (t : Site) (c : Condition) (a b : List Placed) → b ≡ [] → if_code t c a b ≡ condition_code t (length a) c ++ a
-if_none t c a b e = ap (if_code t c a) e
-
 if_some : (t : Site) (c : Condition) (a b : List Placed) → 0 < length b → if_code t c a b ≡ condition_code t (length a + 1) c ++ (a ++ (place t (i.Jump (length b)) ∷ b))
 if_some t c a [] h = absurd (omega (arith, h))
 if_some t c a (x ∷ b) h = refl
@@ -229,7 +215,7 @@ one_sided g0 g1 x y here side other test c past none past_is m is =
     let empty : b.second ≡ [] = none_there f other b.second fits.1 none in
     let long : past ≡ length b.first = past_is ∙ piece_long f side b.first fits.0 in
     let cond : HasAdded f no_code test (condition_code t (length b.first) c) = adds_same f no_code test (condition_code t past c) (condition_code t (length b.first) c) (ap (λ k. condition_code t k c) long) (m.adds f t tt around located fits.2) in
-    adds_same f x y (condition_code t (length b.first) c ++ b.first) (if_code t c b.first b.second) (sym (if_none t c b.first b.second empty))
+    adds_same f x y (condition_code t (length b.first) c ++ b.first) (if_code t c b.first b.second) (sym (ap (if_code t c b.first) empty))
     (sides_add f x y test side (condition_code t (length b.first) c) b.first is cond fits.0))
 
 pub two_sided : (g0 g1 : Generator) (x y1 y2 y3 : Lined) (here : Here) (side other test : Lined) (c : Condition) (past skip : ℕ) → (length other ≡ 0 → ⊥) → past ≡ length side + 1 → HasEmitted g0 g1 no_code test here (λ s. IsTypedCondition s c) (λ t. condition_code t past c) → y1 ≡ x ++ (test ++ side) → skip ≡ length other → y2 ≡ y1 ++ on_line here.line (r.Jump skip) ∷ [] → y3 ≡ y2 ++ other → HasEmittedAroundBoth g0 g1 x y3 here side other (λ s. IsTypedCondition s c) (λ t b. if_code t c b.first b.second)

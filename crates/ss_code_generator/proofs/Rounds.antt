@@ -92,10 +92,6 @@ ranged g0 g1 g2 g3 p q s v here second third a b c Also m n o line1 line2 high1 
 
 -- ## FOR over numbers, and over a class
 
--- three cells are forgotten at the end
-three_up : (t : Site) → height (number_loop t) - height t ≡ 3
-three_up t = omega arith
-
 -- the instruction with which it begins
 items_begun : (f : Final) (g : Generator) (here above_here : Here) (t : Site) (class : Option ℕ) (cell skip n : ℕ) (p q : Lined) → IsLocated f g here t → IsLocated f g above_here (number_loop t) → above_here.line ≡ here.line → cell ≡ length t.scope.locals + height t → skip ≡ n → q ≡ p ++ on_line here.line (items_begin class cell skip) ∷ [] → HasAdded f p q (begins_items t class n ∷ [])
 items_begun f g here above_here t None cell skip n p q located on_top line at long put =
@@ -117,7 +113,8 @@ items_looped g0 g p q q1 q2 here above_here class cell skip spot turn items x li
     let turns : List Placed = turns_code u (height t) x body (i.Next (height t)) in
     let made : HasAdded f no_code items turns = m.adds f u (record { variable = x; cell = height t; turn = body }) around on_top ((is f above_here u around on_top, cell_is), fits.0) in
     let long : skip ≡ length turns = skip_is ∙ piece_long f items turns made in
-    let gone : HasAdded f q1 q2 (forget_to t u) = adds_same f q1 q2 (forget u 3) (forget_to t u) (ap (forget u) (sym (three_up t))) (forgets.adds f u tt around on_top tt) in
+    let three : height u - height t ≡ 3 = omega arith in
+    let gone : HasAdded f q1 q2 (forget_to t u) = adds_same f q1 q2 (forget u 3) (forget_to t u) (ap (forget u) (sym three)) (forgets.adds f u tt around on_top tt) in
     adds_then f p q q2 (begins_items t class (length turns) ∷ []) (turns ++ forget_to t u) (items_begun f g here above_here t class cell skip (length turns) p q located on_top line cell_is long put)
     (adds_then f q q1 q2 turns (forget_to t u) (adds_piece f q q1 items turns join made) gone))
 

@@ -136,16 +136,12 @@ ComesToCell (spots.Attribute s) = Unit {0}
 ComesToCell (spots.Count class s) = Unit {0}
 
 module _ (g : Generator) (p q : Lined) (here higher : Here) (from : Address) (s : Spot) (line : higher.line ≡ here.line) (up : here.height + 1 < 2 ^ 64 → higher.height ≡ here.height + 1) (m : HasAssigned g p q higher from (λ f t x. IsSpot f t x s)) where
-  -- one cell higher
-  stands_higher : (f : Final) (u : Site) (k : Mode) → IsAround f g → IsLocated f g here u → height u < f.depth → IsLocated f g higher (above u k)
-  stands_higher f u k around located low =
-      let high : height (above u k) ≡ height u + 1 = omega arith in
-      stands_above f g here higher u (above u k) 1 around.small located line up refl refl high (omega (arith, high, low))
-
   given_higher : (f : Final) (t u : Site) (x : Place) (k : Mode) → IsSpot f t x s → t.scope ≡ u.scope → IsSiteTarget f u (next u) from → height u < f.depth → HasHeldMode u.scope x k → IsAround f g → IsLocated f g here u → HasAdded f p q (assigned_code t (above u k) x (Taken (height u)))
   given_higher f t u x k v same at low holds around located =
+      let high : height (above u k) ≡ height u + 1 = omega arith in
+      let on = stands_above f g here higher u (above u k) 1 around.small located line up refl refl high (omega (arith, high, low)) in
       let it : Assignment = record { resolved = t; place = x; from = Taken (height u); mode = k } in
-      m.adds f (above u k) it around (stands_higher f u k around located low) (v, same, at, holds, on_top (height u) k u.cells refl)
+      m.adds f (above u k) it around on (v, same, at, holds, on_top (height u) k u.cells refl)
 
 taken_at_place : (g : Generator) (p q : Lined) (here higher : Here) (from : Address) (s : Spot) → higher.line ≡ here.line → (here.height + 1 < 2 ^ 64 → higher.height ≡ here.height + 1) → HasAssigned g p q higher from (λ f t x. IsSpot f t x s) → ComesToCell s → (f : Final) (t u : Site) (x : Place) (k : Mode) → IsSpot f t x s → t.scope ≡ u.scope → IsSiteTarget f u (landing u x) from → HasTargetRoom f (landing u x) → HasHeldMode u.scope x k → IsAround f g → IsLocated f g here u → HasAdded f p q (landed_code t u x k)
 taken_at_place g p q here higher from (spots.Variable s) line up m cell f t u (ToVariable x) k v same at room holds around located =

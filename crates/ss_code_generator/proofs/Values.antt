@@ -1,6 +1,6 @@
 -- What the generator emits for each form of an expression.
 use Rattle.std.proofs.Common.{◌≡◌, ℕ, ◌+◌, ◌<◌, ◌^◌, List, [], ◌∷◌, ◌++◌, length, get_or, take, Some, None, refl, sym, ap, ◌∙◌, arith}
-use Rattle.ss_code_generator.proofs.Common.{Address, after, asking_member, asking_set, calculating, code_of, Constant, expression_code, fetching, field_mode, Final, Generator, Global, HasEmittedTo, HasGrown, HasMode, HasNoMore, HasPrintModes, HasReadOperand, height, Held, Instruction, Integer, IsAround, IsInteger, IsLocated, IsSiteOperand, IsSiteTarget, IsTyped, Lined, Local, MemberQuery, Mode, mode_at, moving, on_line, Operand, operand, operand_code, operator_of, or_integer, place, Placed, pos, SetQuery, Sign, Site, slice_get, take_all, take_more, Target, TypedScope, Value, Variable, view_expression, view_program, Whole, with_operand}
+use Rattle.ss_code_generator.proofs.Common.{Address, after, asking_member, asking_set, calculating, code_of, Constant, fetching, field_mode, Final, Generator, Global, HasEmittedTo, HasGrown, HasMode, HasNoMore, HasPrintModes, HasReadOperand, height, Held, Instruction, Integer, IsAround, IsInteger, IsLocated, IsSiteOperand, IsSiteTarget, IsTyped, Lined, Local, MemberQuery, Mode, mode_at, moving, on_line, Operand, operand, operand_code, operator_of, or_integer, place, Placed, pos, SetQuery, Sign, Site, slice_get, take_all, take_more, Target, TypedScope, Value, Variable, view_expression, view_program, Whole, with_operand}
 use Rattle.std.proofs.lemmas.List.Sums.{fold-append}
 use Rattle.ss_code_generator.specs.Calculations.{with_operations, HasEmittedExpression, operation_code, LeftOperand, HasOperated}
 use Rattle.ss_code_instructions.specs.Carried.{IsCarriedOut, IsInFrame, IsVariableAt}
@@ -16,7 +16,7 @@ use Rattle.ss_code_instructions.specs.Instructions as i
 use Rattle.ss_code_generator.specs.declared.expressions.Operand.{Operand as Read}
 use Rattle.ss_code_generator.specs.declared.generator.Site.{Site as Here}
 use Rattle.ss_code_pieces.specs.Preamble.{mode_in}
-use Rattle.ss_code_generator.proofs.Emitting.{around_old, grows_same, grows_then, stands_old, adds_then, adds_one, adds_same, makes_later, emits_one, emits}
+use Rattle.ss_code_generator.proofs.Emitting.{around_old, grows_same, grows_then, stands_old, adds_then, adds_one, makes_later, emits_one, emits}
 use Rattle.ss_code_generator.proofs.Forms as forms
 use Rattle.ss_code_generator.proofs.Modes.{held_mode, has_field}
 use Rattle.ss_code_generator.proofs.Operands.{cell_reads_at, read_stands, one_read}
@@ -115,26 +115,17 @@ operation_emitted old new p q s here higher left right to op line above m is =
     adds_then f p q s (operand_code u b) (place (after u b) ins ∷ []) (m.adds f u tt around there typed)
     (adds_one f q s here.line (place (after u b) ins) (calculating op.operator left.address right.address to) is located.line (record { carries = c; deep = read.deep; shown = tt })))
 
--- a number and an operation after it are an expression
-pub calculated_code : (t : Site) (e : Expression) (o : Operation) (to : Target) → operand_code t e ++ operation_code t e o to ≡ expression_code t to (with_operation e o)
-calculated_code t e o to = refl
-
--- what is typed as a whole has typed parts: the number before the last operation, and what comes after it
-pub parts_typed : (s : TypedScope) (e : Expression) (o : Operation) → IsTyped (with_operation e o) s → IsInteger e s × IsInteger (view_expression o.operand) s
-parts_typed s e o h = (h.1.1, h.1.2)
-
 -- one operation more, whose result goes to a target
 pub more_emitted : (old mid new : Generator) (p q s : Lined) (here : Here) (e : Expression) (o : Operation) (left : Read) (to : Address) → HasReadOperand old mid p q here e left → HasOperated mid new q s here left to o → HasEmittedExpression old new p s here to (with_operation e o)
 more_emitted old mid new p q s here e o left to m n =
     emits (grows_then old mid new m.grows n.grows) (λ f t x around located fits.
     let mine = around_old f mid new n.grows around in
     let there = stands_old f mid new here t n.grows located in
-    let parts = parts_typed t.scope e o fits.1 in
+    let parts : IsInteger e t.scope × IsInteger (view_expression o.operand) t.scope = (fits.1.1.1, fits.1.1.2) in
     let typed : IsTyped e t.scope = (Integer, parts.0) in
     let both : LeftOperand = record { left = e; to = x } in
-    adds_same f p s (operand_code t e ++ operation_code t e o x) (expression_code t x (with_operation e o)) (calculated_code t e o x)
-    (adds_then f p q s (operand_code t e) (operation_code t e o x) (m.adds f t tt mine there typed)
-    (n.adds f t both around located (m.more f t tt mine there typed, fits.0, parts.1))))
+    adds_then f p q s (operand_code t e) (operation_code t e o x) (m.adds f t tt mine there typed)
+    (n.adds f t both around located (m.more f t tt mine there typed, fits.0, parts.1)))
 
 -- one operation more, whose result goes into the next cell
 pub next_reads : (old mid cell new : Generator) (p q s : Lined) (here : Here) (e : Expression) (o : Operation) (left : Read) (a : Address) → HasReadOperand old mid p q here e left → HasGrown mid cell → IsInFrame (length cell.locals.items + here.height) a → here.height < cell.deepest → HasOperated cell new q s here left a o → HasReadOperand old new p s here (with_operation e o) (record { address = a; cells = 1 })
