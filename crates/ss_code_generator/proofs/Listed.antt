@@ -49,12 +49,9 @@ creates_step g p q v here xs x m is =
 
 -- ## The next item of a loop
 
-pub next_dropped : {A : Type 0} (xs : List A) (i : ℕ) (x : A) → i < length xs → x ≡ get_or xs i x → drop i xs ≡ x ∷ drop (i + 1) xs
-next_dropped {A} xs i x lt is = drop_more xs i x lt ∙ ap (λ (y : A). y ∷ drop (i + 1) xs) (sym is)
-
 -- the item before a place, of a loop that goes back
 pub next_before : {A : Type 0} (xs : List A) (i : ℕ) (x : A) → 0 < i → i ≤ length xs → x ≡ get_or xs (i - 1) x → drop (i - 1) xs ≡ x ∷ drop i xs
-next_before xs i x some within is =
+next_before {A} xs i x some within is =
     let low : i - 1 < length xs = omega arith in
     let up : i - 1 + 1 ≡ i = omega arith in
-    next_dropped xs (i - 1) x low is ∙ ap (λ (k : ℕ). x ∷ drop k xs) up
+    drop_more xs (i - 1) x low ∙ ap (λ (y : A). y ∷ drop (i - 1 + 1) xs) (sym is) ∙ ap (λ (k : ℕ). x ∷ drop k xs) up

@@ -11,7 +11,7 @@ use Rattle.ss_code_generator.proofs.Emitting.{grows_same, stands_above, adds_non
 use Rattle.ss_code_generator.proofs.Operands.{operand_at, stays_at}
 use Rattle.ss_code_generator.proofs.Modes.{on_top}
 use Rattle.ss_code_generator.proofs.Watching.{text_unwatched, kept_integer}
-use Rattle.ss_code_generator.proofs.Assigned.{assignment_kept, kept_at, move_runs, store_runs, lands_kept}
+use Rattle.ss_code_generator.proofs.Assigned.{assignment_by, kept_at, move_runs, store_runs, lands_kept}
 
 -- ## What is found
 
@@ -154,7 +154,7 @@ taken_at_place g p q here higher from (spots.Variable s) line up m cell f t u (T
     let h = given_higher g p q here higher from (spots.Variable s) line up m f t u (ToVariable x) Integer v same there low integer around located in
     let z : Site = above u Integer in
     let code : place z (assignment z x (Taken (height u))) ∷ [] ≡ landed_code t u (ToVariable x) k =
-    ap (λ (a : Instruction). place z a ∷ []) (assignment_kept z x (Taken (height u)) kept) ∙ sym (ap (λ (b : Bool). if b then place z (i.Keep (Taken (height u)) x) ∷ [] else []) kept) in
+    ap (λ (a : Instruction). place z a ∷ []) (assignment_by z x (Taken (height u)) true kept) ∙ sym (ap (λ (b : Bool). if b then place z (i.Keep (Taken (height u)) x) ∷ [] else []) kept) in
     adds_same f p q (place z (assignment z x (Taken (height u))) ∷ []) (landed_code t u (ToVariable x) k) code h
 taken_at_place g p q here higher from (spots.Attribute s) line up m cell f t u (ToAttribute class field e) k v same at room holds around located =
     given_higher g p q here higher from (spots.Attribute s) line up m f t u (ToAttribute class field e) k v same at room holds around located
