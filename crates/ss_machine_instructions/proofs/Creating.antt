@@ -11,6 +11,7 @@ use Rattle.ss_code_instructions.specs.declared.instruction.Instruction.{Instruct
 use Rattle.ss_code_instructions.specs.Instructions as i
 use Rattle.ss_machine_instructions.proofs.Placing.{site, located, suits, small, deep_at, deep_here, calm}
 use Rattle.ss_machine_instructions.proofs.Seeing.{makes_not, changes_not, seen_is, layout_is, goes_seeing, changes, refuses}
+use Rattle.ss_machine_instructions.proofs.Settling.{world_holds}
 use Rattle.ss_machine_instructions.proofs.Figuring.{global_within, global_is}
 
 module _ (w : Compiled) (c : Core) (here : Here) (s : State) (run : Running) (r : IsReadyFor w c here s run) where
@@ -51,7 +52,6 @@ module _ (w : Compiled) (c : Core) (here : Here) (s : State) (run : Running) (r 
       let y = subst SuitsHere is (suits w c here s run r) in
       let target = z.0 in
       let store = with_seen c.store e in
-      let h = r.holds.held in
       let made_it : made_one class c.store ≡ Ok (Whole n, store) = ap (made_one class) (seen_is w c here s run r) ∙ made c.store in
       let fine : Fine (λ (b : Value × Store). (mode_of b.0 ≡ Integer) × IsFittingStore w.program r.placed.locals b.1) (made_one class c.store) = made_one_fine w.program r.compiled.typed r.placed.locals class c.store y.0 r.fits.store in
       let fits : (mode_of (Whole n) ≡ Integer) × IsFittingStore w.program r.placed.locals store = subst (Fine (λ (b : Value × Store). (mode_of b.0 ≡ Integer) × IsFittingStore w.program r.placed.locals b.1)) made_it fine in
@@ -71,15 +71,9 @@ module _ (w : Compiled) (c : Core) (here : Here) (s : State) (run : Running) (r 
         deep = deep_at w c here s run r (c.place + 1) r.placed.locals y.1.0 y.1.2;
         right = refl;
         hold = r.fits.cells;
-        at = h.cells;
+        at = r.holds.held.cells;
         fits = fits.1;
-        holds = record {
-          place = r.holds.place;
-          held = record { globals = h.globals; fixed = h.fixed; locals = h.locals; cells = h.cells; open_calls = h.open_calls; room = h.room; small = h.small };
-          world = refl;
-          even = r.holds.even;
-          line = r.holds.line;
-        };
+        holds = world_holds w c here s run r e;
       }
 
   pub created : (class : ℕ) (to : Address) (n : ℤ) (e : Seen) (new : State) (result : Option (Unit {0})) → Creates class to → HasMade (made_one class) s.world e (Ok n) → IsDelivered here (record s { world = e }) new result to (Ok (Whole n)) → HasPerformed (is_due r.placed.instruction) w r.placed.line does s new (on_after here result)

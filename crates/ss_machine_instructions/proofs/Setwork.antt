@@ -18,7 +18,8 @@ use Rattle.ss_machine_instructions.proofs.Placing.{site, located, suits, small, 
 use Rattle.ss_machine_instructions.proofs.Delivering.{delivers, deliver_is, number_right}
 use Rattle.ss_machine_instructions.proofs.Asking.{owner_is, set_there}
 use Rattle.ss_machine_instructions.proofs.Programs.{ruled_in}
-use Rattle.ss_machine_instructions.proofs.Settling.{fine_right, fine_is, store_is, layout_seen, disciplines_seen, world_holds, is_noted_right, settles, fails_on}
+use Rattle.ss_machine_instructions.proofs.Seeing.{seen_is, layout_is}
+use Rattle.ss_machine_instructions.proofs.Settling.{fine_right, fine_is, disciplines_seen, world_holds, is_noted_right, settles, fails_on}
 
 -- ## A member is looked at first
 
@@ -73,7 +74,7 @@ module _ (w : Compiled) (c : Core) (here : Here) (s : State) (run : Running) (r 
   is_owner : (set : ℕ) (x : Bearer) (o : Option Value) (z : ℤ) → IsSetBearer w.program set x → Refers x o z → IsOwner s.world set o z
   is_owner set x o z fits refers =
       let t = set_there w.program set x fits in
-      let there : slice_get s.world.heap.layout.sets set ≡ Some t.0 = ap (λ l. slice_get l.sets set) (layout_seen w c here s run r) ∙ t.1 in
+      let there : slice_get s.world.heap.layout.sets set ≡ Some t.0 = ap (λ l. slice_get l.sets set) (layout_is w c here s run r) ∙ t.1 in
       let known : set_at set c.store ≡ Some t.0 = ap (λ l. slice_get l.sets set) layout_here ∙ t.1 in
       ap (λ so. owner_as (owner_in so) o) there
       ∙ sym (ap (λ so. owner_by_layout so o) known)
@@ -82,12 +83,12 @@ module _ (w : Compiled) (c : Core) (here : Here) (s : State) (run : Running) (r 
   pub ruled_here : (set : ℕ) (x : Bearer) → IsSetBearer w.program set x → IsRuled s.world set
   ruled_here set x fits =
       let t = set_there w.program set x fits in
-      ruled_in w.program r.compiled.typed s.world set t.0 t.1 (disciplines_seen w c here s run r) (layout_seen w c here s run r)
+      ruled_in w.program r.compiled.typed s.world set t.0 t.1 (disciplines_seen w c here s run r) (layout_is w c here s run r)
 
   set_seen : (set : ℕ) (x : Bearer) → IsSetBearer w.program set x → set < length s.world.heap.layout.sets
   set_seen set x fits =
       let t = set_there w.program set x fits in
-      slice_get_within s.world.heap.layout.sets set t.0 (ap (λ l. slice_get l.sets set) (layout_seen w c here s run r) ∙ t.1)
+      slice_get_within s.world.heap.layout.sets set t.0 (ap (λ l. slice_get l.sets set) (layout_is w c here s run r) ∙ t.1)
 
   bearer_shorter : (x : Bearer) (rest : List Mode) → IsGivingBearer (typed_scope w.program w.code r.placed.locals) x r.placed.cells rest → length rest ≤ w.run.depth
   bearer_shorter None rest g = let le = deep_here w c here s run r in omega (arith, ap length g, le)
@@ -132,7 +133,7 @@ module _ (w : Compiled) (c : Core) (here : Here) (s : State) (run : Running) (r 
   asks_member_in query set member to z =
       let y = subst SuitsHere z.2.2 (suits w c here s run r) in (
         read_within (site w c here s run r) (located w c here s run r) z.0 Integer r.placed.cells y.1.0 member y.1.1 z.1 (deep_here w c here s run r),
-        slice_get_within s.world.heap.layout.sets set y.0.0 (ap (λ l. slice_get l.sets set) (layout_seen w c here s run r) ∙ y.0.1),
+        slice_get_within s.world.heap.layout.sets set y.0.0 (ap (λ l. slice_get l.sets set) (layout_is w c here s run r) ∙ y.0.1),
       )
 
   pub asks_member : (query : MemberQuery) (set : ℕ) (member to : Address) (number : ℤ) (answer : OkOr ℤ FaultKind) → AsksMember query set member to → slice_get s.rows.numbers (place_at here.frame member) ≡ Some number → answer ≡ member_answer query s.world.heap set number → IsDelivering w c r.placed.line (act w.code r.placed.line r.placed.instruction c) here s to (as_value answer)
@@ -382,10 +383,10 @@ module _ (w : Compiled) (c : Core) (here : Here) (s : State) (run : Running) (r 
 
   -- what the operation gives, by what the machine's did
   given_is : (f : Store → OkOr (Value × Store) Failure) (e : Seen) (x : ℤ) → IsRight (f c.store) → IsSettledGiving f s.world e (Ok x) → f c.store ≡ Ok (Whole x, with_seen c.store e)
-  given_is f e x right d = ap f (store_is w c here s run r) ∙ d c.store (λ wrong. right (ap f (store_is w c here s run r) ∙ wrong))
+  given_is f e x right d = ap f (seen_is w c here s run r) ∙ d c.store (λ wrong. right (ap f (seen_is w c here s run r) ∙ wrong))
 
   given_not : (f : Store → OkOr (Value × Store) Failure) (e : Seen) (kind : FaultKind) → IsRight (f c.store) → IsSettledGiving f s.world e (Err kind) → f c.store ≡ Err (Fails kind)
-  given_not f e kind right d = ap f (store_is w c here s run r) ∙ d c.store (λ wrong. right (ap f (store_is w c here s run r) ∙ wrong))
+  given_not f e kind right d = ap f (seen_is w c here s run r) ∙ d c.store (λ wrong. right (ap f (seen_is w c here s run r) ∙ wrong))
 
   pub takes_delivers : (end : End) (set : ℕ) (owner to : Address) (m x : ℤ) (notes : Bool) (e : Seen) → IsQuiet notes set → TakesHere end set owner to → slice_get s.rows.numbers (place_at here.frame owner) ≡ Some m → HasTaken end set notes s.world e (Ok x) m → IsDelivering w c r.placed.line (act w.code r.placed.line r.placed.instruction c) here (record s { world = e }) to (as_value (Ok x))
   takes_delivers end set owner to m x notes e reported z at_owner taken =

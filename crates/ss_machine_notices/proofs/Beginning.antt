@@ -1,6 +1,6 @@
 -- An event begins: the notice that comes next is taken out, and let go.
 use Rattle.std.proofs.Common.{◌≡◌, ℕ, zero, suc, ◌+◌, ◌<◌, ◌≤◌, ◌^◌, ℤ, Bool, true, false, List, [], ◌∷◌, Option, Some, None, Ok, Err, refl, sym, ap, ◌∙◌, subst, arith}
-use Rattle.ss_machine_notices.proofs.Common.{act, class_of_record, ComingAs, eqb-true, FaultKind, HasLetGo, HasLetGoThen, HasReceived, Here, IsNextEvent, IsNextNotice, least_event, living, Mode, next_event_there, notices_seen, Seen, State, store_is, take_next, TakeEvent, There, Whole, with_seen, WrongClass}
+use Rattle.ss_machine_notices.proofs.Common.{act, class_of_record, ComingAs, eqb-true, FaultKind, HasLetGo, HasLetGoThen, HasReceived, Here, IsNextEvent, IsNextNotice, least_event, living, Mode, next_event_there, notices_seen, Seen, State, seen_is, take_next, TakeEvent, There, Whole, with_seen, WrongClass}
 use Rattle.std.specs.Prelude.{◌==◌, if◌then◌else◌, pos, negsuc, IfSome, is_some, slice_get, Result as OkOr}
 use Rattle.ss_code_instructions.specs.States.{Core, To, core_at}
 use Rattle.ss_machine_instructions.proofs.Placing.{located, site, goes_with}
@@ -176,7 +176,7 @@ module _ (w : Compiled) (c : Core) (here : Here) (s : State) (cell : ℕ) (r : I
         store =
             n.store
             ∙ ap (λ z. at_event z c.store) time
-            ∙ ap (at_event e.time) (store_is w c here s (TakeEvent cell) r)
+            ∙ ap (at_event e.time) (seen_is w c here s (TakeEvent cell) r)
             ∙ ap (with_seen c.store) (sym d.1);
         place =
             ap (λ es. ranked_from 0 es class) (ap (λ (t : Seen). t.notices) d.1 ∙ sym (notices_seen w c here s (TakeEvent cell) r))

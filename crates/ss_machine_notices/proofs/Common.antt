@@ -28,7 +28,8 @@ pub use Rattle.ss_machine_frames.specs.Rows.{AreAlike, TwoRows, cleared, place_a
 pub use Rattle.ss_machine_instructions.proofs.Filing.{one}
 pub use Rattle.ss_machine_instructions.proofs.Placing.{calm, deep_at, deep_here, frame_small, located, site, small, suits}
 pub use Rattle.ss_machine_instructions.proofs.Programs.{noticed_in}
-pub use Rattle.ss_machine_instructions.proofs.Settling.{fine_is, fine_right, notices_seen, store_is}
+pub use Rattle.ss_machine_instructions.proofs.Seeing.{seen_is}
+pub use Rattle.ss_machine_instructions.proofs.Settling.{fine_is, fine_right, notices_seen}
 pub use Rattle.ss_machine_instructions.specs.Doing.{Compiled, HasNoTick, HasOneTick, HasPerformed, IsDelivering, IsReadyFor}
 pub use Rattle.ss_machine_instructions.specs.Entered.{HasEntered, IsOutOfMemory}
 pub use Rattle.ss_machine_instructions.specs.Ways.{begun_event_at, faulted, on_after}

@@ -1,6 +1,6 @@
 -- MakeNotice and Reschedule: what a notice is given lies in cells, and its time in the cell above them.
 use Rattle.std.proofs.Common.{◌≡◌, inr, ℕ, zero, suc, ◌+◌, ◌<◌, ◌≤◌, Bool, false, List, [], ◌∷◌, length, map, take, Option, Some, None, Ok, Err, refl, sym, ap, ◌∙◌, subst, arith, if◌then◌else◌}
-use Rattle.ss_machine_notices.proofs.Common.{act, Address, as_value, calm, Compiled, deep_at, deep_here, eq-eqb, Failure, Fault, field_mode, Fine, HasGivenValues, HasNoTick, HasPerformed, Here, Instruction, Integer, is_due, IsDelivering, IsNoticeMade, IsReadyFor, IsSettledWithMemory, IsSettling, located, Memory, Mode, mode_of, NoMemory, OfAttribute, Program, Refused, refused_where, Seen, site, small, State, Store, suits, Text, unless_refused, Value, watch, Whole, with_seen}
+use Rattle.ss_machine_notices.proofs.Common.{act, Address, as_value, calm, Compiled, deep_at, deep_here, eq-eqb, Failure, Fault, field_mode, Fine, HasGivenValues, HasNoTick, HasPerformed, Here, Instruction, Integer, is_due, IsDelivering, IsNoticeMade, IsReadyFor, IsSettledWithMemory, IsSettling, located, Memory, Mode, mode_of, OfAttribute, Program, Refused, refused_where, Seen, site, small, State, Store, suits, Text, unless_refused, Value, watch, Whole, with_seen}
 use Rattle.std.specs.Prelude.{ℤ, slice_get, Result as OkOr}
 use Rattle.std.specs.Option.{option_and_then}
 use Rattle.ss_code_instructions.specs.Shape.{IsSuited, HasOnTop, AreGivenModes}
@@ -9,8 +9,9 @@ use Rattle.ss_machine_frames.proofs.Places.{agree_out, all_agree, elsewhere_valu
 use Rattle.ss_machine_frames.proofs.Reading.{hold_length, own_is, above_constants, place_within, only_number, reads, read_within}
 use Rattle.ss_machine_frames.specs.Holding.{AreValuesAt, AreCellsAt}
 use Rattle.ss_machine_frames.specs.Rows.{TwoRows, with_number as with_number_at, place_at}
-use Rattle.ss_machine_instructions.proofs.Settling.{fine_right, store_is, fine_is, statistics_seen, fails_on}
-use Rattle.ss_machine_instructions.specs.Ways.{on_after, stopped, refused_by}
+use Rattle.ss_machine_instructions.proofs.Seeing.{seen_is, unmade}
+use Rattle.ss_machine_instructions.proofs.Settling.{fine_right, fine_is, statistics_seen, fails_on}
+use Rattle.ss_machine_instructions.specs.Ways.{on_after, refused_by}
 use Rattle.ss_meaning.specs.Events.{rescheduled, made_notice}
 use Rattle.ss_meaning.specs.Fitting.{IsFittingStore, AreOfModes}
 use Rattle.ss_meaning.proofs.Events.{made_notice_fine, rescheduled_fine}
@@ -122,7 +123,7 @@ module _ (w : Compiled) (c : Core) (here : Here) (s : State) (run : Running) (r 
     typed = r.compiled.typed;
     modes = r.placed.locals;
     store = c.store;
-    fits = subst (λ (t : Store). IsFittingStore w.program r.placed.locals t) (store_is w c here s run r) r.fits.store;
+    fits = subst (λ (t : Store). IsFittingStore w.program r.placed.locals t) (seen_is w c here s run r) r.fits.store;
     notice = fit.0;
     values = z.taken.values;
     kinds = modes;
@@ -205,7 +206,7 @@ module _ (w : Compiled) (c : Core) (here : Here) (s : State) (run : Running) (r 
       let under = above_constants (site w c here s run r) (located w c here s run r) in
       let k = length c.store.globals in
       let cells = Whole t ∷ v.taken.below in
-      let gives : made_notice class v.taken.values t c.store ≡ Ok (Whole n, with_seen c.store e) = ap (made_notice class v.taken.values t) (store_is w c here s run r) ∙ made in
+      let gives : made_notice class v.taken.values t c.store ≡ Ok (Whole n, with_seen c.store e) = ap (made_notice class v.taken.values t) (seen_is w c here s run r) ∙ made in
       let cells_here : AreCellsAt rows Low cells = (
         subst (λ j. slice_get rows.numbers j ≡ Some t) place (value_same s.rows i (Whole t) r.holds.even (omega (arith, room))),
         cells_agree s.rows rows Low v.taken.below (agree_out s.rows rows i Low (Low + length v.taken.below) ew (inr (omega (arith, place)))) v.under,
@@ -254,15 +255,10 @@ module _ (w : Compiled) (c : Core) (here : Here) (s : State) (run : Running) (r 
   makes_not class cell given to notes reported z t e (Fault kind) new result at_time made same none =
       let v = make_spread class cell given to z in
       fails_on w c here s run r kind e new result (ap is_due z.2.2)
-      (make_acts class cell given to z t at_time ∙ ap (λ q. deliver_with r.placed.line z.2.0 q (Whole t ∷ v.taken.below) c) (ap (made_notice class v.taken.values t) (store_is w c here s run r) ∙ made))
+      (make_acts class cell given to z t at_time ∙ ap (λ q. deliver_with r.placed.line z.2.0 q (Whole t ∷ v.taken.below) c) (ap (made_notice class v.taken.values t) (seen_is w c here s run r) ∙ made))
       same none
   makes_not class cell given to notes reported z t e Memory new result at_time made same none =
-      let m = act w.code r.placed.line r.placed.instruction c in
-      let l = r.placed.line in
-      let s' : State = stopped NoMemory (record s { world = e }) in
-      let plain : HasNoTick w l m s s' None = record { leads = tt; ticks = refl; steps = refl } in
-      calm w c here s run r new result (ap is_due z.2.2)
-      (subst (λ o. HasNoTick w l m s new o) (sym none) (subst (λ u. HasNoTick w l m s u None) (sym same) plain))
+      calm w c here s run r new result (ap is_due z.2.2) (unmade w c here s run r e new result same none)
 
   -- ## Reschedule
 
