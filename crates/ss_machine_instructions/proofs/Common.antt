@@ -44,6 +44,7 @@ pub use Rattle.ss_machine_instructions.specs.declared.flow.Here.{Here}
 pub use Rattle.ss_machine_instructions.specs.declared.state.State.{State}
 pub use Rattle.ss_machine_time.specs.Figures.{statistic_variable}
 pub use Rattle.ss_machine_world.proofs.Composing.{unwatched}
+pub use Rattle.ss_machine_world.proofs.Leaving.{there_in}
 pub use Rattle.ss_machine_world.proofs.Reading.{value_once}
 pub use Rattle.ss_machine_world.proofs.Said.{said_of_layout}
 pub use Rattle.ss_machine_world.proofs.Starting.{seen_of}

@@ -35,7 +35,7 @@ none_about subject (s ∷ ss) e = by (same_subject s.subject subject) (λ e. non
 -- ## Subjects
 
 -- a set with an owner is there, and who owns it is the same in both words
-owner_said : (o : Option SetLayout) (whose : Owner) → option_map (λ (t : SetLayout). t.owner) o ≡ Some whose → owner_in o ≡ whose
+pub owner_said : (o : Option SetLayout) (whose : Owner) → option_map (λ (t : SetLayout). t.owner) o ≡ Some whose → owner_in o ≡ whose
 owner_said None whose e = absurd cc
 owner_said (Some t) whose e = let same : t.owner ≡ whose = cc in same
 

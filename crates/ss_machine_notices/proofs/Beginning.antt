@@ -1,6 +1,6 @@
 -- An event begins: the notice that comes next is taken out, and let go.
 use Rattle.std.proofs.Common.{◌≡◌, ℕ, zero, suc, ◌+◌, ◌<◌, ◌≤◌, ◌^◌, ℤ, Bool, true, false, List, [], ◌∷◌, Option, Some, None, Ok, Err, refl, sym, ap, ◌∙◌, subst, arith}
-use Rattle.ss_machine_notices.proofs.Common.{act, class_of_record, ComingAs, eqb-true, FaultKind, HasLetGo, HasLetGoThen, HasReceived, Here, IsNextEvent, IsNextNotice, least_event, living, Mode, next_event_there, notices_seen, Seen, State, seen_is, take_next, TakeEvent, There, Whole, with_seen, WrongClass}
+use Rattle.ss_machine_notices.proofs.Common.{act, class_of_record, ComingAs, eqb-true, FaultKind, HasLetGo, HasLetGoThen, HasReceived, Here, IsNextEvent, IsNextNotice, least_event, living, Mode, next_event_there, notices_seen, one, Seen, seen_is, State, take_next, TakeEvent, There, Whole, with_seen, WrongClass}
 use Rattle.std.specs.Prelude.{◌==◌, if◌then◌else◌, pos, negsuc, IfSome, is_some, slice_get, Result as OkOr}
 use Rattle.ss_code_instructions.specs.States.{Core, To, core_at}
 use Rattle.ss_machine_instructions.proofs.Placing.{located, site, goes_with}
@@ -40,9 +40,6 @@ saved_within (Some k) from long le lt = omega (arith, le, lt)
 saved_within None from long le lt = lt
 
 -- ## The notice that comes next
-
-pub got : {A : Type 0} {x y : A} → Some x ≡ Some y → x ≡ y
-got e = cc
 
 some_none : {A : Type 0} (x : A) → Some x ≡ None → ⊥
 some_none x e = cc
@@ -146,7 +143,7 @@ module _ (w : Compiled) (c : Core) (here : Here) (s : State) (cell : ℕ) (r : I
       let a = comes_next (awaits e x d) in
       let n = next_is c.store a.0 a.1 in
       let first : Some (n.time, n.number) ≡ Some (e.time, x) = sym n.first ∙ ap (λ (y : World). least_event y.pending) r.holds.world ∙ d.0 in
-      let number : n.number ≡ x = ap (λ (p : ℤ × ℤ). p.1) (got first) in
+      let number : n.number ≡ x = ap (λ (p : ℤ × ℤ). p.1) (one first) in
       let there = record_living c.store.world.heap n.number n.entry n.there in
       let heap : c.store.world.heap ≡ e.heap = ap (λ (y : World). y.heap) r.holds.world ∙ sym (ap (λ (t : Seen). t.heap) d.1) in
       some_none n.entry.class (sym there ∙ ap (λ h. living h n.number) heap ∙ ap (living e.heap) number ∙ none)
@@ -157,12 +154,12 @@ module _ (w : Compiled) (c : Core) (here : Here) (s : State) (cell : ℕ) (r : I
       let a = comes_next (awaits e x d) in
       let n = next_is c.store a.0 a.1 in
       let first : Some (n.time, n.number) ≡ Some (e.time, x) = sym n.first ∙ ap (λ (y : World). least_event y.pending) r.holds.world ∙ d.0 in
-      let pair : (n.time, n.number) ≡ (e.time, x) = got first in
+      let pair : (n.time, n.number) ≡ (e.time, x) = one first in
       let number : n.number ≡ x = ap (λ (p : ℤ × ℤ). p.1) pair in
       let time : n.time ≡ e.time = ap (λ (p : ℤ × ℤ). p.0) pair in
       let heap : c.store.world.heap ≡ e.heap = ap (λ (y : World). y.heap) r.holds.world ∙ sym (ap (λ (t : Seen). t.heap) d.1) in
       let there : Some n.entry.class ≡ Some class = sym (record_living c.store.world.heap n.number n.entry n.there) ∙ ap (λ h. living h n.number) heap ∙ ap (living e.heap) number ∙ lives in
-      let of : n.entry.class ≡ class = got there in
+      let of : n.entry.class ≡ class = one there in
       record {
         before = s;
         ready = r;

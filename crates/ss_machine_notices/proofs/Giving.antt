@@ -19,23 +19,16 @@ use Rattle.ss_program.specs.declared.sections.Subject.{Subject}
 use Rattle.ss_meaning.specs.Places.{is_of_mode, assigned_attribute}
 use Rattle.ss_meaning.proofs.Fine.{Fine, fine_then, fine_turned, due_fine}
 use Rattle.ss_meaning.proofs.Heaps.{Changed, timed_sane}
-use Rattle.ss_meaning.proofs.Stores.{heap_fits}
+use Rattle.ss_meaning.proofs.Stores.{heap_fits, same_is}
 use Rattle.ss_meaning.proofs.Entities.{HasField, field_said, class_said, attribute_assigned_fine, made_one_fine}
 use Rattle.ss_meaning.proofs.Events.{endowed_fine}
 use Rattle.ss_code_instructions.proofs.Noting.{Quiet, noted_quiet}
 use Rattle.ss_machine_frames.proofs.Places.{all_get}
 use Rattle.ss_machine_world.proofs.Composing.{assigned_noted}
 use Rattle.ss_machine_world.proofs.Reading.{set_once}
-use Rattle.ss_machine_instructions.proofs.Filing.{within_there}
+use Rattle.ss_machine_world.proofs.Leaving.{there_in}
 
 -- ## Modes
-
-same_is : (m n : Mode) → m ≡ n → same_mode m n ≡ true
-same_is m n e = subst (λ k. same_mode m k ≡ true) e (itself m)
-  where
-    itself : (m : Mode) → same_mode m m ≡ true
-    itself Integer = refl
-    itself Alpha = refl
 
 -- no statistic watches an attribute that is a text
 module _ (p : Program) (class field : ℕ) (text : field_mode p class field ≡ Some Alpha) where
@@ -104,7 +97,7 @@ module _ (class field : ℕ) (n : ℤ) (v : Value) (notes : Bool) (e : Seen) (g 
   suits_field = slice_get_within (modes_of e.heap.layout class) field g.mode suits_mode
 
   is_fitting : is_of_mode v (slice_get (modes_of e.heap.layout class) field) ≡ true
-  is_fitting = ap (is_of_mode v) suits_mode ∙ same_is (mode_of v) g.mode g.right
+  is_fitting = ap (is_of_mode v) suits_mode ∙ ap (λ k. same_mode k g.mode) g.right ∙ same_is g.mode
 
   abbrev op : Store → OkOr Store Failure
   op = assigned_attribute class field (Whole n) v
@@ -292,7 +285,7 @@ module _ (class : ℕ) (n : ℤ) (notes : Bool) (from given : ℕ) (rows : TwoRo
 
     again_is : rescheduled class (Whole n) g.values t (with_seen g.store old) ≡ if_ok (due (unpended class n old)) (λ u. refiled class (Whole n) g.values t (with_seen g.store old))
     again_is =
-        ap (λ b. if_ok (where_fit b (turned (λ _. n) (due (known_in old.heap class n)))) then_again) (within_there old.heap.layout.classes class class_here)
+        ap (λ b. if_ok (where_fit b (turned (λ _. n) (due (known_in old.heap class n)))) then_again) (there_in old.heap.layout.classes class class_here)
         ∙ by (known_in old.heap class n)
       where
         not_twice : Bool → OkOr (Unit {0}) FaultKind

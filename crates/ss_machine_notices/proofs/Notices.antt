@@ -1,6 +1,6 @@
 -- MakeNotice and Reschedule: what a notice is given lies in cells, and its time in the cell above them.
-use Rattle.std.proofs.Common.{◌≡◌, inr, ℕ, zero, suc, ◌+◌, ◌<◌, ◌≤◌, Bool, false, List, [], ◌∷◌, length, map, take, Option, Some, None, Ok, Err, refl, sym, ap, ◌∙◌, subst, arith, if◌then◌else◌}
-use Rattle.ss_machine_notices.proofs.Common.{act, Address, as_value, calm, Compiled, deep_at, deep_here, eq-eqb, Failure, Fault, field_mode, Fine, HasGivenValues, HasNoTick, HasPerformed, Here, Instruction, Integer, is_due, IsDelivering, IsNoticeMade, IsReadyFor, IsSettledWithMemory, IsSettling, located, Memory, Mode, mode_of, OfAttribute, Program, Refused, refused_where, Seen, site, small, State, Store, suits, Text, unless_refused, Value, watch, Whole, with_seen}
+use Rattle.std.proofs.Common.{◌≡◌, inr, ℕ, suc, ◌+◌, ◌<◌, ◌≤◌, Bool, false, List, [], ◌∷◌, length, Option, Some, None, Ok, Err, refl, sym, ap, ◌∙◌, subst, arith, if◌then◌else◌}
+use Rattle.ss_machine_notices.proofs.Common.{act, Address, as_value, calm, Compiled, deep_at, deep_here, eq-eqb, Failure, Fault, field_mode, Fine, HasGivenValues, HasNoTick, HasPerformed, Here, Instruction, Integer, is_due, IsDelivering, IsNoticeMade, IsReadyFor, IsSettledWithMemory, IsSettling, located, Memory, Mode, mode_of, OfAttribute, Program, Refused, refused_where, Seen, site, small, State, Store, suits, unless_refused, Value, watch, Whole, with_seen}
 use Rattle.std.specs.Prelude.{ℤ, slice_get, Result as OkOr}
 use Rattle.std.specs.Option.{option_and_then}
 use Rattle.ss_code_instructions.specs.Shape.{IsSuited, HasOnTop, AreGivenModes}
@@ -19,41 +19,18 @@ use Rattle.ss_code_instructions.specs.declared.instruction.Instruction.{Instruct
 use Rattle.ss_code_instructions.specs.Instructions as i
 use Rattle.ss_code_instructions.specs.Carried.{HasCell, HasOperand, HasTarget, Is}
 use Rattle.ss_machine_frames.proofs.Entering.{cut}
-use Rattle.ss_machine_instructions.proofs.Calling.{blocked}
+use Rattle.ss_machine_instructions.proofs.Calling.{blocked, cells_long}
+use Rattle.ss_machine_instructions.proofs.Looping.{topped}
+use Rattle.ss_machine_frames.proofs.Lists.{get_take}
 use Rattle.ss_machine_notices.proofs.Times.{refuses}
 
--- a number on top of other cells
-record Topped (cells : List Value) (rest : List Mode) : Type 0 where
-  number : ℤ
-  over : List Value
-  is : cells ≡ Whole number ∷ over
-  modes : AreOfModes over rest
-
-topped : (cells : List Value) (rest : List Mode) → AreOfModes cells (Integer ∷ rest) → Topped cells rest
-topped [] rest h = absurd cc
-topped (Whole z ∷ over) rest h = let q : map mode_of over ≡ rest = cc in record { number = z; over = over; is = refl; modes = q }
-topped (Text t ∷ over) rest h = absurd cc
-
-taken_long : (k : ℕ) (cells vs : List Value) (b : TakenOff) → take_off k cells vs ≡ Some b → length cells ≡ k + length b.below
-taken_long zero cells vs b e =
-    let d : TakenOff = record { values = vs; below = cells } in
-    let q : d ≡ b = cc in
-    let n : length cells ≡ length b.below = ap (λ (b : TakenOff). length b.below) q in
-    omega (arith, n)
-taken_long (suc k) [] vs b e = absurd cc
-taken_long (suc k) (v ∷ cells) vs b e = omega (arith, taken_long k cells (v ∷ vs) b e)
-
 -- the first modes of a class are those of its first attributes
-taken_get : {A : Type 0} (n : ℕ) (xs : List A) (i : ℕ) (a : A) → slice_get (take n xs) i ≡ Some a → slice_get xs i ≡ Some a
-taken_get zero xs i a q = absurd cc
-taken_get (suc n) [] i a q = absurd cc
-taken_get (suc n) (x ∷ xs) zero a q = q
-taken_get (suc n) (x ∷ xs) (suc i) a q = taken_get n xs i a q
-
 pub given_fields : (p : Program) (class : ℕ) (modes : List Mode) → AreGivenModes p class modes → (i : ℕ) (m : Mode) → slice_get modes i ≡ Some m → field_mode p class i ≡ Some m
 given_fields p class modes g i m q =
     ap (λ o. option_and_then (λ fs. slice_get fs i) o) g.1.1
-    ∙ taken_get (length modes) g.1.0 i m (ap (λ ms. slice_get ms i) (sym g.1.2) ∙ q)
+    ∙ sym (get_take g.1.0 (length modes) i (slice_get_within modes i m q))
+    ∙ ap (λ ms. slice_get ms i) (sym g.1.2)
+    ∙ q
 
 module _ (w : Compiled) (c : Core) (here : Here) (s : State) (run : Running) (r : IsReadyFor w c here s run) where
   abbrev SuitsHere : Instruction → Type 0
@@ -88,19 +65,19 @@ module _ (w : Compiled) (c : Core) (here : Here) (s : State) (run : Running) (r 
   spread : (h cell given : ℕ) (above modes rest : List Mode) → cell ≡ length r.placed.locals + h → r.placed.cells ≡ Integer ∷ above → length modes ≡ given → HasOnTop h modes above rest → Spread h cell given modes rest
   spread h cell given above modes rest at e n block =
       let t = topped c.cells above (r.fits.cells ∙ e) in
-      let b = blocked modes rest t.over (t.modes ∙ block.is) in
-      let off : take_off given t.over [] ≡ Some b.taken = ap (λ k. take_off k t.over []) (sym n) ∙ b.is in
+      let b = blocked modes rest t.below (t.modes ∙ block.is) in
+      let off : take_off given t.below [] ≡ Some b.taken = ap (λ k. take_off k t.below []) (sym n) ∙ b.is in
       let high : length b.taken.below ≡ h = hold_length b.taken.below rest b.below ∙ block.height in
       let own = own_is (site w c here s run r) (located w c here s run r) in
       let place : here.frame + cell ≡ Low + length b.taken.below = omega (arith, at, high, own) in
-      let long = taken_long given t.over [] b.taken off in
-      let top : here.frame + cell + given ≡ Low + length t.over = omega (arith, place, long) in
+      let long = cells_long given t.below [] b.taken off in
+      let top : here.frame + cell + given ≡ Low + length t.below = omega (arith, place, long) in
       let all = subst (λ l. AreCellsAt s.rows Low l) t.is r.holds.held.cells in
-      let parts = cut s.rows Low given t.over [] b.taken all.1 tt off in
-      let deep : length r.placed.cells ≡ suc (length t.over) = sym (hold_length c.cells r.placed.cells r.fits.cells) ∙ ap length t.is in
+      let parts = cut s.rows Low given t.below [] b.taken all.1 tt off in
+      let deep : length r.placed.cells ≡ suc (length t.below) = sym (hold_length c.cells r.placed.cells r.fits.cells) ∙ ap length t.is in
       record {
         time = t.number;
-        over = t.over;
+        over = t.below;
         taken = b.taken;
         cells = t.is;
         off = off;
@@ -274,7 +251,7 @@ module _ (w : Compiled) (c : Core) (here : Here) (s : State) (run : Running) (r 
   again_in class notice cell given z =
       let y = subst SuitsHere z.2.2 (suits w c here s run r) in
       let v = again_spread class notice cell given z in
-      let few : length y.5.0 ≤ w.run.depth = omega (arith, hold_length v.taken.below y.5.0 v.below, taken_long given v.over [] v.taken v.off, hold_length c.cells r.placed.cells r.fits.cells, ap length v.cells, deep_here w c here s run r) in (
+      let few : length y.5.0 ≤ w.run.depth = omega (arith, hold_length v.taken.below y.5.0 v.below, cells_long given v.over [] v.taken v.off, hold_length c.cells r.placed.cells r.fits.cells, ap length v.cells, deep_here w c here s run r) in (
         read_within (site w c here s run r) (located w c here s run r) z.0 Integer y.5.0 y.5.2.0 notice y.5.2.1 z.1 few,
         v.room,
       )

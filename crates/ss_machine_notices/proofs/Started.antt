@@ -1,19 +1,16 @@
 -- What the machine does as an event begins is what the definition does.
 use Rattle.std.proofs.Common.{◌≡◌, ℕ, ◌+◌, ◌<◌, ◌≤◌, ℤ, true, List, [], ◌∷◌, length, map, Option, Some, None, Ok, Err, refl, sym, ap, ◌∙◌, subst, arith, if◌then◌else◌}
-use Rattle.ss_machine_notices.proofs.Common.{act, AnEvent, at_height, attributes_given, Beginning, Breaks, cleared, Compiled, Core, did, enter, eq-eqb, faulted, FaultKind, fit, HasEntered, HasOneTick, Here, hold_length, IsEntry, IsOutOfMemory, IsSuited, Mode, modes_of, NoMemory, one, Rest, SectionEntry, Seen, set_length, slice_get_within, State, Stuck, suits, TakeEvent, To, turned, TwoRows, Value, value_in, Whole, with_number, with_seen, with_value}
+use Rattle.ss_machine_notices.proofs.Common.{act, AnEvent, at_height, attributes_given, Beginning, Breaks, Compiled, Core, did, enter, eq-eqb, faulted, FaultKind, fit, HasEntered, HasOneTick, Here, hold_length, IsEntry, IsOutOfMemory, IsSuited, modes_of, NoMemory, one, Rest, SectionEntry, Seen, set_length, slice_get_within, State, Stuck, suits, TakeEvent, To, turned, TwoRows, Value, value_in, Whole, with_number, with_seen}
 use Rattle.std.specs.Prelude.{IfSome, is_some, slice_get, Result as OkOr}
-use Rattle.ss_base.specs.Layout.{mode_of, first_value}
+use Rattle.ss_base.specs.Layout.{mode_of}
 use Rattle.ss_machine_notices.specs.Beginning.{AreRead, AreReceived, HasLetGo, HasReceived, IsNextEvent, HasLetGoThen, AreReceivedIf, IsUnbegunAfter, IsUnbegun}
-use Rattle.ss_machine_frames.proofs.Entering.{value_long, value_texts, opened_is}
+use Rattle.ss_machine_frames.proofs.Entering.{opened_is}
 use Rattle.ss_machine_notices.proofs.Begun.{event, entry_point, code_entry, begun_entry, begun_modes, begun_kind, begun_saved, begun_saving}
 use Rattle.ss_machine_notices.proofs.Giving.{got_at}
+use Rattle.ss_machine_instructions.proofs.Calling.{cleared_even}
 use Rattle.ss_machine_notices.proofs.Opening.{value_lives, all_lives, begins_not, left_store, GoesAs, IsSaving, read_is, goes_as, goes_right, begun_then, take_is}
 use Rattle.ss_machine_notices.proofs.Framing.{begun_core, held_gone, held_saved}
 use Rattle.ss_machine_notices.proofs.Beginning.{lets_go_ticks, lets_go_steps}
-
-cleared_even : (r : TwoRows) (i : ℕ) (ms : List Mode) → length r.texts ≡ length r.numbers → length (cleared r i ms).texts ≡ length (cleared r i ms).numbers
-cleared_even r i [] e = e
-cleared_even r i (m ∷ ms) e = cleared_even (with_value r i (first_value m)) (i + 1) ms (value_texts r i (first_value m) ∙ e ∙ sym (value_long r i (first_value m)))
 
 module _ (w : Compiled) (c : Core) (here : Here) (s : State) (cell : ℕ) (x : ℤ) (class : ℕ) (n : IsNextEvent w c here s cell x class) (run : SectionEntry) (at_run : slice_get w.run.events n.coming.ranked.rank ≡ Some run) where
   -- the entry that is run is that of the event
