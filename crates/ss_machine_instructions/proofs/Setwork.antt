@@ -3,8 +3,8 @@ use Rattle.std.proofs.Common.{◌≡◌, ℕ, ◌+◌, ◌<◌, ◌≤◌, Bool,
 use Rattle.ss_machine_instructions.proofs.Common.{act, Address, AreCellsAt, AreOfModes, as_value, bearer_within, Compiled, done_unless_fault, due, End, Fails, Failure, faulted, faulted_by, FaultKind, Fine, HasNoTick, HasPerformed, Here, if_ok, Integer, is_due, IsDelivering, IsFittingStore, IsReadyFor, IsRight, IsWellTyped, Layout, MemberQuery, Mode, mode_of, OfCount, on_after, only_number, place_at, Program, read_within, reads, reads_bearer, Refers, Seen, SetLayout, SetQuery, shorter, slice_get_within, State, Store, turned, Value, watch, where_fit, Whole, with_seen}
 use Rattle.std.specs.Prelude.{ℤ, pos, is_some, slice_get, Result as OkOr}
 use Rattle.ss_code_instructions.specs.Carried.{HasBearer, HasOperand, HasTarget, Is, IsFilingMember, IsOperandAt, IsBearerAt}
-use Rattle.ss_code_instructions.specs.Instructions.{Bearer, Instruction, Operand, Target, FilingPlace, First, Last, Ranked, Before, After}
-use Rattle.ss_code_instructions.specs.Shape.{IsSuited, typed_scope, IsSetBearer, IsGivingMode, IsGivingBearer, IsGivingPosition}
+use Rattle.ss_code_instructions.specs.Instructions.{Bearer, Operand, Target, FilingPlace, First, Last, Ranked, Before, After}
+use Rattle.ss_code_instructions.specs.Shape.{typed_scope, IsSetBearer, IsGivingMode, IsGivingBearer, IsGivingPosition}
 use Rattle.ss_code_instructions.specs.States.{Core, deliver, deliver_with, did, Moved, onward, with_operand_value, with_position}
 use Rattle.ss_machine_instructions.specs.Worldly.{HasFiled, HasRemoved, HasTaken, IsSettledGiving, IsSettling, IsOwner, IsRuled, one_of, member_answer}
 use Rattle.ss_meaning.specs.Sets.{ByRule, Foremost, Hindmost, JustAfter, JustBefore, member, owner_as, set_at, owner_by_layout, set_answer, of_set, is_one, of_member, Filing as Position, filed_in, removed_from, removed_at}
@@ -14,7 +14,7 @@ use Rattle.ss_program.specs.declared.expression.MemberQuery.TheVariants.{Predece
 use Rattle.ss_meaning.proofs.Sets.{OwnerOk, FilingOk, filed_in_fine, removed_from_fine, removed_at_fine}
 use Rattle.ss_code_instructions.specs.declared.instruction.Instruction.{Instruction as Running}
 use Rattle.ss_code_instructions.specs.Instructions as i
-use Rattle.ss_machine_instructions.proofs.Placing.{site, located, suits, small, deep_at, deep_here, calm}
+use Rattle.ss_machine_instructions.proofs.Placing.{site, located, suits_as, small, deep_at, deep_here, calm}
 use Rattle.ss_machine_instructions.proofs.Delivering.{delivers, deliver_is, number_right}
 use Rattle.ss_machine_instructions.proofs.Asking.{owner_is, set_there, set_within, bearer_shorter}
 use Rattle.ss_machine_instructions.proofs.Programs.{ruled_in}
@@ -58,9 +58,6 @@ owner_ok p typed ms set None o z fits refers = subst (λ o. OwnerOk p typed ms s
 owner_ok p typed ms set (Some x) o z fits refers = subst (λ o. OwnerOk p typed ms set o) (sym refers) (fits, refl)
 
 module _ (w : Compiled) (c : Core) (here : Here) (s : State) (run : Running) (r : IsReadyFor w c here s run) where
-  abbrev SuitsHere : Instruction → Type 0
-  SuitsHere x = IsSuited w.program w.code c.place r.placed.locals r.placed.cells x
-
   abbrev Low : ℕ
   Low = here.frame + length c.store.locals
 
@@ -86,7 +83,7 @@ module _ (w : Compiled) (c : Core) (here : Here) (s : State) (run : Running) (r 
 
   pub asks_set_in : (query : SetQuery) (set : ℕ) (owner to : Address) → AsksSet query set owner to → (place_at here.frame owner < length s.rows.numbers) × (set < length s.world.heap.layout.sets)
   asks_set_in query set owner to z =
-      let y = subst SuitsHere z.2.2 (suits w c here s run r) in (
+      let y = suits_as w c here s run r z.2.2 in (
         bearer_within (site w c here s run r) (located w c here s run r) z.0 r.placed.cells y.1.0 owner y.1.1 z.1 (deep_here w c here s run r),
         set_within w c here s run r set z.0 y.0,
       )
@@ -94,7 +91,7 @@ module _ (w : Compiled) (c : Core) (here : Here) (s : State) (run : Running) (r 
   pub asks_set : (query : SetQuery) (set : ℕ) (owner to : Address) (number : ℤ) (answer : OkOr ℤ FaultKind) → AsksSet query set owner to → slice_get s.rows.numbers (place_at here.frame owner) ≡ Some number → answer ≡ set_answer query s.world.heap set number → IsDelivering w c r.placed.line (act w.code r.placed.line r.placed.instruction c) here s to (as_value answer)
   asks_set query set owner to number answer z at e =
       let is = z.2.2 in
-      let y = subst SuitsHere is (suits w c here s run r) in
+      let y = suits_as w c here s run r is in
       let b = reads_bearer (site w c here s run r) (located w c here s run r) z.0 r.placed.cells y.1.0 owner c.cells number y.1.1 z.1 r.holds.held.cells r.fits.cells at in
       let who = owner_is w.program set z.0 b.value number c.store r.fits.store.sound.world.layout y.0 b.refers in
       let target = z.2.0 in
@@ -115,7 +112,7 @@ module _ (w : Compiled) (c : Core) (here : Here) (s : State) (run : Running) (r 
 
   pub asks_member_in : (query : MemberQuery) (set : ℕ) (member to : Address) → AsksMember query set member to → (place_at here.frame member < length s.rows.numbers) × (set < length s.world.heap.layout.sets)
   asks_member_in query set member to z =
-      let y = subst SuitsHere z.2.2 (suits w c here s run r) in (
+      let y = suits_as w c here s run r z.2.2 in (
         read_within (site w c here s run r) (located w c here s run r) z.0 Integer r.placed.cells y.1.0 member y.1.1 z.1 (deep_here w c here s run r),
         slice_get_within s.world.heap.layout.sets set y.0.0 (ap (λ l. slice_get l.sets set) (layout_is w c here s run r) ∙ y.0.1),
       )
@@ -123,7 +120,7 @@ module _ (w : Compiled) (c : Core) (here : Here) (s : State) (run : Running) (r 
   pub asks_member : (query : MemberQuery) (set : ℕ) (member to : Address) (number : ℤ) (answer : OkOr ℤ FaultKind) → AsksMember query set member to → slice_get s.rows.numbers (place_at here.frame member) ≡ Some number → answer ≡ member_answer query s.world.heap set number → IsDelivering w c r.placed.line (act w.code r.placed.line r.placed.instruction c) here s to (as_value answer)
   asks_member query set member to number answer z at e =
       let is = z.2.2 in
-      let y = subst SuitsHere is (suits w c here s run r) in
+      let y = suits_as w c here s run r is in
       let one = reads (site w c here s run r) (located w c here s run r) z.0 Integer r.placed.cells y.1.0 member c.cells (Whole number) y.1.1 z.1 r.holds.held.cells r.fits.cells (only_number s.rows (place_at here.frame member) number at) in
       let known : set_at set c.store ≡ Some y.0.0 = ap (λ (l : Layout). slice_get l.sets set) r.fits.store.sound.world.layout ∙ y.0.1 in
       let target = z.2.0 in
@@ -192,7 +189,7 @@ module _ (w : Compiled) (c : Core) (here : Here) (s : State) (run : Running) (r 
   file_within filing set member owner f =
       let t = site w c here s run r in
       let st = located w c here s run r in
-      let z = subst SuitsHere f.2.2 (suits w c here s run r) in
+      let z = suits_as w c here s run r f.2.2 in
       record {
         member_place = read_within t st f.0 Integer z.1.2.0 z.1.2.2.0 member z.1.2.2.1 f.1 (shortens filing z.1.0 z.1.2.0 z.1.2.1 (bearer_shorter w c here s run r f.2.0 z.1.0 z.1.1));
         owner_place = bearer_within t st f.2.0 r.placed.cells z.1.0 owner z.1.1 f.2.1 (deep_here w c here s run r);
@@ -203,7 +200,7 @@ module _ (w : Compiled) (c : Core) (here : Here) (s : State) (run : Running) (r 
   -- the place of the member beside which it is filed is there as well
   pub beside_within : (filing : FilingPlace) (k : Operand) (set : ℕ) (beside member owner : Address) → ((over above : List Mode) → IsGivingPosition (typed_scope w.program w.code r.placed.locals) filing over above → IsGivingMode (typed_scope w.program w.code r.placed.locals) k Integer over above) → IsOperandAt w.code w.run.constants r.placed k beside → FilesBy filing set member owner → place_at here.frame beside < length s.rows.numbers
   beside_within filing k set beside member owner gives at_k f =
-      let z = subst SuitsHere f.2.2 (suits w c here s run r) in
+      let z = suits_as w c here s run r f.2.2 in
       read_within (site w c here s run r) (located w c here s run r) k Integer z.1.0 z.1.2.0 beside (gives z.1.0 z.1.2.0 z.1.2.1) at_k (bearer_shorter w c here s run r f.2.0 z.1.0 z.1.1)
 
   abbrev pub IsQuiet : (notes : Bool) → (set : ℕ) → Type 0
@@ -221,7 +218,7 @@ module _ (w : Compiled) (c : Core) (here : Here) (s : State) (run : Running) (r 
       let t = site w c here s run r in
       let st = located w c here s run r in
       let l = r.placed.line in
-      let z = subst SuitsHere is (suits w c here s run r) in
+      let z = suits_as w c here s run r is in
       let b = reads_bearer t st o r.placed.cells z.1.0 owner c.cells m z.1.1 files.2.1 r.holds.held.cells r.fits.cells at_owner in
       let f = position z.1.0 z.1.2.0 b.below z.1.2.1 b.cells b.modes in
       let x = reads t st y Integer z.1.2.0 z.1.2.2.0 member f.below (Whole n) z.1.2.2.1 files.1 f.cells_at f.modes (only_number s.rows (place_at here.frame member) n at_member) in
@@ -245,7 +242,7 @@ module _ (w : Compiled) (c : Core) (here : Here) (s : State) (run : Running) (r 
   removes_in set member owner z =
       let t = site w c here s run r in
       let st = located w c here s run r in
-      let y = subst SuitsHere z.2.2 (suits w c here s run r) in
+      let y = suits_as w c here s run r z.2.2 in
       record {
         member_place = read_within t st z.0 Integer y.1.0 y.1.2.0 member y.1.2.1 z.1 (bearer_shorter w c here s run r z.2.0 y.1.0 y.1.1);
         owner_place = bearer_within t st z.2.0 r.placed.cells y.1.0 owner y.1.1 z.2.1 (deep_here w c here s run r);
@@ -259,7 +256,7 @@ module _ (w : Compiled) (c : Core) (here : Here) (s : State) (run : Running) (r 
       let st = located w c here s run r in
       let l = r.placed.line in
       let is = z.2.2 in
-      let y = subst SuitsHere is (suits w c here s run r) in
+      let y = suits_as w c here s run r is in
       let b = reads_bearer t st z.2.0 r.placed.cells y.1.0 owner c.cells m y.1.1 z.2.1 r.holds.held.cells r.fits.cells at_owner in
       let x = reads t st z.0 Integer y.1.0 y.1.2.0 member b.below (Whole n) y.1.2.1 z.1 b.cells b.modes (only_number s.rows (place_at here.frame member) n at_member) in
       let op : Store → OkOr Store Failure = removed_from set (Whole n) b.value in
@@ -279,7 +276,7 @@ module _ (w : Compiled) (c : Core) (here : Here) (s : State) (run : Running) (r 
 
   pub takes_in : (end : End) (set : ℕ) (owner to : Address) → TakesHere end set owner to → (place_at here.frame owner < length s.rows.numbers) × (set < length s.world.heap.layout.sets)
   takes_in end set owner to z =
-      let y = subst SuitsHere z.2.2 (suits w c here s run r) in (
+      let y = suits_as w c here s run r z.2.2 in (
         bearer_within (site w c here s run r) (located w c here s run r) z.0 r.placed.cells y.1.0 owner y.1.1 z.1 (deep_here w c here s run r),
         set_within w c here s run r set z.0 y.0,
       )
@@ -321,7 +318,7 @@ module _ (w : Compiled) (c : Core) (here : Here) (s : State) (run : Running) (r 
   pub takes_delivers : (end : End) (set : ℕ) (owner to : Address) (m x : ℤ) (notes : Bool) (e : Seen) → IsQuiet notes set → TakesHere end set owner to → slice_get s.rows.numbers (place_at here.frame owner) ≡ Some m → HasTaken end set notes s.world e (Ok x) m → IsDelivering w c r.placed.line (act w.code r.placed.line r.placed.instruction c) here (record s { world = e }) to (as_value (Ok x))
   takes_delivers end set owner to m x notes e reported z at_owner taken =
       let is = z.2.2 in
-      let y = subst SuitsHere is (suits w c here s run r) in
+      let y = suits_as w c here s run r is in
       let target = z.2.0 in
       let a = takes_as end set z.0 owner target y.1.0 m y.0 y.1.1 z.1 is at_owner in
       let right : IsRight (removed_at end set a.of c.store) = fine_right IsFitting (removed_at end set a.of c.store) a.fine in
@@ -355,7 +352,7 @@ module _ (w : Compiled) (c : Core) (here : Here) (s : State) (run : Running) (r 
   pub takes_not : (end : End) (set : ℕ) (owner to : Address) (m : ℤ) (kind : FaultKind) (notes : Bool) (e : Seen) (new : State) (result : Option Here) → IsQuiet notes set → TakesHere end set owner to → slice_get s.rows.numbers (place_at here.frame owner) ≡ Some m → HasTaken end set notes s.world e (Err kind) m → new ≡ faulted kind (record s { world = e }) → result ≡ None → HasPerformed (is_due r.placed.instruction) w r.placed.line (act w.code r.placed.line r.placed.instruction c) s new result
   takes_not end set owner to m kind notes e new result reported z at_owner taken same none =
       let is = z.2.2 in
-      let y = subst SuitsHere is (suits w c here s run r) in
+      let y = suits_as w c here s run r is in
       let target = z.2.0 in
       let a = takes_as end set z.0 owner target y.1.0 m y.0 y.1.1 z.1 is at_owner in
       let right = fine_right IsFitting (removed_at end set a.of c.store) a.fine in

@@ -1,9 +1,9 @@
 -- MakeNotice and Reschedule: what a notice is given lies in cells, and its time in the cell above them.
 use Rattle.std.proofs.Common.{◌≡◌, inr, ℕ, suc, ◌+◌, ◌<◌, ◌≤◌, Bool, false, List, [], ◌∷◌, length, Option, Some, None, Ok, Err, refl, sym, ap, ◌∙◌, subst, arith, if◌then◌else◌}
-use Rattle.ss_machine_notices.proofs.Common.{act, Address, as_value, calm, Compiled, deep_at, deep_here, eq-eqb, Failure, Fault, field_mode, Fine, HasGivenValues, HasNoTick, HasPerformed, Here, Instruction, Integer, is_due, IsDelivering, IsNoticeMade, IsReadyFor, IsSettledWithMemory, IsSettling, located, Memory, Mode, mode_of, OfAttribute, Program, Refused, refused_where, Seen, site, small, State, Store, suits, unless_refused, Value, watch, Whole, with_seen}
+use Rattle.ss_machine_notices.proofs.Common.{act, Address, as_value, calm, Compiled, deep_at, deep_here, eq-eqb, Failure, Fault, field_mode, Fine, HasGivenValues, HasNoTick, HasPerformed, Here, Integer, is_due, IsDelivering, IsNoticeMade, IsReadyFor, IsSettledWithMemory, IsSettling, located, Memory, Mode, mode_of, OfAttribute, Program, Refused, refused_where, Seen, site, small, State, Store, suits_as, unless_refused, Value, watch, Whole, with_seen}
 use Rattle.std.specs.Prelude.{ℤ, slice_get, Result as OkOr}
 use Rattle.std.specs.Option.{option_and_then}
-use Rattle.ss_code_instructions.specs.Shape.{IsSuited, HasOnTop, AreGivenModes}
+use Rattle.ss_code_instructions.specs.Shape.{HasOnTop, AreGivenModes}
 use Rattle.ss_code_instructions.specs.States.{at_height, Core, did, fit, Moved, Stuck, onward, TakenOff, take_off, with_top_number, with_block, with_operand_value, deliver_with}
 use Rattle.ss_machine_frames.proofs.Places.{agree_out, all_agree, elsewhere_value, Elsewhere, value_same, cells_agree, calls_agree}
 use Rattle.ss_machine_frames.proofs.Reading.{hold_length, own_is, above_constants, place_within, only_number, reads, read_within}
@@ -33,9 +33,6 @@ given_fields p class modes g i m q =
     ∙ q
 
 module _ (w : Compiled) (c : Core) (here : Here) (s : State) (run : Running) (r : IsReadyFor w c here s run) where
-  abbrev SuitsHere : Instruction → Type 0
-  SuitsHere x = IsSuited w.program w.code c.place r.placed.locals r.placed.cells x
-
   abbrev Low : ℕ
   Low = here.frame + length c.store.locals
 
@@ -133,9 +130,9 @@ module _ (w : Compiled) (c : Core) (here : Here) (s : State) (run : Running) (r 
   MakesNotice class cell given to = HasCell w.code w.run.constants r.placed cell (λ h. HasTarget w.code w.run.constants r.placed to (λ t. Is w.code w.run.constants r.placed (i.MakeNotice class h given t)))
 
   -- the cells of the instruction
-  pub make_spread : (class cell given : ℕ) (to : Address) (z : MakesNotice class cell given to) → let y = subst SuitsHere z.2.2 (suits w c here s run r) in Spread z.0 cell given y.1 y.5.0
+  pub make_spread : (class cell given : ℕ) (to : Address) (z : MakesNotice class cell given to) → let y = suits_as w c here s run r z.2.2 in Spread z.0 cell given y.1 y.5.0
   make_spread class cell given to z =
-      let y = subst SuitsHere z.2.2 (suits w c here s run r) in
+      let y = suits_as w c here s run r z.2.2 in
       spread z.0 cell given y.0 y.1 y.5.0 z.1 y.2 y.3 y.5.1
 
   pub makes_in : (class cell given : ℕ) (to : Address) → MakesNotice class cell given to → here.frame + cell + given < length s.rows.numbers
@@ -143,12 +140,12 @@ module _ (w : Compiled) (c : Core) (here : Here) (s : State) (run : Running) (r 
 
   abbrev pub make_gives : (class cell given : ℕ) (to : Address) (notes : Bool) → MakesNotice class cell given to → IsQuietGiven notes class given → HasGivenValues class notes (here.frame + cell) given s.rows s.world
   make_gives class cell given to notes z reported =
-      let y = subst SuitsHere z.2.2 (suits w c here s run r) in
+      let y = suits_as w c here s run r z.2.2 in
       gives_of z.0 cell given class notes y.1 y.5.0 (make_spread class cell given to z) y.4 reported
 
   make_acts : (class cell given : ℕ) (to : Address) (z : MakesNotice class cell given to) (t : ℤ) → slice_get s.rows.numbers (here.frame + cell + given) ≡ Some t → act w.code r.placed.line r.placed.instruction c ≡ deliver_with r.placed.line z.2.0 (made_notice class (make_spread class cell given to z).taken.values t c.store) (Whole t ∷ (make_spread class cell given to z).taken.below) c
   make_acts class cell given to z t e =
-      let y = subst SuitsHere z.2.2 (suits w c here s run r) in
+      let y = suits_as w c here s run r z.2.2 in
       let v = make_spread class cell given to z in
       let l = r.placed.line in
       ap (λ x. act w.code l x c) z.2.2
@@ -161,7 +158,7 @@ module _ (w : Compiled) (c : Core) (here : Here) (s : State) (run : Running) (r 
 
   make_fine : (class cell given : ℕ) (to : Address) (z : MakesNotice class cell given to) (t : ℤ) → Fine IsFitting (made_notice class (make_spread class cell given to z).taken.values t c.store)
   make_fine class cell given to z t =
-      let y = subst SuitsHere z.2.2 (suits w c here s run r) in
+      let y = suits_as w c here s run r z.2.2 in
       let v = make_spread class cell given to z in
       made_notice_fine w.program r.compiled.typed r.placed.locals class v.taken.values y.1 t c.store y.4.0 v.kinds (fields_from class y.1 y.4) r.fits.store
 
@@ -172,7 +169,7 @@ module _ (w : Compiled) (c : Core) (here : Here) (s : State) (run : Running) (r 
   -- the number of the notice is to go to the target, once its time lies in the first of the cells
   pub make_delivers : (class cell given : ℕ) (to : Address) (notes : Bool) (reported : IsQuietGiven notes class given) (z : MakesNotice class cell given to) (t n : ℤ) (e : Seen) → slice_get s.rows.numbers (here.frame + cell + given) ≡ Some t → IsNoticeMade c.store class (make_gives class cell given to notes z reported).values t s.world e (Ok n) → IsDelivering w (make_core class cell given to z t) r.placed.line (act w.code r.placed.line r.placed.instruction c) here (record s { world = e; rows = with_number_at s.rows (here.frame + cell) t }) to (as_value (Ok n))
   make_delivers class cell given to notes reported z t n e at_time made =
-      let y = subst SuitsHere z.2.2 (suits w c here s run r) in
+      let y = suits_as w c here s run r z.2.2 in
       let v = make_spread class cell given to z in
       let l = r.placed.line in
       let i = here.frame + cell in
@@ -242,14 +239,14 @@ module _ (w : Compiled) (c : Core) (here : Here) (s : State) (run : Running) (r 
   abbrev pub Reschedules : (class : ℕ) → (notice : Address) → (cell given : ℕ) → Type 0
   Reschedules class notice cell given = HasOperand w.code w.run.constants r.placed notice (λ y. HasCell w.code w.run.constants r.placed cell (λ h. Is w.code w.run.constants r.placed (i.Reschedule class y h given)))
 
-  pub again_spread : (class : ℕ) (notice : Address) (cell given : ℕ) (z : Reschedules class notice cell given) → let y = subst SuitsHere z.2.2 (suits w c here s run r) in Spread z.2.0 cell given y.1 y.5.0
+  pub again_spread : (class : ℕ) (notice : Address) (cell given : ℕ) (z : Reschedules class notice cell given) → let y = suits_as w c here s run r z.2.2 in Spread z.2.0 cell given y.1 y.5.0
   again_spread class notice cell given z =
-      let y = subst SuitsHere z.2.2 (suits w c here s run r) in
+      let y = suits_as w c here s run r z.2.2 in
       spread z.2.0 cell given y.0 y.1 y.5.0 z.2.1 y.2 y.3 y.5.1
 
   pub again_in : (class : ℕ) (notice : Address) (cell given : ℕ) → Reschedules class notice cell given → (place_at here.frame notice < length s.rows.numbers) × (here.frame + cell + given < length s.rows.numbers)
   again_in class notice cell given z =
-      let y = subst SuitsHere z.2.2 (suits w c here s run r) in
+      let y = suits_as w c here s run r z.2.2 in
       let v = again_spread class notice cell given z in
       let few : length y.5.0 ≤ w.run.depth = omega (arith, hold_length v.taken.below y.5.0 v.below, cells_long given v.over [] v.taken v.off, hold_length c.cells r.placed.cells r.fits.cells, ap length v.cells, deep_here w c here s run r) in (
         read_within (site w c here s run r) (located w c here s run r) z.0 Integer y.5.0 y.5.2.0 notice y.5.2.1 z.1 few,
@@ -258,14 +255,14 @@ module _ (w : Compiled) (c : Core) (here : Here) (s : State) (run : Running) (r 
 
   abbrev pub again_gives : (class : ℕ) (notice : Address) (cell given : ℕ) (notes : Bool) → Reschedules class notice cell given → IsQuietGiven notes class given → HasGivenValues class notes (here.frame + cell) given s.rows s.world
   again_gives class notice cell given notes z reported =
-      let y = subst SuitsHere z.2.2 (suits w c here s run r) in
+      let y = suits_as w c here s run r z.2.2 in
       gives_of z.2.0 cell given class notes y.1 y.5.0 (again_spread class notice cell given z) y.4 reported
 
   pub reschedules : (class : ℕ) (notice : Address) (cell given : ℕ) (notes : Bool) (reported : IsQuietGiven notes class given) (z : Reschedules class notice cell given) (n t : ℤ) (e : Seen) (answer : OkOr (Unit {0}) Refused) (new : State) (result : Option Here) → slice_get s.rows.numbers (place_at here.frame notice) ≡ Some n → slice_get s.rows.numbers (here.frame + cell + given) ≡ Some t → IsSettledWithMemory c.store (rescheduled class (Whole n) (again_gives class notice cell given notes z reported).values t) s.world e answer → new ≡ refused_where answer (record s { world = e }) → result ≡ on_after here (unless_refused answer) → HasPerformed (is_due r.placed.instruction) w r.placed.line (act w.code r.placed.line r.placed.instruction c) s new result
   reschedules class notice cell given notes reported z n t e answer new result at_notice at_time d same way =
       let l = r.placed.line in
       let is = z.2.2 in
-      let y = subst SuitsHere is (suits w c here s run r) in
+      let y = suits_as w c here s run r is in
       let v = again_spread class notice cell given z in
       let vs = v.taken.values in
       let one = reads (site w c here s run r) (located w c here s run r) z.0 Integer y.5.0 y.5.2.0 notice v.taken.below (Whole n) y.5.2.1 z.1 v.under v.below (only_number s.rows (place_at here.frame notice) n at_notice) in

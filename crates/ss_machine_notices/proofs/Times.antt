@@ -1,8 +1,8 @@
 -- Times to schedule for, filing a notice, and cancelling.
-use Rattle.std.proofs.Common.{◌≡◌, ℕ, ◌+◌, ◌<◌, ◌≤◌, false, List, length, Option, Some, Ok, Err, refl, ap, ◌∙◌, subst}
+use Rattle.std.proofs.Common.{◌≡◌, ℕ, ◌+◌, ◌<◌, ◌≤◌, false, List, length, Option, Some, Ok, Err, refl, ap, ◌∙◌}
 use Rattle.std.specs.Prelude.{ℤ, IsOk, slice_get, Result as OkOr}
-use Rattle.ss_machine_notices.proofs.Common.{act, Address, as_value, calm, Compiled, deep_at, deep_here, Fault, FaultKind, HasAnswer, HasChanged, HasChangedWithMemory, HasPerformed, Here, Integer, is_due, IsDelivering, IsFittingStore, IsNoticeClass, IsReadyFor, IsRight, IsSettledWithMemory, IsSettling, kind_of_class, located, Memory, Mode, Notice, noticed_in, place_at, Refused, refused_where, Seen, site, State, Store, suits, time_after, unless_refused, Value, Whole, with_seen}
-use Rattle.ss_code_instructions.specs.Shape.{IsSuited, IsGivingMode, IsAccepting, typed_scope}
+use Rattle.ss_machine_notices.proofs.Common.{act, Address, as_value, calm, Compiled, deep_at, deep_here, Fault, FaultKind, HasAnswer, HasChanged, HasChangedWithMemory, HasPerformed, Here, Integer, is_due, IsDelivering, IsFittingStore, IsNoticeClass, IsReadyFor, IsRight, IsSettledWithMemory, IsSettling, kind_of_class, located, Memory, Mode, Notice, noticed_in, place_at, Refused, refused_where, Seen, site, State, Store, suits_as, time_after, unless_refused, Value, Whole, with_seen}
+use Rattle.ss_code_instructions.specs.Shape.{IsGivingMode, IsAccepting, typed_scope}
 use Rattle.ss_code_instructions.specs.States.{Core, did, onward, with_operand_value, deliver}
 use Rattle.ss_machine_instructions.proofs.Seeing.{seen_is, layout_is, settles, unmade, changes}
 use Rattle.ss_machine_instructions.proofs.Settling.{fine_right, notices_seen}
@@ -13,15 +13,12 @@ use Rattle.ss_meaning.proofs.Fine.{Any}
 use Rattle.ss_meaning.proofs.Events.{time_at_fine, filed_notice_fine}
 use Rattle.ss_code_instructions.specs.declared.instruction.Instruction.{Instruction as Running}
 use Rattle.ss_code_instructions.specs.Instructions as i
-use Rattle.ss_code_instructions.specs.Instructions.{Instruction, Operand, Target}
+use Rattle.ss_code_instructions.specs.Instructions.{Operand, Target}
 use Rattle.ss_code_instructions.specs.Carried.{HasOperand, HasTarget, Is, IsOperandAt, IsTargetAt}
 use Rattle.ss_machine_frames.proofs.Reading.{only_number, reads, read_within, reads_both, BothWithin, both_within}
 use Rattle.ss_machine_instructions.proofs.Delivering.{delivers, deliver_is, number_right}
 
 module _ (w : Compiled) (c : Core) (here : Here) (s : State) (run : Running) (r : IsReadyFor w c here s run) where
-  abbrev SuitsHere : Instruction → Type 0
-  SuitsHere x = IsSuited w.program w.code c.place r.placed.locals r.placed.cells x
-
   -- ## Times
 
   -- the time of a moment whose number was read
@@ -38,13 +35,13 @@ module _ (w : Compiled) (c : Core) (here : Here) (s : State) (run : Running) (r 
 
   pub at_in : (time to : Address) → HasOperand w.code w.run.constants r.placed time (λ y. HasTarget w.code w.run.constants r.placed to (λ t. Is w.code w.run.constants r.placed (i.At y t))) → place_at here.frame time < length s.rows.numbers
   at_in time to z =
-      let y = subst SuitsHere z.2.2 (suits w c here s run r) in
+      let y = suits_as w c here s run r z.2.2 in
       read_within (site w c here s run r) (located w c here s run r) z.0 Integer r.placed.cells y.0 time y.1 z.1 (deep_here w c here s run r)
 
   pub ats : (time to : Address) (n : ℤ) (answer : OkOr ℤ FaultKind) → HasOperand w.code w.run.constants r.placed time (λ y. HasTarget w.code w.run.constants r.placed to (λ t. Is w.code w.run.constants r.placed (i.At y t))) → slice_get s.rows.numbers (place_at here.frame time) ≡ Some n → HasAnswer (not_past n) s.world answer → IsDelivering w c r.placed.line (act w.code r.placed.line r.placed.instruction c) here s to (as_value answer)
   ats time to n answer z at looks =
       let is = z.2.2 in
-      let y = subst SuitsHere is (suits w c here s run r) in
+      let y = suits_as w c here s run r is in
       let f : Store → OkOr ℤ Failure = not_past n in
       let right : IsRight (f c.store) = fine_right Any (f c.store) (time_at_fine w.program r.compiled.typed r.placed.locals (AtTime (Whole n)) c.store refl) in
       let e : f c.store ≡ due answer = ap f (seen_is w c here s run r) ∙ looks c.store (λ wrong. right (ap f (seen_is w c here s run r) ∙ wrong)) in
@@ -52,13 +49,13 @@ module _ (w : Compiled) (c : Core) (here : Here) (s : State) (run : Running) (r 
 
   pub in_in : (units to : Address) → HasOperand w.code w.run.constants r.placed units (λ y. HasTarget w.code w.run.constants r.placed to (λ t. Is w.code w.run.constants r.placed (i.In y t))) → place_at here.frame units < length s.rows.numbers
   in_in units to z =
-      let y = subst SuitsHere z.2.2 (suits w c here s run r) in
+      let y = suits_as w c here s run r z.2.2 in
       read_within (site w c here s run r) (located w c here s run r) z.0 Integer r.placed.cells y.0 units y.1 z.1 (deep_here w c here s run r)
 
   pub ins : (units to : Address) (n : ℤ) (answer : OkOr ℤ FaultKind) → HasOperand w.code w.run.constants r.placed units (λ y. HasTarget w.code w.run.constants r.placed to (λ t. Is w.code w.run.constants r.placed (i.In y t))) → slice_get s.rows.numbers (place_at here.frame units) ≡ Some n → HasAnswer (time_after n) s.world answer → IsDelivering w c r.placed.line (act w.code r.placed.line r.placed.instruction c) here s to (as_value answer)
   ins units to n answer z at looks =
       let is = z.2.2 in
-      let y = subst SuitsHere is (suits w c here s run r) in
+      let y = suits_as w c here s run r is in
       let f : Store → OkOr ℤ Failure = time_after n in
       let right : IsRight (f c.store) = fine_right Any (f c.store) (time_at_fine w.program r.compiled.typed r.placed.locals (Later (Whole n)) c.store refl) in
       let e : f c.store ≡ due answer = ap f (seen_is w c here s run r) ∙ looks c.store (λ wrong. right (ap f (seen_is w c here s run r) ∙ wrong)) in
@@ -99,7 +96,7 @@ module _ (w : Compiled) (c : Core) (here : Here) (s : State) (run : Running) (r 
 
   pub file_notice_in : (class : ℕ) (notice time : Address) → FilesNotice class notice time → BothWithin (site w c here s run r) (located w c here s run r) notice time × IsNoticeClass s.world class
   file_notice_in class notice time z =
-      let y = subst SuitsHere z.2.2 (suits w c here s run r) in (
+      let y = suits_as w c here s run r z.2.2 in (
         both_within (site w c here s run r) (located w c here s run r) z.0 z.2.0 Integer Integer r.placed.cells y.1.0 notice time y.1.1 z.1 z.2.1 (deep_here w c here s run r),
         noticed class y.0,
       )
@@ -108,7 +105,7 @@ module _ (w : Compiled) (c : Core) (here : Here) (s : State) (run : Running) (r 
   file_notices class notice time n t e answer new result z at_notice at_time d same way =
       let l = r.placed.line in
       let is = z.2.2 in
-      let y = subst SuitsHere is (suits w c here s run r) in
+      let y = suits_as w c here s run r is in
       let both = reads_both (site w c here s run r) (located w c here s run r) z.0 z.2.0 Integer Integer r.placed.cells y.1.0 notice time c.cells (Whole n) (Whole t) y.1.1 z.1 z.2.1 r.holds.held.cells r.fits.cells (only_number s.rows (place_at here.frame notice) n at_notice) (only_number s.rows (place_at here.frame time) t at_time) in
       let op : Store → OkOr Store Failure = filed_notice class (Whole n) t in
       let left : IsSettling c l (act w.code l r.placed.instruction c) here s op = record {
@@ -125,7 +122,7 @@ module _ (w : Compiled) (c : Core) (here : Here) (s : State) (run : Running) (r 
 
   pub cancels_in : (class : ℕ) (notice : Address) → HasOperand w.code w.run.constants r.placed notice (λ y. Is w.code w.run.constants r.placed (i.Cancel class y)) → (place_at here.frame notice < length s.rows.numbers) × (class < length s.world.heap.layout.classes)
   cancels_in class notice z =
-      let y = subst SuitsHere z.2 (suits w c here s run r) in (
+      let y = suits_as w c here s run r z.2 in (
         read_within (site w c here s run r) (located w c here s run r) z.0 Integer r.placed.cells y.1.0 notice y.1.1 z.1 (deep_here w c here s run r),
         class_within class y.0,
       )
@@ -133,7 +130,7 @@ module _ (w : Compiled) (c : Core) (here : Here) (s : State) (run : Running) (r 
   pub cancels : (class : ℕ) (notice : Address) (n : ℤ) (e : Seen) (answer : OkOr (Unit {0}) FaultKind) (new : State) (result : Option Here) → HasOperand w.code w.run.constants r.placed notice (λ y. Is w.code w.run.constants r.placed (i.Cancel class y)) → slice_get s.rows.numbers (place_at here.frame notice) ≡ Some n → HasChanged (unscheduled class (Whole n)) s.world e answer → new ≡ faulted_by answer (record s { world = e }) → result ≡ on_after here (done_unless_fault answer) → HasPerformed (is_due r.placed.instruction) w r.placed.line (act w.code r.placed.line r.placed.instruction c) s new result
   cancels class notice n e answer new result z at d same way =
       let is = z.2 in
-      let y = subst SuitsHere is (suits w c here s run r) in
+      let y = suits_as w c here s run r is in
       let one = reads (site w c here s run r) (located w c here s run r) z.0 Integer r.placed.cells y.1.0 notice c.cells (Whole n) y.1.1 z.1 r.holds.held.cells r.fits.cells (only_number s.rows (place_at here.frame notice) n at) in
       changes w c here s run r (unscheduled class (Whole n)) one.below e answer new result (ap is_due is)
       (ap (λ x. act w.code r.placed.line x c) is ∙ one.is (λ x below. did r.placed.line (unscheduled class x c.store) (λ t. onward below c t)))
