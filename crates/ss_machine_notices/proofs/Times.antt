@@ -1,16 +1,15 @@
 -- Times to schedule for, filing a notice, and cancelling.
 use Rattle.std.proofs.Common.{◌≡◌, ℕ, ◌+◌, ◌<◌, ◌≤◌, false, List, length, Option, Some, Ok, Err, refl, ap, ◌∙◌}
 use Rattle.std.specs.Prelude.{ℤ, IsOk, slice_get, Result as OkOr}
-use Rattle.ss_machine_notices.proofs.Common.{act, Address, as_value, calm, Compiled, deep_at, deep_here, Fault, FaultKind, HasAnswer, HasChanged, HasChangedWithMemory, HasPerformed, Here, Integer, is_due, IsDelivering, IsFittingStore, IsNoticeClass, IsReadyFor, IsRight, IsSettledWithMemory, IsSettling, kind_of_class, located, Memory, Mode, Notice, noticed_in, place_at, Refused, refused_where, Seen, site, State, Store, suits_as, time_after, unless_refused, Value, Whole, with_seen}
+use Rattle.ss_machine_notices.proofs.Common.{act, Address, as_value, calm, Compiled, deep_at, deep_here, Fault, FaultKind, HasAnswer, HasChanged, HasChangedWithMemory, HasPerformed, Here, Integer, is_due, IsDelivering, IsFittingStore, IsNoticeClass, IsReadyFor, IsSettledWithMemory, IsSettling, kind_of_class, located, Memory, Mode, Notice, noticed_in, place_at, Refused, refused_where, Seen, site, State, Store, suits_as, time_after, unless_refused, Value, Whole, with_seen}
 use Rattle.ss_code_instructions.specs.Shape.{IsGivingMode, IsAccepting, typed_scope}
 use Rattle.ss_code_instructions.specs.States.{Core, did, onward, with_operand_value, deliver}
-use Rattle.ss_machine_instructions.proofs.Seeing.{seen_is, layout_is, settles, unmade, changes}
+use Rattle.ss_machine_instructions.proofs.Seeing.{seen_is, layout_is, asked, settles, unmade, changes}
 use Rattle.ss_machine_instructions.proofs.Settling.{fine_right, notices_seen}
 use Rattle.ss_machine_instructions.specs.Ways.{on_after, faulted_by, done_unless_fault}
 use Rattle.ss_meaning.specs.Events.{filed_notice, Moment, AtTime, Later, not_past, time_at, unscheduled}
-use Rattle.ss_meaning.specs.Values.{due, Fails, Failure, if_ok, turned, number_of}
-use Rattle.ss_meaning.proofs.Fine.{Any}
-use Rattle.ss_meaning.proofs.Events.{time_at_fine, filed_notice_fine}
+use Rattle.ss_meaning.specs.Values.{Fails, Failure, if_ok, turned, number_of}
+use Rattle.ss_meaning.proofs.Events.{filed_notice_fine}
 use Rattle.ss_code_instructions.specs.declared.instruction.Instruction.{Instruction as Running}
 use Rattle.ss_code_instructions.specs.Instructions as i
 use Rattle.ss_code_instructions.specs.Instructions.{Operand, Target}
@@ -22,13 +21,14 @@ module _ (w : Compiled) (c : Core) (here : Here) (s : State) (run : Running) (r 
   -- ## Times
 
   -- the time of a moment whose number was read
-  when_delivers : (moment : Value → Moment) (y : Operand) (target : Target) (time to : Address) (rest after : List Mode) (n : ℤ) (answer : OkOr ℤ FaultKind) → act w.code r.placed.line r.placed.instruction c ≡ with_operand_value y c.store c.cells (λ v below. deliver r.placed.line target (turned Whole (time_at (moment v) c.store)) below c) → IsGivingMode (typed_scope w.program w.code r.placed.locals) y Integer r.placed.cells rest → IsOperandAt w.code w.run.constants r.placed y time → IsAccepting (typed_scope w.program w.code r.placed.locals) target Integer rest after → IsTargetAt w.code w.run.constants r.placed target to → length after ≤ w.run.depth → slice_get s.rows.numbers (place_at here.frame time) ≡ Some n → time_at (moment (Whole n)) c.store ≡ due answer → IsDelivering w c r.placed.line (act w.code r.placed.line r.placed.instruction c) here s to (as_value answer)
-  when_delivers moment y target time to rest after n answer acts gives at_y accepts at_to deep at_time e =
+  when_delivers : (moment : Value → Moment) (y : Operand) (target : Target) (time to : Address) (rest after : List Mode) (n : ℤ) (answer : OkOr ℤ FaultKind) → act w.code r.placed.line r.placed.instruction c ≡ with_operand_value y c.store c.cells (λ v below. deliver r.placed.line target (turned Whole (time_at (moment v) c.store)) below c) → IsGivingMode (typed_scope w.program w.code r.placed.locals) y Integer r.placed.cells rest → IsOperandAt w.code w.run.constants r.placed y time → IsAccepting (typed_scope w.program w.code r.placed.locals) target Integer rest after → IsTargetAt w.code w.run.constants r.placed target to → length after ≤ w.run.depth → slice_get s.rows.numbers (place_at here.frame time) ≡ Some n → HasAnswer (time_at (moment (Whole n))) s.world answer → IsDelivering w c r.placed.line (act w.code r.placed.line r.placed.instruction c) here s to (as_value answer)
+  when_delivers moment y target time to rest after n answer acts gives at_y accepts at_to deep at_time looks =
       let l = r.placed.line in
       let one = reads (site w c here s run r) (located w c here s run r) y Integer r.placed.cells rest time c.cells (Whole n) gives at_y r.holds.held.cells r.fits.cells (only_number s.rows (place_at here.frame time) n at_time) in
+      let reads_it : act w.code l r.placed.instruction c ≡ deliver l target (turned Whole (time_at (moment (Whole n)) c.store)) one.below c = acts ∙ one.is (λ v below. deliver l target (turned Whole (time_at (moment v) c.store)) below c) in
+      let e = asked w c here s run r (time_at (moment (Whole n))) answer (λ wrong. reads_it ∙ ap (λ q. deliver l target (turned Whole q) one.below c) wrong) looks in
       delivers w c here s run r (as_value answer) to target Integer rest after one.below
-      (acts
-      ∙ one.is (λ v below. deliver l target (turned Whole (time_at (moment v) c.store)) below c)
+      (reads_it
       ∙ ap (λ q. deliver l target (turned Whole q) one.below c) e
       ∙ deliver_is l target answer one.below c)
       accepts at_to deep (number_right answer) one.modes one.cells
@@ -42,10 +42,7 @@ module _ (w : Compiled) (c : Core) (here : Here) (s : State) (run : Running) (r 
   ats time to n answer z at looks =
       let is = z.2.2 in
       let y = suits_as w c here s run r is in
-      let f : Store → OkOr ℤ Failure = not_past n in
-      let right : IsRight (f c.store) = fine_right Any (f c.store) (time_at_fine w.program r.compiled.typed r.placed.locals (AtTime (Whole n)) c.store refl) in
-      let e : f c.store ≡ due answer = ap f (seen_is w c here s run r) ∙ looks c.store (λ wrong. right (ap f (seen_is w c here s run r) ∙ wrong)) in
-      when_delivers AtTime z.0 z.2.0 time to y.0 y.2.0 n answer (ap (λ x. act w.code r.placed.line x c) is) y.1 z.1 y.2.1 z.2.1 (deep_at w c here s run r (c.place + 1) r.placed.locals y.2.0 y.2.2) at e
+      when_delivers AtTime z.0 z.2.0 time to y.0 y.2.0 n answer (ap (λ x. act w.code r.placed.line x c) is) y.1 z.1 y.2.1 z.2.1 (deep_at w c here s run r (c.place + 1) r.placed.locals y.2.0 y.2.2) at looks
 
   pub in_in : (units to : Address) → HasOperand w.code w.run.constants r.placed units (λ y. HasTarget w.code w.run.constants r.placed to (λ t. Is w.code w.run.constants r.placed (i.In y t))) → place_at here.frame units < length s.rows.numbers
   in_in units to z =
@@ -56,10 +53,7 @@ module _ (w : Compiled) (c : Core) (here : Here) (s : State) (run : Running) (r 
   ins units to n answer z at looks =
       let is = z.2.2 in
       let y = suits_as w c here s run r is in
-      let f : Store → OkOr ℤ Failure = time_after n in
-      let right : IsRight (f c.store) = fine_right Any (f c.store) (time_at_fine w.program r.compiled.typed r.placed.locals (Later (Whole n)) c.store refl) in
-      let e : f c.store ≡ due answer = ap f (seen_is w c here s run r) ∙ looks c.store (λ wrong. right (ap f (seen_is w c here s run r) ∙ wrong)) in
-      when_delivers Later z.0 z.2.0 units to y.0 y.2.0 n answer (ap (λ x. act w.code r.placed.line x c) is) y.1 z.1 y.2.1 z.2.1 (deep_at w c here s run r (c.place + 1) r.placed.locals y.2.0 y.2.2) at e
+      when_delivers Later z.0 z.2.0 units to y.0 y.2.0 n answer (ap (λ x. act w.code r.placed.line x c) is) y.1 z.1 y.2.1 z.2.1 (deep_at w c here s run r (c.place + 1) r.placed.locals y.2.0 y.2.2) at looks
 
   -- ## A class of notices
 
