@@ -109,7 +109,7 @@ module _ (st t : State) (set : ℕ) (o : ℤ) where
 
 -- ## What is seen of a change of the entities
 
-rearranged : (f : State → OkOr State FaultKind) (e : Seen) (h : State) (r : OkOr (Unit {0}) FaultKind) → MatchResult r (λ _. f e.heap ≡ Ok h) (λ k. (f e.heap ≡ Err k) × (h ≡ e.heap)) → HasRearranged f e (record e { heap = h }) r
+pub rearranged : (f : State → OkOr State FaultKind) (e : Seen) (h : State) (r : OkOr (Unit {0}) FaultKind) → MatchResult r (λ _. f e.heap ≡ Ok h) (λ k. (f e.heap ≡ Err k) × (h ≡ e.heap)) → HasRearranged f e (record e { heap = h }) r
 rearranged f e h (Ok u) done = (done, refl)
 rearranged f e h (Err k) done = (done.0, ap (λ (h : State). record e { heap = h }) done.1)
 
