@@ -35,33 +35,20 @@ enter-requires-clause-small c = let z = c.requires in begun_frame z.0 z.1 c.args
 pub enter-requires-clause-place : goal.enter-requires-clause-place
 enter-requires-clause-place c = let z = c.requires in let lt = small z.0 z.1 c.args.here z.3.before (TakeEvent c.args.cell) z.3.ready in omega (arith, lt)
 
-pub unbegun-requires-clause-rank : goal.unbegun-requires-clause-rank
-unbegun-requires-clause-rank c =
+pub unbegun-requires-clause-goes : goal.unbegun-requires-clause-goes
+unbegun-requires-clause-goes c =
     let z = c.requires in
     let refused : IsOutOfMemory c.args.state.now c.enter.new.self = search rules in
     let rank : c.rank-rank.result ≡ z.3.coming.ranked.rank = c.rank-rank.ensures z.3.coming.ranked z.3.place in
-    omega (arith, rank, begun_rank z.0 z.1 c.args.here c.args.state.now c.args.cell c.args.notice c.args.class z.3, ap (λ (e : Seen). length e.notices) refused.world)
-
-pub unbegun-requires-clause-class : goal.unbegun-requires-clause-class
-unbegun-requires-clause-class c =
-    let z = c.requires in
-    let refused : IsOutOfMemory c.args.state.now c.enter.new.self = search rules in
-    omega (arith, begun_class z.0 z.1 c.args.here c.args.state.now c.args.cell c.args.notice c.args.class z.3, ap (λ (e : Seen). length e.heap.layout.classes) refused.world)
-
-pub unbegun-requires-clause-single : goal.unbegun-requires-clause-single
-unbegun-requires-clause-single c =
-    let z = c.requires in
-    let refused : IsOutOfMemory c.args.state.now c.enter.new.self = search rules in
-    ap (λ (e : Seen). is_single (slice_get e.heap.layout.classes c.args.class)) refused.world ∙ begun_single z.0 z.1 c.args.here c.args.state.now c.args.cell c.args.notice c.args.class z.3
-
-pub unbegun-requires-clause-saved : goal.unbegun-requires-clause-saved
-unbegun-requires-clause-saved c = λ said here.
-    let z = c.requires in
-    let refused : IsOutOfMemory c.args.state.now c.enter.new.self = search rules in
-    let rank : c.rank-rank.result ≡ z.3.coming.ranked.rank = c.rank-rank.ensures z.3.coming.ranked z.3.place in
-    let it : z.3.coming.ranked.said ≡ said = one (sym (begun_said z.0 z.1 c.args.here c.args.state.now c.args.cell c.args.notice c.args.class z.3) ∙ ap (λ (e : Seen). slice_get e.notices z.3.coming.ranked.rank) (sym refused.world) ∙ ap (slice_get c.enter.new.self.world.notices) (sym rank) ∙ here) in
-    let low = subst (λ (m : Notices). IfSome m.saved (λ k. k < c.args.here.frame)) it (begun_saved z.0 z.1 c.args.here c.args.state.now c.args.cell c.args.notice c.args.class z.3) in
-    saved_within said.saved c.args.here.frame (length c.enter.new.self.rows.numbers) (omega (arith, frame_within z.0 z.1 c.args.here c.args.state.now c.args.cell c.args.notice c.args.class z.3, refused.longer)) low
+    record {
+      rank = omega (arith, rank, begun_rank z.0 z.1 c.args.here c.args.state.now c.args.cell c.args.notice c.args.class z.3, ap (λ (e : Seen). length e.notices) refused.world);
+      class = omega (arith, begun_class z.0 z.1 c.args.here c.args.state.now c.args.cell c.args.notice c.args.class z.3, ap (λ (e : Seen). length e.heap.layout.classes) refused.world);
+      single = ap (λ (e : Seen). is_single (slice_get e.heap.layout.classes c.args.class)) refused.world ∙ begun_single z.0 z.1 c.args.here c.args.state.now c.args.cell c.args.notice c.args.class z.3;
+      saved = λ said here.
+          let it : z.3.coming.ranked.said ≡ said = one (sym (begun_said z.0 z.1 c.args.here c.args.state.now c.args.cell c.args.notice c.args.class z.3) ∙ ap (λ (e : Seen). slice_get e.notices z.3.coming.ranked.rank) (sym refused.world) ∙ ap (slice_get c.enter.new.self.world.notices) (sym rank) ∙ here) in
+          let low = subst (λ (m : Notices). IfSome m.saved (λ k. k < c.args.here.frame)) it (begun_saved z.0 z.1 c.args.here c.args.state.now c.args.cell c.args.notice c.args.class z.3) in
+          saved_within said.saved c.args.here.frame (length c.enter.new.self.rows.numbers) (omega (arith, frame_within z.0 z.1 c.args.here c.args.state.now c.args.cell c.args.notice c.args.class z.3, refused.longer)) low;
+    }
 
 pub unbegun-requires-clause-ticks : goal.unbegun-requires-clause-ticks
 unbegun-requires-clause-ticks c =
@@ -82,33 +69,20 @@ returns-in_default c = λ w core all n.
     let u = subst (λ (y : ℤ). IsUnbegun n.coming.ranked.said class y s1 new) same (c.unbegun.ensures.state n.coming.ranked.said here) in
     unbegun_as w core c.args.here s c.args.cell c.args.notice c.args.class n d at s1 new (begun_event_at c.args.here c.args.cell c.unbegun.result) refused u (ap (begun_event_at c.args.here c.args.cell) c.unbegun.ensures.none)
 
-pub receive-requires-clause-rank : goal.receive-requires-clause-rank
-receive-requires-clause-rank c =
+pub receive-requires-clause-goes : goal.receive-requires-clause-goes
+receive-requires-clause-goes c =
     let z = c.requires in
     let enters : HasEntered c.args.here c.args.state.now c.enter.new.self c.index-events-rank.result c.args.cell c.in-Ok.frame = search rules in
     let rank : c.rank-rank.result ≡ z.3.coming.ranked.rank = c.rank-rank.ensures z.3.coming.ranked z.3.place in
-    omega (arith, rank, begun_rank z.0 z.1 c.args.here c.args.state.now c.args.cell c.args.notice c.args.class z.3, ap (λ (t : State). length t.world.notices) enters.is)
-
-pub receive-requires-clause-class : goal.receive-requires-clause-class
-receive-requires-clause-class c =
-    let z = c.requires in
-    let enters : HasEntered c.args.here c.args.state.now c.enter.new.self c.index-events-rank.result c.args.cell c.in-Ok.frame = search rules in
-    omega (arith, begun_class z.0 z.1 c.args.here c.args.state.now c.args.cell c.args.notice c.args.class z.3, ap (λ (t : State). length t.world.heap.layout.classes) enters.is)
-
-pub receive-requires-clause-single : goal.receive-requires-clause-single
-receive-requires-clause-single c =
-    let z = c.requires in
-    let enters : HasEntered c.args.here c.args.state.now c.enter.new.self c.index-events-rank.result c.args.cell c.in-Ok.frame = search rules in
-    ap (λ (t : State). is_single (slice_get t.world.heap.layout.classes c.args.class)) enters.is ∙ begun_single z.0 z.1 c.args.here c.args.state.now c.args.cell c.args.notice c.args.class z.3
-
-pub receive-requires-clause-saved : goal.receive-requires-clause-saved
-receive-requires-clause-saved c = λ said here.
-    let z = c.requires in
-    let enters : HasEntered c.args.here c.args.state.now c.enter.new.self c.index-events-rank.result c.args.cell c.in-Ok.frame = search rules in
-    let rank : c.rank-rank.result ≡ z.3.coming.ranked.rank = c.rank-rank.ensures z.3.coming.ranked z.3.place in
-    let it : z.3.coming.ranked.said ≡ said = one (sym (begun_said z.0 z.1 c.args.here c.args.state.now c.args.cell c.args.notice c.args.class z.3) ∙ ap (λ (t : State). slice_get t.world.notices z.3.coming.ranked.rank) (sym enters.is) ∙ ap (slice_get c.enter.new.self.world.notices) (sym rank) ∙ here) in
-    let low = subst (λ (m : Notices). IfSome m.saved (λ k. k < c.args.here.frame)) it (begun_saved z.0 z.1 c.args.here c.args.state.now c.args.cell c.args.notice c.args.class z.3) in
-    saved_within said.saved c.args.here.frame c.in-Ok.frame (omega (arith, enters.begin)) low
+    record {
+      rank = omega (arith, rank, begun_rank z.0 z.1 c.args.here c.args.state.now c.args.cell c.args.notice c.args.class z.3, ap (λ (t : State). length t.world.notices) enters.is);
+      class = omega (arith, begun_class z.0 z.1 c.args.here c.args.state.now c.args.cell c.args.notice c.args.class z.3, ap (λ (t : State). length t.world.heap.layout.classes) enters.is);
+      single = ap (λ (t : State). is_single (slice_get t.world.heap.layout.classes c.args.class)) enters.is ∙ begun_single z.0 z.1 c.args.here c.args.state.now c.args.cell c.args.notice c.args.class z.3;
+      saved = λ said here.
+          let it : z.3.coming.ranked.said ≡ said = one (sym (begun_said z.0 z.1 c.args.here c.args.state.now c.args.cell c.args.notice c.args.class z.3) ∙ ap (λ (t : State). slice_get t.world.notices z.3.coming.ranked.rank) (sym enters.is) ∙ ap (slice_get c.enter.new.self.world.notices) (sym rank) ∙ here) in
+          let low = subst (λ (m : Notices). IfSome m.saved (λ k. k < c.args.here.frame)) it (begun_saved z.0 z.1 c.args.here c.args.state.now c.args.cell c.args.notice c.args.class z.3) in
+          saved_within said.saved c.args.here.frame c.in-Ok.frame (omega (arith, enters.begin)) low;
+    }
 
 pub receive-requires-clause-modes : goal.receive-requires-clause-modes
 receive-requires-clause-modes c = λ i m e.
