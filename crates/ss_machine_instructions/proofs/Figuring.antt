@@ -17,7 +17,7 @@ use Rattle.ss_machine_time.specs.Places.{is_about}
 use Rattle.ss_machine_world.specs.Seen as seen
 use Rattle.ss_machine_frames.proofs.Places.{Elsewhere, elsewhere_value, value_same, number_is, place_fixed}
 use Rattle.ss_machine_frames.proofs.Writing.{with_variable, put_is, variable_held}
-use Rattle.ss_machine_instructions.proofs.Placing.{site, located, suits_as, deep_at, deep_here, calm}
+use Rattle.ss_machine_instructions.proofs.Placing.{site, located, suits_as, deep_at, deep_here, calm, no_tick_at}
 use Rattle.ss_machine_instructions.proofs.Delivering.{faults, number_right}
 use Rattle.ss_machine_instructions.proofs.Seeing.{did_quiet, field_is, class_within, seen_is, layout_is, statistics_are, code_statistics_are, right_where, asked, looked, answers, changes_where}
 
@@ -246,9 +246,8 @@ module _ (w : Compiled) (c : Core) (here : Here) (s : State) (run : Running) (r 
             line = r.holds.line;
           } in
           let goes = acts ∙ ap (λ q. did r.placed.line q (λ t. onward below c t)) (changed (kept_in k n) right) in
-          let plain : HasNoTick w r.placed.line does s s' (Some there) = record { leads = (core_at (c.place + 1) below c.frames store, goes, holds); ticks = refl; steps = refl } in
           let way : result ≡ Some there = q ∙ ap (λ p. at_place here (p + 1)) r.holds.place in
-          subst (λ o. HasNoTick w r.placed.line does s new o) (sym way) (subst (λ u. HasNoTick w r.placed.line does s u (Some there)) (sym same) plain)
+          no_tick_at w r.placed.line does s s' new (Some there) result (core_at (c.place + 1) below c.frames store, goes, holds) refl refl same way
       by (Err kind) changed same q =
           let goes = acts ∙ ap (λ q. did r.placed.line q (λ t. onward below c t)) (changed.0 (kept_in k n) right) in
           let h = faults w r.placed.line does (record s { rows = with_number s.rows k n; world = e }) new result kind r.holds.line goes same q in

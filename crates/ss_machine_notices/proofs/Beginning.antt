@@ -1,6 +1,6 @@
 -- An event begins: the notice that comes next is taken out, and let go.
-use Rattle.std.proofs.Common.{◌≡◌, ℕ, zero, suc, ◌+◌, ◌<◌, ◌≤◌, ◌^◌, ℤ, Bool, true, false, List, [], ◌∷◌, Option, Some, None, Ok, Err, refl, sym, ap, ◌∙◌, subst, arith}
-use Rattle.ss_machine_notices.proofs.Common.{act, class_of_record, ComingAs, eqb-true, FaultKind, HasLetGo, HasLetGoThen, HasReceived, Here, IsNextEvent, IsNextNotice, least_event, living, Mode, next_event_there, notices_seen, one, Seen, seen_is, State, take_next, TakeEvent, There, Whole, with_seen, WrongClass}
+use Rattle.std.proofs.Common.{◌≡◌, ℕ, zero, suc, ◌+◌, ◌<◌, ◌≤◌, ◌^◌, ℤ, Bool, true, false, List, [], ◌∷◌, Option, Some, None, Ok, Err, refl, sym, ap, ◌∙◌, arith}
+use Rattle.ss_machine_notices.proofs.Common.{act, class_of_record, ComingAs, eqb-true, FaultKind, HasLetGo, HasLetGoThen, HasReceived, Here, IsNextEvent, IsNextNotice, least_event, living, Mode, next_event_there, notices_seen, one, one_tick_at, Seen, seen_is, State, take_next, TakeEvent, There, Whole, with_seen, WrongClass}
 use Rattle.std.specs.Prelude.{◌==◌, if◌then◌else◌, pos, negsuc, IfSome, is_some, slice_get, Result as OkOr}
 use Rattle.ss_code_instructions.specs.States.{Core, To, core_at}
 use Rattle.ss_machine_instructions.proofs.Placing.{located, site, goes_with}
@@ -133,9 +133,8 @@ module _ (w : Compiled) (c : Core) (here : Here) (s : State) (cell : ℕ) (r : I
       let acts : m ≡ To c' = ap (λ x. act w.code l x c) r.runs.carries.2 ∙ ap (λ o. take_next w.code r.runs.carries.0 o c) nothing in
       let h = goes_with w c here s (TakeEvent cell) r (c.place + 1) c.cells (cells_held (site w c here s (TakeEvent cell) r) (located w c here s (TakeEvent cell) r) (c.place + 1) c.cells r.holds.held.cells) in
       let holds : IsHeld w c' there s' = record { place = h.place; held = h.held; world = h.world; even = h.even; line = h.line } in
-      let plain : HasOneTick t w l m s s' (Some there) = record { leads = (c', acts, holds); ticks = refl; steps = refl } in
       let on : result ≡ Some there = way ∙ ap (λ p. at_place here (p + 1)) r.holds.place in
-      subst (λ o. HasOneTick t w l m s new o) (sym on) (subst (λ (u : State). HasOneTick t w l m s u (Some there)) (sym same) plain)
+      one_tick_at t w l m s s' new (Some there) result (c', acts, holds) refl refl same on
 
   -- which lives
   pub lives_as : (e : Seen) (x : ℤ) → IsNextNotice s.world e (Some x) → living e.heap x ≡ None → ⊥

@@ -26,7 +26,7 @@ pub use Rattle.ss_machine_frames.proofs.Reading.{hold_length, own_is}
 pub use Rattle.ss_machine_frames.specs.Holding.{AreValuesAt}
 pub use Rattle.ss_machine_frames.specs.Rows.{AreAlike, TwoRows, cleared, place_at, with_number, with_value}
 pub use Rattle.ss_machine_instructions.proofs.Filing.{one}
-pub use Rattle.ss_machine_instructions.proofs.Placing.{calm, deep_at, deep_here, frame_small, located, site, small, suits, suits_as}
+pub use Rattle.ss_machine_instructions.proofs.Placing.{calm, deep_at, deep_here, frame_small, located, one_tick_at, site, small, suits, suits_as}
 pub use Rattle.ss_machine_instructions.proofs.Programs.{noticed_in}
 pub use Rattle.ss_machine_instructions.proofs.Seeing.{seen_is}
 pub use Rattle.ss_machine_instructions.proofs.Settling.{fine_is, fine_right, notices_seen}

@@ -1,6 +1,6 @@
 -- What the machine does as an event begins is what the definition does.
 use Rattle.std.proofs.Common.{◌≡◌, ℕ, ◌+◌, ◌<◌, ◌≤◌, ℤ, true, List, [], ◌∷◌, length, map, Option, Some, None, Ok, Err, refl, sym, ap, ◌∙◌, subst, arith, if◌then◌else◌}
-use Rattle.ss_machine_notices.proofs.Common.{act, AnEvent, at_height, attributes_given, Beginning, Breaks, Compiled, Core, did, enter, eq-eqb, faulted, FaultKind, fit, HasEntered, HasOneTick, Here, hold_length, IsEntry, IsOutOfMemory, IsSuited, modes_of, NoMemory, one, Rest, SectionEntry, Seen, set_length, slice_get_within, State, Stuck, suits, TakeEvent, To, turned, TwoRows, Value, value_in, Whole, with_number, with_seen}
+use Rattle.ss_machine_notices.proofs.Common.{act, AnEvent, at_height, attributes_given, Beginning, Breaks, Compiled, Core, did, enter, eq-eqb, faulted, FaultKind, fit, HasEntered, HasOneTick, Here, hold_length, IsEntry, IsOutOfMemory, IsSuited, modes_of, NoMemory, one, one_tick_at, Rest, SectionEntry, Seen, set_length, slice_get_within, State, Stuck, suits, TakeEvent, To, turned, TwoRows, Value, value_in, Whole, with_number, with_seen}
 use Rattle.std.specs.Prelude.{IfSome, is_some, slice_get, Result as OkOr}
 use Rattle.ss_base.specs.Layout.{mode_of}
 use Rattle.ss_machine_notices.specs.Beginning.{AreRead, AreReceived, HasLetGo, HasReceived, IsNextEvent, HasLetGoThen, AreReceivedIf, IsUnbegunAfter, IsUnbegun}
@@ -130,15 +130,13 @@ module _ (w : Compiled) (c : Core) (here : Here) (s : State) (cell : ℕ) (x : �
   fails_as kind mid new result acts ticks steps same none =
       let m = act w.code n.ready.placed.line n.ready.placed.instruction c in
       let s' : State = faulted kind (record mid { fault_line = Some n.coming.ranked.said.line }) in
-      let plain : HasOneTick s.ticks w n.ready.placed.line m n.before s' None = record { leads = acts; ticks = ticks; steps = steps } in
-      subst (λ o. HasOneTick s.ticks w n.ready.placed.line m n.before new o) (sym none) (subst (λ (u : State). HasOneTick s.ticks w n.ready.placed.line m n.before u None) (sym same) plain)
+      one_tick_at s.ticks w n.ready.placed.line m n.before s' new None result acts ticks steps same none
 
   pub refused_as : (mid new : State) (result : Option Here) → mid.ticks ≡ s.ticks → mid.steps ≡ n.before.steps → new ≡ record mid { ticks = mid.ticks + 1; ending = NoMemory } → result ≡ None → HasOneTick s.ticks w n.ready.placed.line (act w.code n.ready.placed.line n.ready.placed.instruction c) n.before new result
   refused_as mid new result ticks steps same none =
       let m = act w.code n.ready.placed.line n.ready.placed.instruction c in
       let s' : State = record mid { ticks = mid.ticks + 1; ending = NoMemory } in
-      let plain : HasOneTick s.ticks w n.ready.placed.line m n.before s' None = record { leads = tt; ticks = omega (arith, ticks); steps = steps } in
-      subst (λ o. HasOneTick s.ticks w n.ready.placed.line m n.before new o) (sym none) (subst (λ (u : State). HasOneTick s.ticks w n.ready.placed.line m n.before u None) (sym same) plain)
+      one_tick_at s.ticks w n.ready.placed.line m n.before s' new None result tt (omega (arith, ticks)) steps same none
 
   -- some attributes are there, read or not
   pub some_given : (vs : List Value) × (attributes_given class 0 (length (event w c here s cell x class n).given) (Whole x) (with_seen c.store s.world) ≡ Ok vs)
