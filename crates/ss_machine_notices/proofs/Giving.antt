@@ -1,8 +1,9 @@
 -- A notice gets its first attributes and its time.
-use Rattle.std.proofs.Common.{◌≡◌, inl, inr, ℕ, zero, suc, ◌+◌, ◌<◌, ℤ, Bool, true, false, List, [], ◌∷◌, length, map, drop, Some, Ok, Err, refl, sym, ap, ◌∙◌, subst, arith}
-use Rattle.ss_machine_notices.proofs.Common.{Alpha, AlreadyScheduled, attribute_noted, eqb-true, Fault, FaultKind, fine_is, fine_right, HasChangedIf, Integer, is_pending, IsFittingStore, IsNoticeClass, Memory, Mode, mode_of, Notice, noticed_in, Program, Refused, slice_get_within, TwoRows, Value, watch, Whole}
+use Rattle.std.proofs.Common.{◌≡◌, inl, inr, ℕ, zero, suc, ◌+◌, ◌<◌, ℤ, Bool, true, false, List, [], ◌∷◌, length, drop, Some, Ok, Err, refl, sym, ap, ◌∙◌, subst, arith}
+use Rattle.ss_machine_notices.proofs.Common.{Alpha, AlreadyScheduled, attribute_noted, eqb-true, Fault, FaultKind, fine_is, fine_right, HasChangedIf, Integer, is_pending, IsFittingStore, IsNoticeClass, Memory, Mode, mode_of, Notice, noticed_in, Program, Refused, slice_get-map, slice_get_within, TwoRows, Value, watch, Whole}
 use Rattle.std.specs.Prelude.{◌&&◌, ◌==◌, IsOk, is_some, slice_get, MatchResult, Result as OkOr, if◌then◌else◌}
 use Rattle.std.specs.List.{AllByRecursion as Every}
+use Rattle.std.specs.Option.{option_map}
 use Rattle.ss_machine_notices.specs.Giving.{HasGivenValues, HasSetField, IsNoticeMade, IsSettledIn, IsSettledWithMemory, number_or, unpended, refiled, IsReadBack, IsSuitable, HasGivenOne}
 use Rattle.ss_machine_world.specs.Seen.{HasChanged, HasChangedWithMemory, HasRearranged, IsRight, Seen, with_seen, HasMade}
 use Rattle.ss_meaning.specs.Entities.{is_single, comes_singly, made_one}
@@ -161,11 +162,6 @@ got_at [] i lt = absurd (omega (arith, lt))
 got_at (x ∷ xs) zero lt = (x, refl)
 got_at (x ∷ xs) (suc i) lt = got_at xs i (omega (arith, lt))
 
-pub mode_got : (vs : List Value) (i : ℕ) (v : Value) → slice_get vs i ≡ Some v → slice_get (map mode_of vs) i ≡ Some (mode_of v)
-mode_got [] i v e = absurd cc
-mode_got (u ∷ vs) zero v e = let same : u ≡ v = cc in ap (λ x. Some (mode_of x)) same
-mode_got (u ∷ vs) (suc i) v e = mode_got vs i v e
-
 drop_got : {A : Type 0} (xs : List A) (i : ℕ) (x : A) → slice_get xs i ≡ Some x → drop i xs ≡ x ∷ drop (suc i) xs
 drop_got [] i x e = absurd cc
 drop_got (y ∷ xs) zero x e = let same : y ≡ x = cc in ap (λ z. z ∷ xs) same
@@ -198,7 +194,7 @@ module _ (class : ℕ) (n : ℤ) (notes : Bool) (from given : ℕ) (rows : TwoRo
         store = g.store;
         fits = d.fits;
         mode = mode_of next_value.0;
-        field_is = g.fields i (mode_of next_value.0) (ap (λ (ms : List Mode). slice_get ms i) (sym g.hold) ∙ mode_got g.values i next_value.0 next_value.1);
+        field_is = g.fields i (mode_of next_value.0) (ap (λ (ms : List Mode). slice_get ms i) (sym g.hold) ∙ slice_get-map mode_of g.values i ∙ ap (option_map mode_of) next_value.1);
         right = refl;
         reported = λ none. ap (λ (ss : List Statistic). watch ss (OfAttribute class i)) statistics_same ∙ g.reported none i lt;
       };
