@@ -1,12 +1,12 @@
 -- MakeNotice and Reschedule: what a notice is given lies in cells, and its time in the cell above them.
-use Rattle.std.proofs.Common.{◌≡◌, inr, ℕ, suc, ◌+◌, ◌<◌, ◌≤◌, Bool, false, List, [], ◌∷◌, length, Option, Some, None, Ok, Err, refl, sym, ap, ◌∙◌, subst, arith, if◌then◌else◌}
+use Rattle.std.proofs.Common.{◌≡◌, ℕ, suc, ◌+◌, ◌<◌, ◌≤◌, Bool, false, List, [], ◌∷◌, length, Option, Some, None, Ok, Err, refl, sym, ap, ◌∙◌, subst, arith, if◌then◌else◌}
 use Rattle.ss_machine_notices.proofs.Common.{act, Address, as_value, calm, Compiled, deep_at, deep_here, eq-eqb, Failure, Fault, field_mode, Fine, HasGivenValues, HasNoTick, HasPerformed, Here, Integer, is_due, IsDelivering, IsNoticeMade, IsReadyFor, IsSettledWithMemory, IsSettling, located, Memory, Mode, mode_of, OfAttribute, Program, Refused, refused_where, Seen, site, slice_get_within, small, State, Store, suits_as, unless_refused, Value, watch, Whole, with_seen}
 use Rattle.std.specs.Prelude.{ℤ, slice_get, Result as OkOr}
 use Rattle.std.specs.Option.{option_and_then}
 use Rattle.ss_code_instructions.specs.Shape.{HasOnTop, AreGivenModes}
 use Rattle.ss_code_instructions.specs.States.{at_height, Core, did, fit, Moved, Stuck, onward, TakenOff, take_off, with_top_number, with_block, with_operand_value, deliver_with}
-use Rattle.ss_machine_frames.proofs.Places.{agree_out, all_agree, elsewhere_value, Elsewhere, value_same, cells_agree, calls_agree}
-use Rattle.ss_machine_frames.proofs.Reading.{hold_length, own_is, above_constants, place_within, only_number, reads, read_within}
+use Rattle.ss_machine_frames.proofs.Places.{elsewhere_value, Elsewhere, value_same}
+use Rattle.ss_machine_frames.proofs.Reading.{hold_length, own_is, place_within, only_number, reads, read_within}
 use Rattle.ss_machine_frames.specs.Holding.{AreValuesAt, AreCellsAt}
 use Rattle.ss_machine_frames.specs.Rows.{TwoRows, with_number as with_number_at, place_at}
 use Rattle.ss_machine_instructions.proofs.Seeing.{seen_is, unmade}
@@ -22,6 +22,7 @@ use Rattle.ss_machine_frames.proofs.Entering.{cut}
 use Rattle.ss_machine_instructions.proofs.Calling.{blocked, cells_long}
 use Rattle.ss_machine_instructions.proofs.Looping.{topped}
 use Rattle.ss_machine_frames.proofs.Lists.{get_take}
+use Rattle.ss_machine_frames.proofs.Writing.{cell_held}
 use Rattle.ss_machine_notices.proofs.Times.{refuses}
 
 -- the first modes of a class are those of its first attributes
@@ -177,14 +178,9 @@ module _ (w : Compiled) (c : Core) (here : Here) (s : State) (run : Running) (r 
       let ew : Elsewhere s.rows rows i = elsewhere_value s.rows i (Whole t) in
       let room = v.room in
       let place = v.place in
-      let under = above_constants (site w c here s run r) (located w c here s run r) in
-      let k = length c.store.globals in
       let cells = Whole t ∷ v.taken.below in
       let gives : made_notice class v.taken.values t c.store ≡ Ok (Whole n, with_seen c.store e) = ap (made_notice class v.taken.values t) (seen_is w c here s run r) ∙ made in
-      let cells_here : AreCellsAt rows Low cells = (
-        subst (λ j. slice_get rows.numbers j ≡ Some t) place (value_same s.rows i (Whole t) r.holds.even (omega (arith, room))),
-        cells_agree s.rows rows Low v.taken.below (agree_out s.rows rows i Low (Low + length v.taken.below) ew (inr (omega (arith, place)))) v.under,
-      ) in
+      let h = cell_held (site w c here s run r) (located w c here s run r) (length v.taken.below) i (Whole t) rows c.place v.taken.below place refl ew (value_same s.rows i (Whole t) r.holds.even (omega (arith, room))) v.under in
       record {
         compiled = r.compiled;
         placed = r.placed;
@@ -201,19 +197,11 @@ module _ (w : Compiled) (c : Core) (here : Here) (s : State) (run : Running) (r 
         deep = deep_at w c here s run r (c.place + 1) r.placed.locals y.5.2.0 y.5.2.2;
         right = refl;
         hold = ap (λ ms. Integer ∷ ms) v.below;
-        at = cells_here;
+        at = h.cells;
         fits = (fine_is IsFitting (made_notice class v.taken.values t c.store) (Whole n, with_seen c.store e) (make_fine class cell given to z t) gives).1;
         holds = record {
           place = r.holds.place;
-          held = record {
-            globals = all_agree s.rows rows 0 c.store.globals (agree_out s.rows rows i 0 (0 + k) ew (inr (omega (arith, place, under)))) r.holds.held.globals;
-            fixed = all_agree s.rows rows k w.run.constants (agree_out s.rows rows i k (k + length w.run.constants) ew (inr (omega (arith, place, under)))) r.holds.held.fixed;
-            locals = all_agree s.rows rows here.frame c.store.locals (agree_out s.rows rows i here.frame Low ew (inr (omega (arith, place)))) r.holds.held.locals;
-            cells = cells_here;
-            open_calls = calls_agree s.rows rows (k + length w.run.constants) here.frame s.frames c.frames (agree_out s.rows rows i (k + length w.run.constants) here.frame ew (inr (omega (arith, place)))) r.holds.held.open_calls;
-            room = omega (arith, ew.long, r.holds.held.room);
-            small = omega (arith, ew.long, r.holds.held.small);
-          };
+          held = record { globals = h.globals; fixed = h.fixed; locals = h.locals; cells = h.cells; open_calls = h.open_calls; room = h.room; small = h.small };
           world = refl;
           even = r.holds.even ∙ sym ew.long;
           line = r.holds.line;
