@@ -1,10 +1,11 @@
 -- What the machine does as an event begins is what the definition does.
 use Rattle.std.proofs.Common.{◌≡◌, ℕ, ◌+◌, ◌<◌, ◌≤◌, ℤ, true, List, [], ◌∷◌, length, map, Option, Some, None, Ok, Err, refl, sym, ap, ◌∙◌, subst, arith, if◌then◌else◌}
-use Rattle.ss_machine_notices.proofs.Common.{act, AnEvent, at_height, attributes_given, Beginning, Breaks, Compiled, Core, did, enter, eq-eqb, faulted, FaultKind, fit, HasEntered, HasOneTick, Here, hold_length, IsEntry, IsOutOfMemory, IsSuited, modes_of, NoMemory, one, one_tick_at, Rest, SectionEntry, Seen, set_length, slice_get_within, State, Stuck, suits, TakeEvent, To, turned, TwoRows, Value, value_in, Whole, with_number, with_seen}
+use Rattle.ss_machine_notices.proofs.Common.{act, AnEvent, at_height, attributes_given, Beginning, Breaks, Compiled, Core, did, enter, eq-eqb, faulted, FaultKind, fit, HasEntered, HasOneTick, Here, hold_length, IsEntry, IsOutOfMemory, IsSuited, modes_of, NoMemory, one, one_tick_at, Rest, SectionEntry, Seen, set_length, slice_get_within, slice_set, State, Stuck, suits, TakeEvent, To, turned, TwoRows, Value, value_in, Whole, with_number, with_seen}
 use Rattle.std.specs.Prelude.{IfSome, is_some, slice_get, Result as OkOr}
 use Rattle.ss_base.specs.Layout.{mode_of}
 use Rattle.ss_machine_notices.specs.Beginning.{AreRead, AreReceived, HasLetGo, HasReceived, IsNextEvent, HasLetGoThen, AreReceivedIf, IsUnbegunAfter, IsUnbegun}
 use Rattle.ss_machine_frames.proofs.Entering.{opened_is}
+use Rattle.ss_machine_frames.specs.Holding.{IsCoreHeld}
 use Rattle.ss_machine_notices.proofs.Begun.{event, entry_point, code_entry, begun_entry, begun_modes, begun_kind, begun_saved, begun_saving}
 use Rattle.ss_machine_notices.proofs.Giving.{got_at}
 use Rattle.ss_machine_instructions.proofs.Calling.{cleared_even}
@@ -64,53 +65,18 @@ module _ (w : Compiled) (c : Core) (here : Here) (s : State) (cell : ℕ) (x : �
       hold_given : map mode_of h.values ≡ (entry_point w c here s cell x class n).given
       hold_given = h.hold ∙ entry_is.given
 
-      pub begins_gone : (seen : Seen) → n.coming.ranked.said.saved ≡ None → GoesAs w c here s cell x class n n.coming.ranked.said.saved seen (Ok tt) → HasOneTick s.ticks w n.ready.placed.line (act w.code n.ready.placed.line n.ready.placed.instruction c) n.before (record s1 { rows = rows; world = seen }) (Some (record { place = run.place; frame = frame }))
-      begins_gone seen none goes =
+      -- the variables are these, the saved one among them, and the rows are these
+      begins_held : (gs : List Value) (rows' : TwoRows) (seen : Seen) → left_store w c here s cell x class n n.coming.ranked.said.saved seen ≡ record (with_seen c.store seen) { globals = gs } → GoesAs w c here s cell x class n n.coming.ranked.said.saved seen (Ok tt) → IsCoreHeld w.run.constants w.run.depth frame rows' s1.frames (begun_core w c here s cell x class n (entry_point w c here s cell x class n) run entry_is s1 frame enters high n.coming.ranked.rank h.values (record (with_seen c.store seen) { globals = gs })) → length rows'.texts ≡ length rows'.numbers → HasOneTick s.ticks w n.ready.placed.line (act w.code n.ready.placed.line n.ready.placed.instruction c) n.before (record s1 { rows = rows'; world = seen }) (Some (record { place = run.place; frame = frame }))
+      begins_held gs rows' seen left goes held even =
           let e = entry_point w c here s cell x class n in
-          let c' = begun_core w c here s cell x class n e run entry_is s1 frame enters high n.coming.ranked.rank h.values (with_seen c.store seen) in
+          let c' = begun_core w c here s cell x class n e run entry_is s1 frame enters high n.coming.ranked.rank h.values (record (with_seen c.store seen) { globals = gs }) in
           record {
             leads = (
               c',
               acts seen goes
-                  ∙ ap (λ o. enter e (AnEvent n.coming.ranked.rank) h.values c.cells c (left_store w c here s cell x class n o seen)) none
-                  ∙ ap (λ o. fit o (λ vs. To (begun_from vs seen))) (opened_is e.given e.others h.values hold_given),
-              record {
-                place = entry_is.place;
-                held = held_gone w c here s cell x class n e run entry_is s1 frame enters high n.coming.ranked.rank rows h seen;
-                world = refl;
-                even = h.even ∙ even_then ∙ sym h.long;
-                line = fault_line_none;
-              },
-            );
-            ticks = ap (λ (t : State). t.ticks) enters.is;
-            steps = steps_same;
-          }
-        where
-          begun_from : List Value → Seen → Core
-          begun_from vs seen = record {
-            place = (entry_point w c here s cell x class n).place;
-            cells = [];
-            frames = record { back = c.place + 1; cells = c.cells; locals = c.store.locals; first = length (entry_point w c here s cell x class n).given; count = (entry_point w c here s cell x class n).yielding; called = AnEvent n.coming.ranked.rank } ∷ c.frames;
-            store = record (with_seen c.store seen) { locals = vs };
-          }
-
-      pub begins_saved : (k : ℕ) (seen : Seen) → n.coming.ranked.said.saved ≡ Some k → k < length c.store.globals → k < frame → GoesAs w c here s cell x class n n.coming.ranked.said.saved seen (Ok tt) → HasOneTick s.ticks w n.ready.placed.line (act w.code n.ready.placed.line n.ready.placed.instruction c) n.before (record s1 { rows = with_number rows k x; world = seen }) (Some (record { place = run.place; frame = frame }))
-      begins_saved k seen some lt low goes =
-          let e = entry_point w c here s cell x class n in
-          let c' = begun_core w c here s cell x class n e run entry_is s1 frame enters high n.coming.ranked.rank h.values (left_store w c here s cell x class n (Some k) seen) in
-          record {
-            leads = (
-              c',
-              acts seen goes
-                  ∙ ap (λ o. enter e (AnEvent n.coming.ranked.rank) h.values c.cells c (left_store w c here s cell x class n o seen)) some
+                  ∙ ap (λ t. enter e (AnEvent n.coming.ranked.rank) h.values c.cells c t) left
                   ∙ ap (λ o. fit o (λ vs. To (begun_from vs))) (opened_is e.given e.others h.values hold_given),
-              record {
-                place = entry_is.place;
-                held = held_saved w c here s cell x class n e run entry_is s1 frame enters high n.coming.ranked.rank rows h seen k lt low;
-                world = refl;
-                even = h.even ∙ even_then ∙ sym h.long ∙ sym (set_length rows.numbers k x);
-                line = fault_line_none;
-              },
+              record { place = entry_is.place; held = held; world = refl; even = even; line = fault_line_none },
             );
             ticks = ap (λ (t : State). t.ticks) enters.is;
             steps = steps_same;
@@ -121,8 +87,20 @@ module _ (w : Compiled) (c : Core) (here : Here) (s : State) (cell : ℕ) (x : �
             place = (entry_point w c here s cell x class n).place;
             cells = [];
             frames = record { back = c.place + 1; cells = c.cells; locals = c.store.locals; first = length (entry_point w c here s cell x class n).given; count = (entry_point w c here s cell x class n).yielding; called = AnEvent n.coming.ranked.rank } ∷ c.frames;
-            store = record (left_store w c here s cell x class n (Some k) seen) { locals = vs };
+            store = record (with_seen c.store seen) { globals = gs; locals = vs };
           }
+
+      pub begins_gone : (seen : Seen) → n.coming.ranked.said.saved ≡ None → GoesAs w c here s cell x class n n.coming.ranked.said.saved seen (Ok tt) → HasOneTick s.ticks w n.ready.placed.line (act w.code n.ready.placed.line n.ready.placed.instruction c) n.before (record s1 { rows = rows; world = seen }) (Some (record { place = run.place; frame = frame }))
+      begins_gone seen none goes =
+          begins_held c.store.globals rows seen (ap (λ o. left_store w c here s cell x class n o seen) none) goes
+          (held_gone w c here s cell x class n (entry_point w c here s cell x class n) run entry_is s1 frame enters high n.coming.ranked.rank rows h seen)
+          (h.even ∙ even_then ∙ sym h.long)
+
+      pub begins_saved : (k : ℕ) (seen : Seen) → n.coming.ranked.said.saved ≡ Some k → k < length c.store.globals → k < frame → GoesAs w c here s cell x class n n.coming.ranked.said.saved seen (Ok tt) → HasOneTick s.ticks w n.ready.placed.line (act w.code n.ready.placed.line n.ready.placed.instruction c) n.before (record s1 { rows = with_number rows k x; world = seen }) (Some (record { place = run.place; frame = frame }))
+      begins_saved k seen some lt low goes =
+          begins_held (slice_set c.store.globals k (Whole x)) (with_number rows k x) seen (ap (λ o. left_store w c here s cell x class n o seen) some) goes
+          (held_saved w c here s cell x class n (entry_point w c here s cell x class n) run entry_is s1 frame enters high n.coming.ranked.rank rows h seen k lt low)
+          (h.even ∙ even_then ∙ sym h.long ∙ sym (set_length rows.numbers k x))
 
   -- ## Where it does not begin
 
