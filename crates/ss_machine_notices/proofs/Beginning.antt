@@ -1,6 +1,6 @@
 -- An event begins: the notice that comes next is taken out, and let go.
 use Rattle.std.proofs.Common.{◌≡◌, ℕ, zero, suc, ◌+◌, ◌<◌, ◌≤◌, ◌^◌, ℤ, Bool, true, false, List, [], ◌∷◌, Option, Some, None, Ok, Err, refl, sym, ap, ◌∙◌, arith}
-use Rattle.ss_machine_notices.proofs.Common.{act, class_of_record, ComingAs, eqb-true, FaultKind, HasLetGo, HasLetGoThen, HasReceived, Here, IsNextEvent, IsNextNotice, least_event, living, Mode, next_event_there, notices_seen, one, one_tick_at, Seen, seen_is, State, take_next, TakeEvent, There, Whole, with_seen, WrongClass}
+use Rattle.ss_machine_notices.proofs.Common.{act, class_of_record, ComingAs, eqb-true, FaultKind, HasLetGo, HasLetGoThen, HasReceived, Here, IsNextEvent, IsNextNotice, least_event, living, Mode, next_event_there, none-some, notices_seen, one, one_tick_at, Seen, seen_is, State, take_next, TakeEvent, There, Whole, with_seen, WrongClass}
 use Rattle.std.specs.Prelude.{◌==◌, if◌then◌else◌, pos, negsuc, IfSome, is_some, slice_get, Result as OkOr}
 use Rattle.ss_code_instructions.specs.States.{Core, To, core_at}
 use Rattle.ss_machine_instructions.proofs.Placing.{located, site, goes_with}
@@ -14,13 +14,9 @@ use Rattle.ss_machine_instructions.specs.Ways.{at_place, on_at}
 -- ## Letting a notice go
 
 -- no tick is taken or given back
-pub lets_go_ticks : (saved : Option ℕ) (class : ℕ) (n : ℤ) (old new : State) (r : OkOr (Unit {0}) FaultKind) → HasLetGo saved class n old new r → new.ticks ≡ old.ticks
-lets_go_ticks (Some k) class n old new r d = ap (λ (s : State). s.ticks) d.1
-lets_go_ticks None class n old new r d = ap (λ (s : State). s.ticks) d.1
-
-pub lets_go_steps : (saved : Option ℕ) (class : ℕ) (n : ℤ) (old new : State) (r : OkOr (Unit {0}) FaultKind) → HasLetGo saved class n old new r → new.steps ≡ old.steps
-lets_go_steps (Some k) class n old new r d = ap (λ (s : State). s.steps) d.1
-lets_go_steps None class n old new r d = ap (λ (s : State). s.steps) d.1
+pub lets_go_keeps : (saved : Option ℕ) (class : ℕ) (n : ℤ) (old new : State) (r : OkOr (Unit {0}) FaultKind) → HasLetGo saved class n old new r → (new.ticks ≡ old.ticks) × (new.steps ≡ old.steps)
+lets_go_keeps (Some k) class n old new r d = (ap (λ (s : State). s.ticks) d.1, ap (λ (s : State). s.steps) d.1)
+lets_go_keeps None class n old new r d = (ap (λ (s : State). s.ticks) d.1, ap (λ (s : State). s.steps) d.1)
 
 -- after a fault the world is as it was
 pub lets_go_not : (saved : Option ℕ) (class : ℕ) (n : ℤ) (old new : State) (kind : FaultKind) → HasLetGo saved class n old new (Err kind) → new.world ≡ old.world
@@ -40,9 +36,6 @@ saved_within (Some k) from long le lt = omega (arith, le, lt)
 saved_within None from long le lt = lt
 
 -- ## The notice that comes next
-
-some_none : {A : Type 0} (x : A) → Some x ≡ None → ⊥
-some_none x e = cc
 
 -- what comes next in the definition
 pub record NextIs (s : Store) (coming : Coming) : Type 0 where
@@ -145,7 +138,7 @@ module _ (w : Compiled) (c : Core) (here : Here) (s : State) (cell : ℕ) (r : I
       let number : n.number ≡ x = ap (λ (p : ℤ × ℤ). p.1) (one first) in
       let there = record_living c.store.world.heap n.number n.entry n.there in
       let heap : c.store.world.heap ≡ e.heap = ap (λ (y : World). y.heap) r.holds.world ∙ sym (ap (λ (t : Seen). t.heap) d.1) in
-      some_none n.entry.class (sym there ∙ ap (λ h. living h n.number) heap ∙ ap (living e.heap) number ∙ none)
+      none-some n.entry.class (sym (sym there ∙ ap (λ h. living h n.number) heap ∙ ap (living e.heap) number ∙ none))
 
   -- the machine took it out
   abbrev pub next_taken : (t : ℕ) (e : Seen) (x : ℤ) (class : ℕ) → s.ticks ≡ suc t → s.ticks < 2 ^ 64 → IsNextNotice s.world e (Some x) → living e.heap x ≡ Some class → IsNextEvent w c here (record s { ticks = t; world = e }) cell x class

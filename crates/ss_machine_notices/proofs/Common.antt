@@ -59,5 +59,5 @@ pub use Rattle.ss_program.specs.declared.sections.Subject.TheVariants.{OfAttribu
 pub use Rattle.ss_world.specs.PendingList.{is_pending, least_event}
 pub use Rattle.ss_world.specs.State.{and_then, known_in, modes_of, timed, value_in}
 pub use Rattle.std.proofs.lemmas.Bool.{eq-eqb, eqb-true}
-pub use Rattle.std.proofs.lemmas.Option.{slice_get-map, slice_get_read, slice_get_within}
+pub use Rattle.std.proofs.lemmas.Option.{none-some, slice_get-map, slice_get_read, slice_get_within}
 pub use Rattle.std.specs.Prelude.{IfSome, MatchResult, is_some, pos, slice_get, slice_set}

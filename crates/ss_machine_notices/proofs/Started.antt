@@ -11,7 +11,7 @@ use Rattle.ss_machine_notices.proofs.Giving.{got_at}
 use Rattle.ss_machine_instructions.proofs.Calling.{cleared_even}
 use Rattle.ss_machine_notices.proofs.Opening.{value_lives, all_lives, begins_not, left_store, GoesAs, IsSaving, read_is, goes_as, goes_right, begun_then, take_is}
 use Rattle.ss_machine_notices.proofs.Framing.{begun_core, held_gone, held_saved}
-use Rattle.ss_machine_notices.proofs.Beginning.{lets_go_ticks, lets_go_steps}
+use Rattle.ss_machine_notices.proofs.Beginning.{lets_go_keeps}
 
 module _ (w : Compiled) (c : Core) (here : Here) (s : State) (cell : ℕ) (x : ℤ) (class : ℕ) (n : IsNextEvent w c here s cell x class) (run : SectionEntry) (at_run : slice_get w.run.events n.coming.ranked.rank ≡ Some run) where
   -- the entry that is run is that of the event
@@ -130,10 +130,10 @@ module _ (w : Compiled) (c : Core) (here : Here) (s : State) (cell : ℕ) (x : �
       steps_now = ap (λ (t : State). t.steps) n.is
 
       by : (q : OkOr (Unit {0}) FaultKind) → HasLetGo n.coming.ranked.said.saved class x s1 u.mid q → IsUnbegunAfter n.coming.ranked.said.line u.mid new q → HasOneTick s.ticks w n.ready.placed.line (act w.code n.ready.placed.line n.ready.placed.instruction c) n.before new result
-      by (Ok t) d is = refused_as u.mid new result (lets_go_ticks n.coming.ranked.said.saved class x s1 u.mid (Ok t) d ∙ refused.ticks) (lets_go_steps n.coming.ranked.said.saved class x s1 u.mid (Ok t) d ∙ refused.steps ∙ steps_now) is none
+      by (Ok t) d is = refused_as u.mid new result ((lets_go_keeps n.coming.ranked.said.saved class x s1 u.mid (Ok t) d).0 ∙ refused.ticks) ((lets_go_keeps n.coming.ranked.said.saved class x s1 u.mid (Ok t) d).1 ∙ refused.steps ∙ steps_now) is none
       by (Err kind) d is =
           let goes = goes_as w c here s cell x class n n.coming.ranked.said.saved s1 u.mid (Err kind) refused.world (begun_saving w c here s cell x class n) (goes_right w c here s cell x class n some_given.0 some_given.1) d in
-          fails_as kind u.mid new result (begins_not w c here s cell x class n some_given.0 some_given.1 u.mid.world kind goes) (lets_go_ticks n.coming.ranked.said.saved class x s1 u.mid (Err kind) d ∙ refused.ticks) (lets_go_steps n.coming.ranked.said.saved class x s1 u.mid (Err kind) d ∙ refused.steps ∙ steps_now) is none
+          fails_as kind u.mid new result (begins_not w c here s cell x class n some_given.0 some_given.1 u.mid.world kind goes) ((lets_go_keeps n.coming.ranked.said.saved class x s1 u.mid (Err kind) d).0 ∙ refused.ticks) ((lets_go_keeps n.coming.ranked.said.saved class x s1 u.mid (Err kind) d).1 ∙ refused.steps ∙ steps_now) is none
 
   -- ## Where the frame is there
 
@@ -184,7 +184,7 @@ module _ (w : Compiled) (c : Core) (here : Here) (s : State) (cell : ℕ) (x : �
         by : (q : OkOr (Unit {0}) FaultKind) → AreReceivedIf s1.world.heap class x run.given.items frame s1.rows v.rows q → HasLetGoThen n.coming.ranked.said class x (record s1 { rows = v.rows }) mid q (Err kind) → HasOneTick s.ticks w n.ready.placed.line (act w.code n.ready.placed.line n.ready.placed.instruction c) n.before new result
         by (Ok u) h d =
             let goes = goes_as w c here s cell x class n n.coming.ranked.said.saved (record s1 { rows = v.rows }) mid (Err kind) world_is (begun_saving w c here s cell x class n) (goes_right w c here s cell x class n some_given.0 some_given.1) d in
-            fails_as kind mid new result (begins_not w c here s cell x class n some_given.0 some_given.1 mid.world kind goes) (lets_go_ticks n.coming.ranked.said.saved class x (record s1 { rows = v.rows }) mid (Err kind) d ∙ ticks_then) (lets_go_steps n.coming.ranked.said.saved class x (record s1 { rows = v.rows }) mid (Err kind) d ∙ steps_then) same none
+            fails_as kind mid new result (begins_not w c here s cell x class n some_given.0 some_given.1 mid.world kind goes) ((lets_go_keeps n.coming.ranked.said.saved class x (record s1 { rows = v.rows }) mid (Err kind) d).0 ∙ ticks_then) ((lets_go_keeps n.coming.ranked.said.saved class x (record s1 { rows = v.rows }) mid (Err kind) d).1 ∙ steps_then) same none
         by (Err k) h d =
             let there = value_lives s.world.heap class h.0 x n.lives (begun_kind w c here s cell x class n) in
             let wrong : Ok there.0 ≡ Err k = sym there.1 ∙ ap (λ (e : Seen). value_in e.heap class h.0 x) (sym world_is) ∙ h.2 in

@@ -1,7 +1,7 @@
 use Rattle.std.proofs.Common.{rules, ◌≡◌, ◌<◌, ℤ, Ok, Err, length, ap, sym, ◌∙◌, subst, to_z, of_z, w64, arith}
 use Rattle.ss_machine_notices.proofs.Common.{HasLetGo, Seen, slice_get}
 use Rattle.ss_machine_notices.proofs.Giving.{got_at}
-use Rattle.ss_machine_notices.proofs.Beginning.{lets_go_ticks, lets_go_not}
+use Rattle.ss_machine_notices.proofs.Beginning.{lets_go_keeps, lets_go_not}
 use Rattle.ss_machine_notices.proofs.events.unbegun.Goals as goal
 
 pub let_go-requires : goal.let_go-requires
@@ -11,7 +11,7 @@ pub give_tick_back-requires : goal.give_tick_back-requires
 give_tick_back-requires c =
     let s = c.args.state.now in
     let said = got_at s.world.notices c.args.rank c.requires.goes.rank in
-    let same = lets_go_ticks said.0.saved c.args.class (to_z w64 (of_z w64 c.args.notice)) s c.let_go.new.state c.let_go.result (c.let_go.ensures said.0 said.1) in
+    let same = (lets_go_keeps said.0.saved c.args.class (to_z w64 (of_z w64 c.args.notice)) s c.let_go.new.state c.let_go.result (c.let_go.ensures said.0 said.1)).0 in
     omega (arith, same, c.requires.ticks)
 
 pub fault_of_event-requires : goal.fault_of_event-requires
