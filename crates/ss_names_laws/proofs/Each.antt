@@ -1,10 +1,10 @@
 -- Lists, item by item, and lists that come of items with their numbers.
 use Rattle.std.proofs.Common.{◌≡◌, ℕ, zero, suc, ◌+◌, Bool, true, false, cond, List, [], ◌∷◌, ◌++◌, map, Option, Some, None, inl, inr, refl, sym, subst, ◌∙◌, arith}
-use Rattle.ss_names_laws.proofs.Common.{entry_if, first_entries, flat_map_from, NameBytes, option_to_list, slice_get, value_in_firsts}
-use Rattle.std.specs.List.{AllByRecursion as Every, filter, flat_map}
+use Rattle.ss_names_laws.proofs.Common.{entry_if, first_entries, flat_map_from, NameBytes, option_to_list, slice_get, value_in_firsts, or_parts}
+use Rattle.std.specs.List.{AllByRecursion as Every, filter, flat_map, list_any}
 use Rattle.ss_names_laws.proofs.NameTable.{value_among, value_of_entry}
-use Rattle.ss_names_laws.proofs.Items.{Among, at_item, each_item}
-use Rattle.ss_names_laws.proofs.Kept.{both_empty}
+use Rattle.ss_names_laws.proofs.Items.{Among, at_item, each_item, both_empty}
+use Rattle.ss_names_laws.proofs.Steps.{none_listed}
 
 -- ---- each item
 
@@ -49,6 +49,13 @@ module _ {A : Type 0} (P : A → Type 0) where
 pub each_empty : {A B : Type 0} (f : A → List B) (xs : List A) → flat_map f xs ≡ [] → Every (λ x. f x ≡ []) xs
 each_empty f [] h = tt
 each_empty f (x ∷ xs) h = let parts = both_empty (f x) (flat_map f xs) h in (parts.0, each_empty f xs parts.1)
+
+pub each_none : {A B : Type 0} (f : A → Option B) (xs : List A) → flat_map (λ x. option_to_list (f x)) xs ≡ [] → Every (λ x. f x ≡ None) xs
+each_none f xs h = each_item (λ x. f x ≡ None) xs (λ x a. none_listed (f x) (at_item (λ y. option_to_list (f y) ≡ []) xs x (each_empty (λ y. option_to_list (f y)) xs h) a))
+
+pub none_of_any : {A : Type 0} (test : A → Bool) (xs : List A) → list_any test xs ≡ false → Every (λ x. test x ≡ false) xs
+none_of_any test [] h = tt
+none_of_any test (x ∷ xs) h = let parts = or_parts (test x) (list_any test xs) h in (parts.0, none_of_any test xs parts.1)
 
 -- ---- entries of names
 

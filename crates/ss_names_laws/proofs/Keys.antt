@@ -1,7 +1,7 @@
 -- The keys of ranked sets and of ties are attributes of their classes, so each set has a discipline and each class its keys.
-use Rattle.std.proofs.Common.{◌≡◌, ℕ, ◌==◌, nat_eq, Bool, true, false, List, [], ◌∷◌, Option, Some, None, refl, sym, ap, subst, ◌∙◌}
-use Rattle.ss_names_laws.proofs.Common.{Attribute, bytes_decides, Declaration, declarations, Declared, define_sets, DefinedOrder, Discipline, discipline, disciplines, entry_of_key, eqb-true, firsts_once, keys_of, Line, NameBytes, NamedKey, not-false, or_parts, ordered, OrderTree, place_from, place_in, PreambleTree, ProgramTree, rank_key, rank_keys, ranked, ranked_by, RankedBy, RankKey, refusal_of_declarations, ruled, same_name, same_Some, Set, SetRule, slice_get, Table, table, tie_keys, tied_by, TiedBy, value_for, where_holds}
-use Rattle.std.specs.List.{AllByRecursion as Every, filter, list_any}
+use Rattle.std.proofs.Common.{◌≡◌, ℕ, ◌==◌, nat_eq, Bool, true, false, List, [], Option, Some, None, refl, sym, ap, subst, ◌∙◌}
+use Rattle.ss_names_laws.proofs.Common.{Attribute, bytes_decides, Declaration, declarations, Declared, define_sets, DefinedOrder, Discipline, discipline, disciplines, entry_of_key, eqb-true, firsts_once, keys_of, Line, NameBytes, NamedKey, not-false, ordered, OrderTree, place_from, place_in, PreambleTree, ProgramTree, rank_key, rank_keys, ranked, ranked_by, RankedBy, RankKey, refusal_of_declarations, ruled, same_name, same_Some, Set, SetRule, slice_get, Table, table, tie_keys, tied_by, TiedBy, value_for, where_holds}
+use Rattle.std.specs.List.{AllByRecursion as Every, filter}
 use Rattle.ss_names.specs.Entries.{class_by, classes, given_by, set_names, set_of, order_by, rank_key_by, tie_key_by}
 use Rattle.ss_tables_rules.specs.Rules.{broken_in, is_attribute_of, is_class_of}
 use Rattle.ss_base.specs.declared.layout.Discipline.TheVariants as disciplines_of
@@ -9,7 +9,7 @@ use Rattle.ss_names_declarations.specs.declared.declaration.Declared.TheVariants
 use Rattle.ss_names_declarations.specs.declared.declaration.SetRule.TheVariants as rules
 use Rattle.ss_tables_rules.specs.declared.error.TableError.TheVariants as errors
 use Rattle.ss_tables_rules.specs.Keys.{class_of, is_foreign, is_foreign_to_any, member_named, member_of, misranked_in, misranked_key}
-use Rattle.ss_names_laws.proofs.Each.{at_place, each_empty, every_image, every_passed, every_piece}
+use Rattle.ss_names_laws.proofs.Each.{at_place, each_empty, every_image, every_passed, every_piece, none_of_any}
 use Rattle.ss_names_laws.proofs.NameTable.{value_among}
 use Rattle.ss_names_laws.proofs.Items.{Among, at_item}
 use Rattle.ss_names_laws.proofs.Kept.{none_misranked}
@@ -39,10 +39,6 @@ own_key (Some a) class h = (a, refl, not-false (nat_eq a.class class) h)
 tied_key : (o : Option Attribute) (class : ℕ) → is_class_of o (Some class) ≡ true → (a : Attribute) × (o ≡ Some a) × (nat_eq a.class class ≡ true)
 tied_key None class h = absurd cc
 tied_key (Some a) class h = (a, refl, h)
-
-none_of_any : {A : Type 0} (test : A → Bool) (xs : List A) → list_any test xs ≡ false → Every (λ x. test x ≡ false) xs
-none_of_any test [] h = tt
-none_of_any test (x ∷ xs) h = let parts = or_parts (test x) (list_any test xs) h in (parts.0, none_of_any test xs parts.1)
 
 -- ---- where orders and keys come from
 

@@ -4,8 +4,9 @@ use Rattle.ss_names_laws.proofs.Common.{ClassKind, count_name, Declaration, Decl
 use Rattle.ss_names.specs.Table.{declares, numbered, Table, attribute_meaning, class_meaning, class_entry, count_meaning, count_entry, fold_of, meanings, set_meanings, variable_meaning}
 use Rattle.ss_names_declarations.specs.declared.declaration.Declared.TheVariants as d
 use Rattle.ss_names.specs.declared.meaning.Meaning.TheVariants as m
-use Rattle.ss_names_laws.proofs.NameTable.{entry_from, mapped, place_below, value_declared}
+use Rattle.ss_names_laws.proofs.NameTable.{entry_from, place_below, value_declared}
 use Rattle.ss_names_laws.proofs.Items.{Among, at_item, in_one_of}
+use Rattle.ss_names_laws.proofs.Steps.{mapped}
 
 -- what a table has of a name that is declared as this
 abbrev pub IsKnown : Table → NameBytes → Meaning → Type 0

@@ -1,5 +1,5 @@
 -- Each set has an owner and a class of members, which are there.
-use Rattle.std.proofs.Common.{◌≡◌, ℕ, nat_lt, not, Bool, true, false, List, [], length, get_or, Option, Some, None, option_map, is_some, refl, sym, ap, subst, ◌∙◌}
+use Rattle.std.proofs.Common.{◌≡◌, ℕ, nat_lt, not, Bool, true, false, List, [], length, get_or, Option, Some, None, option_map, refl, sym, ap, subst, ◌∙◌}
 use Rattle.ss_names_laws.proofs.Common.{bytes_decides, ClassKind, Declaration, declarations, Declared, Line, NameBytes, Owner, owns_among, place_among, place_in, ProgramTree, refusal_of_declarations, same_name, Set, slice_get, slice_get-get_or, slice_get-map, Table, table, value_for}
 use Rattle.std.specs.List.{AllByRecursion as Every}
 use Rattle.std.proofs.lemmas.Bool.{both_ways, lt-ltb}
@@ -10,14 +10,11 @@ use Rattle.ss_base.specs.declared.layout.Owner.TheVariants as owners
 use Rattle.ss_names_declarations.specs.declared.declaration.Declared.TheVariants as d
 use Rattle.ss_tables_rules.specs.declared.error.TableError.TheVariants as errors
 use Rattle.ss_names_laws.proofs.Each.{every_if, every_piece}
-use Rattle.ss_names_laws.proofs.NameTable.{mapped, place_in_below, value_among}
+use Rattle.ss_names_laws.proofs.NameTable.{place_in_below, value_among}
 use Rattle.ss_names_laws.proofs.Items.{at_item}
 use Rattle.ss_names_laws.proofs.Names.{every_once}
+use Rattle.ss_names_laws.proofs.Steps.{mapped, some_there}
 use Rattle.ss_names_laws.proofs.Unbroken.{every_given, two_fit}
-
-some_there : {A : Type 0} (o : Option A) → is_some o ≡ true → (x : A) × (o ≡ Some x)
-some_there None h = absurd cc
-some_there (Some x) h = (x, refl)
 
 -- ---- owners and members are classes of the table
 

@@ -5,7 +5,7 @@ use Rattle.ss_names_meaning.specs.Answers.{upto, ◌>>=◌, each}
 use Rattle.ss_base.specs.Layout.{is_layout, layout_of}
 use Rattle.ss_names_laws.proofs.Steps.{got, upto_length}
 
-each_length : {A B : Type 0} (step : A → Option B) (xs : List A) (ys : List B) → each step xs ≡ Some ys → length ys ≡ length xs
+pub each_length : {A B : Type 0} (step : A → Option B) (xs : List A) (ys : List B) → each step xs ≡ Some ys → length ys ≡ length xs
 unfolding each
 each_length step [] ys e = ap length (sym (same_Some [] ys e))
 each_length step (x ∷ xs) ys e =

@@ -1,6 +1,6 @@
 -- The subjects of TALLY and ACCUMULATE: each is there and a whole number, so each history has a statistic.
 use Rattle.std.proofs.Common.{◌≡◌, ℕ, not, Bool, true, false, [], ◌++◌, List, length, Option, Some, None, option_map, refl, ap, ◌∙◌}
-use Rattle.std.specs.Prelude.{option_to_list, if◌then◌else◌, slice_get}
+use Rattle.std.specs.Prelude.{if◌then◌else◌, slice_get}
 use Rattle.std.specs.List.{AllByRecursion as Every, flat_map}
 use Rattle.ss_names_laws.proofs.Common.{Declaration, declarations, Declared, Global, is_text, key_at, keys_of, Line, Local, Meaning, MemberCount, NameBytes, numbered, OfAttribute, OfCount, OfVariable, slice_get-map, Statistic, Subject, subject_of, Table, table, there, unless, upto, value_at, value_for, values_of}
 use Rattle.ss_names.specs.Entries.{given_by, history_by}
@@ -9,17 +9,17 @@ use Rattle.ss_tree.specs.Tree.{PreambleTree, ProgramTree, statistics}
 use Rattle.ss_base.specs.declared.words.Weighting.{Weighting}
 use Rattle.ss_names_declarations.specs.declared.declaration.Declared.TheVariants as d
 use Rattle.ss_names.specs.declared.meaning.Meaning.TheVariants as m
-use Rattle.ss_check_rules.specs.declared.error.CheckError.{CheckError}
 use Rattle.ss_check_rules.specs.declared.error.CheckError.TheVariants as errors
 use Rattle.ss_check_rules.specs.Kinds.{may_be_watched}
 use Rattle.ss_check_rules.specs.Order.{check_error_order}
 use Rattle.ss_check_rules.specs.Refusal.{breaches, in_preamble, in_program, breaches_in_section, refusal_of_uses, subject_breaks}
 use Rattle.ss_names_laws.proofs.Each.{at_place, each_empty, every_first, every_piece}
-use Rattle.ss_names_laws.proofs.Items.{at_item}
-use Rattle.ss_names_laws.proofs.Kept.{both_empty, nothing_found}
+use Rattle.ss_names_laws.proofs.Items.{at_item, both_empty}
+use Rattle.ss_names_laws.proofs.Kept.{nothing_found}
 use Rattle.ss_names_laws.proofs.Known.{IsKnown, name_known}
 use Rattle.ss_names_laws.proofs.Results.{each_made, upto_every}
 use Rattle.ss_names_laws.proofs.Sources.{IsMade, Made, all_made}
+use Rattle.ss_names_laws.proofs.Steps.{none_listed}
 
 -- a meaning that may have a history, and is a whole number
 abbrev pub IsWhole : Option Meaning → Type 0
@@ -36,10 +36,6 @@ whole_so line (Some meaning) h = by (may_be_watched meaning) refl h
     by : (b : Bool) → may_be_watched meaning ≡ b → (if b then unless (not (is_text (Some meaning))) (errors.Mode line) else Some (errors.Unknown line)) ≡ None → IsWhole (Some meaning)
     by true is g = (meaning, refl, is, no_text line (is_text (Some meaning)) g)
     by false is g = absurd cc
-
-none_listed : (o : Option CheckError) → option_to_list o ≡ [] → o ≡ None
-none_listed None h = refl
-none_listed (Some breach) h = absurd cc
 
 -- what may have a history is a subject
 subject_there : (t : Table) (name : NameBytes) (meaning : Meaning) → IsKnown t name meaning → may_be_watched meaning ≡ true → (subject : Subject) × (subject_of (Some meaning) ≡ Some subject)

@@ -1,13 +1,28 @@
 -- Steps for each item of a list and for each number below a bound.
-use Rattle.std.proofs.Common.{◌≡◌, ℕ, zero, suc, inl, inr, ◌<◌, List, [], ◌∷◌, ◌++◌, length, get_or, slice_get, Option, Some, None, refl, sym, ap, subst, ◌∙◌, arith}
+use Rattle.std.proofs.Common.{◌≡◌, ℕ, zero, suc, inl, inr, ◌<◌, List, [], ◌∷◌, ◌++◌, length, get_or, slice_get, Option, Some, None, refl, sym, ap, subst, ◌∙◌, arith, true, is_some, option_map}
 use Rattle.std.proofs.Math.Seq.{get_or-append_seam}
-use Rattle.ss_names_laws.proofs.Common.{cases_lt, slice_get-get_or}
+use Rattle.ss_names_laws.proofs.Common.{cases_lt, slice_get-get_or, option_to_list, same_Some}
 use Rattle.std.proofs.lemmas.List.{get_or_append_left, length-append}
 use Rattle.ss_names_meaning.specs.Answers.{◌>>=◌, each, upto}
 
 pub got : {A B : Type 0} (o : Option A) (f : A → Option B) (y : B) → (o >>= f) ≡ Some y → (x : A) × (o ≡ Some x) × (f x ≡ Some y)
 got None f y e = absurd cc
 got (Some x) f y e = (x, refl, e)
+
+-- ---- options
+
+-- what an option holds, by what holds its image
+pub mapped : {A B : Type 0} (f : A → B) (o : Option A) (y : B) → option_map f o ≡ Some y → (x : A) × (o ≡ Some x) × (f x ≡ y)
+mapped f None y h = absurd cc
+mapped f (Some x) y h = (x, refl, same_Some (f x) y h)
+
+pub some_there : {A : Type 0} (o : Option A) → is_some o ≡ true → (x : A) × (o ≡ Some x)
+some_there None h = absurd cc
+some_there (Some x) h = (x, refl)
+
+pub none_listed : {A : Type 0} (o : Option A) → option_to_list o ≡ [] → o ≡ None
+none_listed None h = refl
+none_listed (Some x) h = absurd cc
 
 -- ---- steps for each item
 

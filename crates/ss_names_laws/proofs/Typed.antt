@@ -12,7 +12,7 @@ use Rattle.ss_names.specs.declared.meaning.Meaning.TheVariants as m
 use Rattle.ss_names_laws.specs.Laws.{HasLayout, IsWellLaid, LayoutsAreWellTyped, TablesAreThere}
 use Rattle.ss_names_laws.proofs.Attributes.{attribute_there}
 use Rattle.ss_names_laws.proofs.Each.{at_place, every_piece}
-use Rattle.ss_names_laws.proofs.NameTable.{mapped, value_of_entry}
+use Rattle.ss_names_laws.proofs.NameTable.{value_of_entry}
 use Rattle.ss_names_laws.proofs.Items.{from_image}
 use Rattle.ss_names_laws.proofs.Keys.{disciplines_there, ties_there}
 use Rattle.ss_names_laws.proofs.Known.{name_known}
@@ -21,7 +21,7 @@ use Rattle.ss_names_laws.proofs.Meanings.{tables_are_valid}
 use Rattle.ss_names_laws.proofs.Parts.{class_parts, laid_of, parts_of, subject_kept}
 use Rattle.ss_names_laws.proofs.Results.{each_every, each_zip, held}
 use Rattle.ss_names_laws.proofs.Statistics.{IsWatched, all_watched, statistics_there}
-use Rattle.ss_names_laws.proofs.Steps.{each_at, got, numbers_at}
+use Rattle.ss_names_laws.proofs.Steps.{each_at, got, numbers_at, mapped}
 
 -- ---- it is there
 
