@@ -28,8 +28,8 @@ pub use Rattle.ss_names_declarations.specs.declared.declaration.Declaration.{Dec
 pub use Rattle.ss_names_declarations.specs.declared.declaration.Declared.{Declared}
 pub use Rattle.ss_names_laws.proofs.Each.{at_place, each_empty, every_first, every_piece, from_places, in_parts, joined}
 pub use Rattle.ss_names_laws.proofs.Items.{at_item, each_item}
-pub use Rattle.ss_names_laws.proofs.Parts.{numbers_length}
-pub use Rattle.ss_names_laws.proofs.Results.{each_made}
+pub use Rattle.ss_names_laws.proofs.Parts.{each_length, numbers_length}
+pub use Rattle.ss_names_laws.proofs.Results.{each_made, goes}
 pub use Rattle.ss_names_laws.proofs.Steps.{each_at, got, numbers_at}
 pub use Rattle.ss_names_meaning.specs.Answers.{of_one, where_holds}
 unfoldable pub use Rattle.ss_names_meaning.specs.Answers.{each}

@@ -1,7 +1,7 @@
 -- Conditions whose uses break no rule resolve, and are well typed.
 use Rattle.std.proofs.Common.{true, false, List, Some, refl, subst}
 use Rattle.std.specs.List.{AllByRecursion as Every, flat_map}
-use Rattle.ss_check_laws.proofs.Common.{AreValid, compare, ConditionTree, data_ended, empty, expression, IsLinked, Line, member, mode_of_use, Scope, set_named, TestTree}
+use Rattle.ss_check_laws.proofs.Common.{AreValid, compare, ConditionTree, data_ended, empty, expression, goes, IsLinked, Line, member, mode_of_use, Scope, set_named, TestTree}
 use Rattle.ss_names_uses.specs.Uses.{in_named, in_condition, in_expression, in_test, expression_tree_mode}
 use Rattle.ss_program.specs.WellTyped.{HasMode, TypedScope as Place, IsTypedTest}
 use Rattle.ss_program.specs.Program.{Test, Compare, DataEnded, Empty, Member}
@@ -9,7 +9,7 @@ use Rattle.ss_names_uses.specs.declared.used.Role.TheVariants as roles
 use Rattle.ss_check_rules.specs.declared.error.CheckError.TheVariants as errors
 use Rattle.ss_names_meaning.specs.Conditions.{conjunction, one_test}
 use Rattle.ss_check_laws.specs.BodyLaws.{IsResolvedCondition, ConditionsResolve}
-use Rattle.ss_check_laws.proofs.Steps.{GoesWell, agree, each_resolves, goes, two_parts, two_steps}
+use Rattle.ss_check_laws.proofs.Steps.{GoesWell, agree, each_resolves, two_parts, two_steps}
 use Rattle.ss_check_laws.proofs.Expressions.{number_kept, resolves}
 use Rattle.ss_check_laws.proofs.Targets.{set_resolves}
 

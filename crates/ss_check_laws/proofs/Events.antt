@@ -21,16 +21,13 @@ use Rattle.ss_check_rules.specs.Counts.{suits_count}
 use Rattle.ss_check_rules.specs.declared.error.CheckError.TheVariants as errors
 use Rattle.ss_names_laws.specs.ValidTables.{IsNamedClass, parameters_of}
 use Rattle.ss_names_laws.proofs.Parts.{class_parts, numbers_length}
+use Rattle.ss_names_laws.proofs.Steps.{none_listed, some_there}
 use Rattle.ss_check_laws.proofs.Steps.{agree, holds_unless}
 use Rattle.ss_check_laws.proofs.Ranks.{IsNotice, notice_is_ranked, ranks_are_notices}
-use Rattle.ss_check_laws.proofs.Routines.{IsUnbroken, IsWhole, Keeps, body_good, laid_with, none_listed, preamble_kept, program_with, section, section_modes, section_valid, uses_kept}
+use Rattle.ss_check_laws.proofs.Routines.{IsUnbroken, IsWhole, Keeps, body_good, laid_with, preamble_kept, program_with, section, section_modes, section_valid, uses_kept}
 use Rattle.ss_check_laws.proofs.TableSections.{ClassesFit, classes_declared, events_quiet, every_declared, head_of}
 
 -- ---- steps
-
-some_there : {A : Type 0} (o : Option A) → is_some o ≡ true → (x : A) × (o ≡ Some x)
-some_there None e = absurd cc
-some_there (Some x) e = (x, refl)
 
 equal_takes : {A : Type 0} (n : ℕ) (xs ys : List A) → ((i : ℕ) → i < n → (z : A) × (slice_get xs i ≡ Some z) × (slice_get ys i ≡ Some z)) → take n xs ≡ take n ys
 equal_takes zero xs ys h = refl

@@ -2,7 +2,7 @@
 use Rattle.std.proofs.Common.{◌≡◌, true, false, List, ◌++◌, Option, Some, None, refl, subst}
 use Rattle.std.specs.Prelude.{is_some, IfSome}
 use Rattle.std.specs.List.{AllByRecursion as Every, flat_map}
-use Rattle.ss_check_laws.proofs.Common.{after_member, AreValid, class_named, condition, expression, ExpressionTree, for_head, from_end, from_member, guarded, GuardTree, HeadTree, Integer, is_variable, IsLinked, Line, LoopHeadTree, meaning_of_name, Name, NameBytes, no_expression, over_class, over_members, over_range, PhraseTree, Scope, set_named, StartTree, Variable, variable_named, variable_of}
+use Rattle.ss_check_laws.proofs.Common.{after_member, AreValid, class_named, condition, expression, ExpressionTree, for_head, from_end, from_member, goes, guarded, GuardTree, HeadTree, Integer, is_variable, IsLinked, Line, LoopHeadTree, meaning_of_name, Name, NameBytes, no_expression, over_class, over_members, over_range, PhraseTree, Scope, set_named, StartTree, Variable, variable_named, variable_of}
 use Rattle.ss_check_laws.specs.BodyLaws.{IsResolvedForHead, IsResolvedHead, HeadsResolve}
 use Rattle.ss_names_meaning.specs.Answers.{each, ◌>>=◌, if_there}
 use Rattle.ss_names_meaning.specs.Heads.{resolved_phrase, called_variable, guard, head, resolved_start}
@@ -11,7 +11,7 @@ use Rattle.ss_program.specs.Program.{ToVariable, AtEnd, From, After, Head, Numbe
 use Rattle.ss_program.specs.WellTyped.{CanTakeMode, HasMode, kind_of_class, TypedScope as Place, IsTypedCondition, IsTypedPhrase, IsTypedStart}
 use Rattle.ss_names_uses.specs.declared.used.ClassNeed.TheVariants as needs
 use Rattle.ss_names_uses.specs.declared.used.Role.TheVariants as roles
-use Rattle.ss_check_laws.proofs.Steps.{GoesWell, each_resolves, goes, three_parts, two_parts}
+use Rattle.ss_check_laws.proofs.Steps.{GoesWell, each_resolves, three_parts, two_parts}
 use Rattle.ss_check_laws.proofs.Linked.{variable_here}
 use Rattle.ss_check_laws.proofs.Places.{in_role, number_mode}
 use Rattle.ss_check_laws.proofs.Expressions.{number_kept}

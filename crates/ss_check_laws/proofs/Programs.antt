@@ -15,9 +15,10 @@ use Rattle.ss_check_rules.specs.Order.{check_error_order}
 use Rattle.ss_names_laws.specs.Laws.{LayoutsAreWellTyped, RoutinesAreThere, SectionsAreValid, TablesAreThere, TablesAreValid}
 use Rattle.ss_check_laws.specs.ProgramLaws.{ProgramsResolve}
 use Rattle.ss_names_laws.proofs.Kept.{nothing_found}
+use Rattle.ss_names_laws.proofs.Steps.{mapped}
 use Rattle.ss_check_laws.proofs.Steps.{first_holds}
 use Rattle.ss_check_laws.proofs.Events.{class_is_ranked, class_there, event_kept, event_there, events_there, laid_classes}
-use Rattle.ss_check_laws.proofs.Routines.{IsUnbroken, IsWhole, body_good, laid_with, main_kept, mapped_from, program_with, routines_there, section, section_modes}
+use Rattle.ss_check_laws.proofs.Routines.{IsUnbroken, IsWhole, body_good, laid_with, main_kept, program_with, routines_there, section, section_modes}
 
 -- ---- steps
 
@@ -91,7 +92,7 @@ module _ (p : tree.ProgramTree) (x : ResolvedLayout) (k : IsUnbroken p x) where
     served : (class : ℕ) → kind_of_class q class ≡ Some kinds.Notice → Contains (map (λ (e : Event). e.class) q.events) class
     served class h =
         let class_of = λ (e : Event). e.class in
-        let c = mapped_from (λ (z : PlainClass). z.kind) (slice_get q.layout.classes class) kinds.Notice h in
+        let c = mapped (λ (z : PlainClass). z.kind) (slice_get q.layout.classes class) kinds.Notice h in
         let laid : slice_get x.layout.classes class ≡ Some c.0 = ap (λ (l : PlainLayout). slice_get l.classes class) (sym b.layout.layout) ∙ c.1 in
         let any = Any-from_list_any (nat_eq class) t.ranks (class_is_ranked p x k class c.0 laid c.2) in
         let at : slice_get t.ranks any.0 ≡ Some class = slice_get-get_or t.ranks any.0 any.1 any.2 ∙ ap Some (any.3 ∙ sym (eqb-true class any.1 any.4)) in

@@ -1,8 +1,8 @@
 -- What the sections of a program that breaks no rule resolve to, and its routines.
 use Rattle.std.proofs.Common.{◌≡◌, ℕ, ◌+◌, ◌≤◌, Bool, false, List, [], ◌++◌, length, map, take, drop, slice_get, option_map, flat_map, Option, Some, None, refl, sym, ap, subst, subst₂, ◌∙◌, take-append-drop, arith}
 use Rattle.std.specs.List.{AllByRecursion as Every}
-use Rattle.ss_check_laws.proofs.Common.{AreValid, at_item, at_place, Block, BodiesResolve, declarations, Done, each_at, each_empty, each_item, each_made, Event, every_first, from_places, given_by, in_parts, is_main, IsLinked, local_mode, locals_of, Mode, Moded, NameBytes, none-some, numbers_length, option_to_list, Program, ResolvedLayout, Routine, routine_by, RoutineSection, same_Some, scope_of, slice_get-map, Table, table, Use, values_of}
-use Rattle.ss_check_rules.specs.Refusal.{use_breaks, breaches, breaks, in_preamble, in_program, breaches_in_section}
+use Rattle.ss_check_laws.proofs.Common.{AreValid, at_place, Block, BodiesResolve, declarations, Done, each_at, each_empty, each_made, Event, every_first, from_places, given_by, in_parts, is_main, IsLinked, local_mode, locals_of, Mode, Moded, NameBytes, numbers_length, Program, ResolvedLayout, Routine, routine_by, RoutineSection, same_Some, scope_of, slice_get-map, Table, table, Use, values_of}
+use Rattle.ss_check_rules.specs.Refusal.{use_breaks, breaches, in_preamble, in_program, breaches_in_section}
 use Rattle.ss_names_meaning.specs.Answers.{each, ◌>>=◌}
 use Rattle.ss_names_meaning.specs.Resolved.{local_modes, Parts, parts_with_locals, routine_from, resolved_body, routine_of}
 use Rattle.ss_program.specs.WellTyped.{IsTypedBlock, TypedScope as Place, IsTypedRoutine}
@@ -11,7 +11,9 @@ use Rattle.ss_names_declarations.proofs.Entries.{entry_of_value}
 use Rattle.ss_names_uses.specs.Uses as uses
 use Rattle.ss_names_laws.specs.Laws.{HasLayout, IsWellLaid}
 use Rattle.ss_names_laws.specs.ValidTables.{HasRoutines, IsValidSection, IsValidTable}
-use Rattle.ss_names_laws.proofs.Kept.{both_empty}
+use Rattle.ss_names_laws.proofs.Each.{each_none}
+use Rattle.ss_names_laws.proofs.Items.{both_empty}
+use Rattle.ss_names_laws.proofs.Steps.{mapped}
 use Rattle.ss_check_laws.proofs.TableSections.{every_declared, head_of, routines_quiet}
 
 -- what is known of a program that breaks no rule
@@ -24,14 +26,6 @@ pub record IsUnbroken (p : tree.ProgramTree) (x : ResolvedLayout) : Type 0 where
   pub bodies : BodiesResolve
 
 -- ---- steps
-
-pub none_listed : {A : Type 0} (o : Option A) → option_to_list o ≡ [] → o ≡ None
-none_listed None e = refl
-none_listed (Some x) e = absurd cc
-
-pub mapped_from : {A B : Type 0} (f : A → B) (o : Option A) (b : B) → option_map f o ≡ Some b → (a : A) × (o ≡ Some a) × (f a ≡ b)
-mapped_from f None b e = absurd (none-some b e)
-mapped_from f (Some a) b e = (a, refl, same_Some (f a) b e)
 
 resolved_part : (t : Table) (all : List Moded) (sections : List tree.SectionTree) (n : ℕ) (s : tree.SectionTree) (locals : Moded) (modes : List Mode) (body : Block) → slice_get sections n ≡ Some s → slice_get all n ≡ Some locals →
     local_modes locals ≡ Some modes → resolved_body t all locals s ≡ Some body → parts_with_locals t all sections n ≡ Some (record { line = s.line; modes = modes; body = body })
@@ -71,9 +65,7 @@ module _ (p : tree.ProgramTree) (x : ResolvedLayout) (k : IsUnbroken p x) where
   section_kept : (n : ℕ) (s : tree.SectionTree) → slice_get p.sections n ≡ Some s → Keeps s (uses.uses s)
   section_kept n s e =
       let here = at_place (λ z. breaches_in_section t p.sections z ≡ []) p.sections n s (each_empty (breaches_in_section t p.sections) p.sections in_sections.1) e in
-      let sc = scope_of t p.sections s in
-      each_item (λ u. use_breaks sc (is_main s.kind) u ≡ None) (uses.uses s)
-      (λ u a. none_listed (use_breaks sc (is_main s.kind) u) (at_item (λ v. breaks sc (is_main s.kind) v ≡ []) (uses.uses s) u (each_empty (breaks sc (is_main s.kind)) (uses.uses s) here) a))
+      each_none (use_breaks (scope_of t p.sections s) (is_main s.kind)) (uses.uses s) here
 
   -- the head of a section, and its statements
   pub uses_kept : (n : ℕ) (s : tree.SectionTree) → slice_get p.sections n ≡ Some s → Keeps s (uses.in_kind s.line s.kind) × Keeps s (uses.in_body s.body)
@@ -105,7 +97,7 @@ module _ (p : tree.ProgramTree) (x : ResolvedLayout) (k : IsUnbroken p x) where
   has_routine : (section : ℕ → Option Parts) → HasModes section → (i : ℕ) (known : RoutineSection) → slice_get (values_of t.routines) i ≡ Some known → HasRoutine section known
   has_routine section m i known e =
       let r = k.routines i known e in
-      let s = mapped_from (locals_of t) (slice_get p.sections known.section) r.0 (sym (slice_get-map (locals_of t) p.sections known.section) ∙ r.1) in
+      let s = mapped (locals_of t) (slice_get p.sections known.section) r.0 (sym (slice_get-map (locals_of t) p.sections known.section) ∙ r.1) in
       let parts = m known.section s.0 s.1 in
       let modes : local_modes r.0 ≡ Some parts.0.modes = subst (λ l. local_modes l ≡ Some parts.0.modes) s.2 parts.2 in
       let count = numbers_length (local_mode r.0) (length r.0) parts.0.modes modes in

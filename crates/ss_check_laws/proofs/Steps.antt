@@ -2,7 +2,7 @@
 use Rattle.std.proofs.Common.{◌≡◌, Bool, true, false, not, List, [], ◌∷◌, ◌++◌, Option, Some, None, refl, subst}
 use Rattle.std.specs.Prelude.{if◌then◌else◌}
 use Rattle.std.specs.List.{AllByRecursion as Every, flat_map}
-use Rattle.ss_check_laws.proofs.Common.{Alpha, AreValid, CheckError, if_means, Integer, Meaning, Mode, not-true, Scope, unless, Use}
+use Rattle.ss_check_laws.proofs.Common.{Alpha, AreValid, CheckError, if_means, in_parts, Integer, Meaning, Mode, not-true, Scope, unless, Use, use_breaks}
 use Rattle.ss_check_rules.specs.Modes.{differ}
 use Rattle.ss_names_meaning.specs.Answers.{◌>>=◌, each}
 
@@ -44,9 +44,6 @@ agree a b m n x h e f = alike a b m n (not-true (differ a b) (holds_unless (not 
 abbrev pub GoesWell : {B : Type 0} → (B → Type 0) → Option B → Type 0
 GoesWell {B = B} Q o = (b : B) × (o ≡ Some b) × Q b
 
-pub goes : {A B : Type 0} (o : Option A) (next : A → Option B) (a : A) (x : B) → o ≡ Some a → next a ≡ Some x → (o >>= next) ≡ Some x
-goes o next a x h e = rw h e
-
 pub two_steps : {A B C : Type 0} (o : Option A) (p : Option B) (next : A → B → Option C) (a : A) (b : B) (x : C) →
     o ≡ Some a → p ≡ Some b → next a b ≡ Some x → (o >>= λ u. p >>= λ v. next u v) ≡ Some x
 two_steps o p next a b x h e f = rw (h, e) f
@@ -55,10 +52,7 @@ two_steps o p next a b x h e f = rw (h, e) f
 
 module _ (s : Scope) (in_main : Bool) where
   pub two_parts : (xs ys : List Use) → AreValid s in_main (xs ++ ys) → AreValid s in_main xs × AreValid s in_main ys
-  two_parts [] ys h = (tt, h)
-  two_parts (x ∷ xs) ys h =
-      let r = two_parts xs ys h.1 in
-      ((h.0, r.0), r.1)
+  two_parts xs ys h = in_parts (λ u. use_breaks s in_main u ≡ None) xs ys h
 
   pub three_parts : (xs ys zs : List Use) → AreValid s in_main (xs ++ ys ++ zs) → AreValid s in_main xs × AreValid s in_main ys × AreValid s in_main zs
   three_parts xs ys zs h =

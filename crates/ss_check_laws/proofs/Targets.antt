@@ -1,6 +1,6 @@
 -- Targets, sets and subjects of a RESET whose uses break no rule resolve, and are well typed.
 use Rattle.std.proofs.Common.{◌≡◌, ℕ, Bool, true, false, Option, Some, None, refl, sym, ap, subst, ◌∙◌}
-use Rattle.ss_check_laws.proofs.Common.{AreValid, Designator, ExpressionRow, Global, in_named, Integer, is_some, IsLinked, Line, Meaning, meaning_mode, MemberCount, Mode, NamedTree, none-some, not-false, owner_of_subject, place_breaks, place_in, row_length, Subject, subject_of, value_for}
+use Rattle.ss_check_laws.proofs.Common.{AreValid, Designator, ExpressionRow, Global, goes, in_named, Integer, is_some, IsLinked, Line, Meaning, meaning_mode, MemberCount, Mode, NamedTree, none-some, not-false, owner_of_subject, place_breaks, place_in, row_length, Subject, subject_of, value_for}
 use Rattle.ss_check_rules.specs.Kinds.{has_value, is_set, takes_values}
 use Rattle.ss_names_meaning.specs.Expressions.{entity_of, place_named, set_owner, subscript, place_of, set_number, set_of_name}
 use Rattle.ss_names_scopes.specs.Scopes.{meaning_of_name, mode_of_meaning, Scope, history_of, unless_hidden}
@@ -12,7 +12,7 @@ use Rattle.ss_names.specs.declared.meaning.Meaning.TheVariants as meanings
 use Rattle.ss_check_rules.specs.declared.error.CheckError.TheVariants as errors
 use Rattle.ss_names_meaning.specs.Answers.{◌>>=◌}
 use Rattle.ss_check_laws.specs.BodyLaws.{IsResolvedRestart, RestartsResolve, IsResolvedSet, SetsResolve, IsResolvedTarget, TargetsResolve}
-use Rattle.ss_check_laws.proofs.Steps.{goes, meant, two_steps}
+use Rattle.ss_check_laws.proofs.Steps.{meant, two_steps}
 use Rattle.ss_check_laws.proofs.Linked.{IsHere, meant_here, named_here, seen, watched_here}
 use Rattle.ss_check_laws.proofs.Places.{EntityFits, Numbers, OwnerHas, in_place, in_role, number_mode, owner_fits, place_kept, placed, said_is, statistic_fits}
 use Rattle.ss_check_laws.proofs.Expressions.{numbers}

@@ -1,9 +1,9 @@
 -- Lists, item by item, and lists that come of items with their numbers.
 use Rattle.std.proofs.Common.{◌≡◌, ℕ, zero, suc, ◌+◌, Bool, true, false, cond, List, [], ◌∷◌, ◌++◌, map, Option, Some, None, inl, inr, refl, sym, subst, ◌∙◌, arith}
-use Rattle.ss_names_laws.proofs.Common.{entry_if, first_entries, flat_map_from, NameBytes, option_to_list, slice_get, value_in_firsts, or_parts}
+use Rattle.ss_names_laws.proofs.Common.{entry_if, first_entries, flat_map_from, NameBytes, option_to_list, or_parts, slice_get, value_in_firsts}
 use Rattle.std.specs.List.{AllByRecursion as Every, filter, flat_map, list_any}
 use Rattle.ss_names_laws.proofs.NameTable.{value_among, value_of_entry}
-use Rattle.ss_names_laws.proofs.Items.{Among, at_item, each_item, both_empty}
+use Rattle.ss_names_laws.proofs.Items.{Among, at_item, both_empty, each_item}
 use Rattle.ss_names_laws.proofs.Steps.{none_listed}
 
 -- ---- each item

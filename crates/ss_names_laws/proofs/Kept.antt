@@ -15,7 +15,7 @@ use Rattle.ss_tables_rules.specs.Once.{is_among, once_of, repeats, repeats_after
 use Rattle.ss_tables_rules.specs.Order.{table_error_order}
 use Rattle.ss_names_laws.proofs.NameTable.{has_value}
 use Rattle.ss_names_laws.proofs.Each.{each_none, in_parts, none_of_any}
-use Rattle.ss_names_laws.proofs.Items.{Among, in_image, in_pieces, in_right, both_empty}
+use Rattle.ss_names_laws.proofs.Items.{Among, both_empty, in_image, in_pieces, in_right}
 
 -- ---- nothing is found
 

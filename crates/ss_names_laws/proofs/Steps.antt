@@ -1,7 +1,7 @@
 -- Steps for each item of a list and for each number below a bound.
 use Rattle.std.proofs.Common.{◌≡◌, ℕ, zero, suc, inl, inr, ◌<◌, List, [], ◌∷◌, ◌++◌, length, get_or, slice_get, Option, Some, None, refl, sym, ap, subst, ◌∙◌, arith, true, is_some, option_map}
 use Rattle.std.proofs.Math.Seq.{get_or-append_seam}
-use Rattle.ss_names_laws.proofs.Common.{cases_lt, slice_get-get_or, option_to_list, same_Some}
+use Rattle.ss_names_laws.proofs.Common.{cases_lt, option_to_list, same_Some, slice_get-get_or}
 use Rattle.std.proofs.lemmas.List.{get_or_append_left, length-append}
 use Rattle.ss_names_meaning.specs.Answers.{◌>>=◌, each, upto}
 

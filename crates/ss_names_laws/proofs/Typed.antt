@@ -21,7 +21,7 @@ use Rattle.ss_names_laws.proofs.Meanings.{tables_are_valid}
 use Rattle.ss_names_laws.proofs.Parts.{class_parts, laid_of, parts_of, subject_kept}
 use Rattle.ss_names_laws.proofs.Results.{each_every, each_zip, held}
 use Rattle.ss_names_laws.proofs.Statistics.{IsWatched, all_watched, statistics_there}
-use Rattle.ss_names_laws.proofs.Steps.{each_at, got, numbers_at, mapped}
+use Rattle.ss_names_laws.proofs.Steps.{each_at, got, mapped, numbers_at}
 
 -- ---- it is there
 
