@@ -6,8 +6,7 @@ use Rattle.ss_program.specs.WellTyped.{IsTypedBlock, IsTypedStatement, TypedScop
 use Rattle.ss_tree.specs.declared.statement.FindOutcome.TheVariants as outcomes
 use Rattle.ss_names_uses.specs.Uses as uses
 use Rattle.ss_names_meaning.specs.Statements.{find_by, statement, statements}
-use Rattle.ss_check_laws.proofs.Steps.{GoesWell, two_parts, three_parts}
-use Rattle.ss_check_laws.proofs.Lists.{after, after_one, after_two}
+use Rattle.ss_check_laws.proofs.Steps.{GoesWell, two_parts, three_parts, after, after_one, after_two}
 use Rattle.ss_check_laws.proofs.Parts.{conditions_resolve, heads_resolve}
 use Rattle.ss_check_laws.proofs.Statements.{alone_resolves, over_head}
 

@@ -9,7 +9,7 @@ use Rattle.ss_names_uses.specs.Uses.{class_used}
 use Rattle.ss_names_uses.specs.declared.used.ClassNeed.TheVariants as needs
 use Rattle.ss_names.specs.declared.meaning.Meaning.TheVariants as meanings
 use Rattle.ss_check_rules.specs.declared.error.CheckError.TheVariants as errors
-use Rattle.ss_check_laws.proofs.Steps.{alike, first_holds, holds_unless, two_steps}
+use Rattle.ss_check_laws.proofs.Steps.{alike, first_holds, holds_unless}
 use Rattle.ss_check_laws.proofs.Linked.{IsVariable, class_variable, meant_here}
 
 pub permanent_kind : (kind : ClassKind) → is_kind needs.Permanent kind ≡ true → kind ≡ kinds.Permanent
@@ -38,8 +38,8 @@ module _ (s : Scope) (g : Place) (k : IsLinked s g) (line : Line) where
       let made : NamedClass = record { class = c.0; attributes = length (get_or s.table.fields c.0 []); variable = v.2.0 } in (
         made,
         c.1,
-        two_steps (class_number need global) (variable_named s name) (λ x y. Some (record { class = x; attributes = length (get_or s.table.fields x []); variable = y })) c.0 v.2.0 made
-            (ap (class_number need) c.3 ∙ ap (λ b. where_holds b c.0) c.4) (goes here variable_of v.0 v.2.0 v.1 v.2.2) refl,
+        goes (class_number need global) _ c.0 made (ap (class_number need) c.3 ∙ ap (λ b. where_holds b c.0) c.4)
+            (goes (variable_named s name) _ v.2.0 made (goes here variable_of v.0 v.2.0 v.1 v.2.2) refl),
         there.1,
         c.4,
         numeric is_called here v.0 v.2 kept.1 v.1,

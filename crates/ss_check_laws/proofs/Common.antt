@@ -34,8 +34,7 @@ pub use Rattle.ss_names_laws.proofs.Steps.{each_at, got, numbers_at}
 pub use Rattle.ss_names_meaning.specs.Answers.{of_one, where_holds}
 unfoldable pub use Rattle.ss_names_meaning.specs.Answers.{each}
 pub use Rattle.ss_names_meaning.specs.Classes.{class_named, class_number, counted, variable_named}
-pub use Rattle.ss_names_meaning.specs.Conditions.{condition}
-pub use Rattle.ss_names_meaning.specs.Expressions.{expression, item, place_named, resolved_item, set_named, target}
+pub use Rattle.ss_names_meaning.specs.Expressions.{expression, item, resolved_item, target}
 pub use Rattle.ss_names_meaning.specs.Heads.{phrases_of}
 pub use Rattle.ss_names_meaning.specs.Layouts.{ResolvedLayout, class_layout, disciplines, layout, resolved_layout, set_layout, statistics, tie_keys}
 pub use Rattle.ss_names_meaning.specs.Resolved.{local_modes}

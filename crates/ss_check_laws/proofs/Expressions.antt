@@ -3,12 +3,11 @@ use Rattle.std.proofs.Common.{◌≡◌, ℕ, Bool, true, false, List, Option, S
 use Rattle.std.specs.Prelude.{◌==◌}
 use Rattle.ss_check_laws.proofs.Common.{Alpha, AreValid, Designator, eqb-true, false≢true, Global, goes, has_value, Integer, is_mean, IsLinked, Line, Meaning, meaning_mode, Mode, mode_of_meaning, mode_of_use, Multiply, none-some, One, place_use, row_length, Scope, Two, use_breaks}
 use Rattle.ss_names_meaning.specs.Expressions.{meaning_with_entity, subscript, expression, factors, one, resolved_operator, resolved_value, terms, two}
-use Rattle.ss_program.specs.Program.{Expression, Fetch, Constant, Attribute, OfSystemSet, OfSet, OfMember, Clock, TimeOf, Figure, FigureOf, Signed, Unary, Calculate}
+use Rattle.ss_program.specs.Program.{Expression, Fetch, Constant, Attribute, OfSystemSet, OfSet, OfMember, Clock, TimeOf, Figure, FigureOf, Calculate}
 use Rattle.ss_program.specs.WellTyped.{HasMode, TypedScope as Place}
 use Rattle.ss_tree.specs.Tree.{and_expression, and_term, ExpressionRow, ExpressionTree, named, no_expression, no_term, parenthesised, TermRow, number, text, call, product, signed, sum}
 use Rattle.ss_base.specs.declared.value.Value.TheVariants.{Whole, Text}
 use Rattle.ss_tree.specs.declared.expression.Function.{Function}
-use Rattle.ss_base.specs.declared.words.Operator.{Operator}
 use Rattle.ss_names_uses.specs.Uses as uses
 use Rattle.ss_names_uses.specs.declared.used.Role.TheVariants as roles
 use Rattle.ss_names.specs.declared.meaning.Meaning.TheVariants as meanings
@@ -16,7 +15,7 @@ use Rattle.ss_check_rules.specs.Counts.{argument_count}
 use Rattle.ss_check_rules.specs.declared.error.CheckError.TheVariants as errors
 use Rattle.ss_names_meaning.specs.Answers.{◌>>=◌}
 use Rattle.ss_check_laws.specs.BodyLaws.{ExpressionsResolve, IsResolved}
-use Rattle.ss_check_laws.proofs.Steps.{holds_unless, two_parts, two_steps}
+use Rattle.ss_check_laws.proofs.Steps.{after, after_one, after_two, GoesWell, holds_unless, two_parts}
 use Rattle.ss_check_laws.proofs.Linked.{IsHere}
 use Rattle.ss_check_laws.proofs.Places.{EntityFits, Number, Numbers, NumberTerms, OwnerHas, in_role, named_statistic_fits, named_with, number_mode, owner_fits, said_is}
 
@@ -45,38 +44,33 @@ module _ (s : Scope) (g : Place) where
 
   -- ---- signs, products and sums
 
+  abbrev IsWhole : Expression → Type 0
+  IsWhole x = HasMode g x Integer
+
   abbrev IsNumber : Option Expression → Type 0
-  IsNumber o = (x : Expression) × (o ≡ Some x) × HasMode g x Integer
+  IsNumber o = GoesWell IsWhole o
 
   signed_number : (sign : _) (e : ExpressionTree) → Number s g e → Number s g (signed sign e)
   unfolding expression
-  signed_number sign e n = (Signed sign n.0, goes (expression s e) (λ x. Some (Signed sign x)) n.0 (Signed sign n.0) n.1 refl, (refl, n.2))
+  signed_number sign e n = after_one IsWhole _ _ n (λ x h. (refl, h))
 
   factors_number : (left : Expression) → HasMode g left Integer → (es : ExpressionRow) → Numbers s g es → IsNumber (factors s left es)
   unfolding factors
   factors_number left h no_expression n = (left, refl, h)
-  factors_number left h (and_expression e es) n =
-      let r : IsNumber (factors s (Calculate Multiply left n.0.0) es) = factors_number (Calculate Multiply left n.0.0) (refl, h, n.0.2) es n.1 in
-      (r.0, goes (expression s e) (λ x. factors s (Calculate Multiply left x) es) n.0.0 r.0 n.0.1 r.1, r.2)
+  factors_number left h (and_expression e es) n = after IsWhole _ _ n.0.0 n.0.1 (factors_number (Calculate Multiply left n.0.0) (refl, h, n.0.2) es n.1)
 
   terms_number : (left : Expression) → HasMode g left Integer → (es : TermRow) → NumberTerms s g es → IsNumber (terms s left es)
   unfolding terms
   terms_number left h no_term n = (left, refl, h)
-  terms_number left h (and_term sign e es) n =
-      let r : IsNumber (terms s (Calculate (resolved_operator sign) left n.0.0) es) = terms_number (Calculate (resolved_operator sign) left n.0.0) (refl, h, n.0.2) es n.1 in
-      (r.0, goes (expression s e) (λ x. terms s (Calculate (resolved_operator sign) left x) es) n.0.0 r.0 n.0.1 r.1, r.2)
+  terms_number left h (and_term sign e es) n = after IsWhole _ _ n.0.0 n.0.1 (terms_number (Calculate (resolved_operator sign) left n.0.0) (refl, h, n.0.2) es n.1)
 
   product_number : (e : ExpressionTree) (es : ExpressionRow) → Number s g e → Numbers s g es → Number s g (product e es)
   unfolding expression
-  product_number e es n ns =
-      let r : IsNumber (factors s n.0 es) = factors_number n.0 n.2 es ns in
-      (r.0, goes (expression s e) (λ left. factors s left es) n.0 r.0 n.1 r.1, r.2)
+  product_number e es n ns = after IsWhole _ _ n.0 n.1 (factors_number n.0 n.2 es ns)
 
   sum_number : (e : ExpressionTree) (es : TermRow) → Number s g e → NumberTerms s g es → Number s g (sum e es)
   unfolding expression
-  sum_number e es n ns =
-      let r : IsNumber (terms s n.0 es) = terms_number n.0 n.2 es ns in
-      (r.0, goes (expression s e) (λ left. terms s left es) n.0 r.0 n.1 r.1, r.2)
+  sum_number e es n ns = after IsWhole _ _ n.0 n.1 (terms_number n.0 n.2 es ns)
 
   -- ---- functions
 
@@ -86,29 +80,20 @@ module _ (s : Scope) (g : Place) where
   one_argument (and_expression e no_expression) h n = n.0
   one_argument (and_expression e (and_expression f es)) h n = absurd (omega (arith, h))
 
-  abbrev ArePair : Option (Expression × Expression) → Type 0
-  ArePair o = (p : Expression × Expression) × (o ≡ Some p) × HasMode g p.0 Integer × HasMode g p.1 Integer
+  abbrev ArePair : Expression × Expression → Type 0
+  ArePair p = HasMode g p.0 Integer × HasMode g p.1 Integer
 
-  two_arguments : (es : ExpressionRow) → row_length es ≡ 2 → Numbers s g es → ArePair (two s es)
+  two_arguments : (es : ExpressionRow) → row_length es ≡ 2 → Numbers s g es → GoesWell ArePair (two s es)
   unfolding two
   two_arguments no_expression h n = absurd (omega (arith, h))
   two_arguments (and_expression e no_expression) h n = absurd (omega (arith, h))
-  two_arguments (and_expression e (and_expression f no_expression)) h n =
-      let p : Expression × Expression = (n.0.0, n.1.0.0) in
-      (p, two_steps (expression s e) (expression s f) (λ x y. Some (x, y)) n.0.0 n.1.0.0 p n.0.1 n.1.0.1 refl, n.0.2, n.1.0.2)
+  two_arguments (and_expression e (and_expression f no_expression)) h n = after_two ArePair _ _ _ n.0 n.1.0 (λ x y i j. (i, j))
   two_arguments (and_expression e (and_expression f (and_expression d es))) h n = absurd (omega (arith, h))
-
-  calculated : (o : Operator) (es : ExpressionRow) → ArePair (two s es) → IsNumber (two s es >>= λ p. Some (Calculate o p.0 p.1))
-  calculated o es p =
-      let x : Expression = Calculate o p.0.0 p.0.1 in
-      (x, goes (two s es) (λ q. Some (Calculate o q.0 q.1)) p.0 x p.1 refl, (refl, p.2, p.3))
 
   call_number : (f : Function) (es : ExpressionRow) → row_length es ≡ argument_count f → Numbers s g es → Number s g (call f es)
   unfolding expression
-  call_number (One op) es h n =
-      let r : IsNumber (one s es) = one_argument es h n in
-      (Unary op r.0, goes (one s es) (λ x. Some (Unary op x)) r.0 (Unary op r.0) r.1 refl, (refl, r.2))
-  call_number (Two op) es h n = calculated op es (two_arguments es h n)
+  call_number (One op) es h n = after_one IsWhole _ _ (one_argument es h n) (λ x i. (refl, i))
+  call_number (Two op) es h n = after_one IsWhole _ _ (two_arguments es h n) (λ p i. (refl, i.0, i.1))
 
 module _ (s : Scope) (g : Place) (k : IsLinked s g) where
   -- ---- what is named

@@ -1,7 +1,7 @@
 -- Items of PRINT whose uses break no rule resolve, each to one that its field takes.
 use Rattle.std.proofs.Common.{◌≡◌, ◌⊎◌, inl, inr, ℕ, zero, suc, ◌≤◌, Bool, true, false, Option, Some, None, refl, sym, ap, subst, ◌∙◌, arith}
 use Rattle.std.specs.Prelude.{nat_le, option_map, if◌then◌else◌}
-use Rattle.ss_check_laws.proofs.Common.{AreValid, both_ways, Designator, expression, ExpressionRow, ExpressionTree, Field, goes, has_value, if_means, is_mean, IsLinked, item, leb-true, Line, Meaning, meaning_of, named, none-some, parenthesised, place_named, resolved_item, Scope}
+use Rattle.ss_check_laws.proofs.Common.{AreValid, both_ways, Designator, expression, ExpressionRow, ExpressionTree, Field, has_value, if_means, is_mean, IsLinked, item, leb-true, Line, Meaning, meaning_of, named, none-some, parenthesised, resolved_item, Scope}
 use Rattle.ss_check_rules.specs.Refusal.{use_breaks, used_breaks}
 use Rattle.ss_names_uses.specs.Uses.{row_length, as_mean, in_item, place_use, with_decimals}
 use Rattle.ss_program.specs.Program.{Expression, PrintItem, AValue, AMean, AMeanOf}
@@ -12,7 +12,7 @@ use Rattle.ss_names_uses.specs.declared.used.Used.TheVariants.{Mean, Unfit}
 use Rattle.ss_names.specs.declared.meaning.Meaning.TheVariants as meanings
 use Rattle.ss_check_rules.specs.declared.error.CheckError.TheVariants as errors
 use Rattle.ss_check_laws.specs.BodyLaws.{IsResolvedItem, ItemsResolve, IsResolved}
-use Rattle.ss_check_laws.proofs.Steps.{holds_unless}
+use Rattle.ss_check_laws.proofs.Steps.{after, holds_unless}
 use Rattle.ss_check_laws.proofs.Linked.{IsHere}
 use Rattle.ss_check_laws.proofs.Places.{EntityFits, Numbers, in_role, named_statistic_fits, placed}
 use Rattle.ss_check_laws.proofs.Expressions.{meant_value, numbers, resolves}
@@ -68,9 +68,8 @@ module _ (s : Scope) (g : Place) (k : IsLinked s g) (line : Line) (field : Field
   named_item : (d : Designator) (es : ExpressionRow) → FewDecimals field.decimals (IsMeanKept s g.is_main line (Mean d)) → use_breaks s g.is_main (place_use line roles.Item false d (row_length es)) ≡ None → Numbers s g es → IsResolvedItem s g field (named d es)
   named_item d es few h n =
       let p = in_role s g k line roles.Item has_value d es false refl refl h n in
-      let r = meant_item p.0 p.5.1 p.3 p.5.4 p.2 (decimals_meant s g.is_main line d p.0 field.decimals p.1 few) in
-      let q : Meaning × Option Expression = (p.0, p.5.1) in
-      (r.0, goes (place_named s d es) (λ x. resolved_item x.0 x.1) q r.0 (placed s g d es p.0 p.5 p.1) r.1, r.2)
+      after {A = Meaning × Option Expression} (CanTakeItem g field) _ _ (p.0, p.5.1) (placed s g d es p.0 p.5 p.1)
+      (meant_item p.0 p.5.1 p.3 p.5.4 p.2 (decimals_meant s g.is_main line d p.0 field.decimals p.1 few))
 
   -- what is no name alone has a value
   valued_item : (e : ExpressionTree) → item s e ≡ option_map AValue (expression s e) → (IsMeanKept s g.is_main line (as_mean e) → ⊥) → FewDecimals field.decimals (IsMeanKept s g.is_main line (as_mean e)) → IsResolved s g false e → IsResolvedItem s g field e

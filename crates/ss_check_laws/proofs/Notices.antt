@@ -12,9 +12,9 @@ use Rattle.ss_names_uses.specs.Uses as uses
 use Rattle.ss_names.specs.declared.meaning.Meaning.TheVariants as meanings
 use Rattle.ss_check_rules.specs.declared.error.CheckError.TheVariants as errors
 use Rattle.ss_names_meaning.specs.Statements.{restart, simple_statement, when}
-use Rattle.ss_check_laws.proofs.Steps.{GoesWell, each_resolves, holds_unless, three_parts}
+use Rattle.ss_check_laws.proofs.Steps.{GoesWell, each_resolves, holds_unless, three_parts, after, after_one}
 use Rattle.ss_check_laws.proofs.Expressions.{number_kept}
-use Rattle.ss_check_laws.proofs.Lists.{after, after_one, holds, in_order}
+use Rattle.ss_check_laws.proofs.Lists.{holds, in_order}
 use Rattle.ss_check_laws.proofs.Parts.{classes_resolve, restarts_resolve}
 use Rattle.ss_check_laws.proofs.Values.{value_resolves}
 use Rattle.ss_check_laws.proofs.Entities.{class_is, new_resolves, old_resolves}

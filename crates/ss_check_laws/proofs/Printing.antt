@@ -6,8 +6,8 @@ use Rattle.ss_program.specs.WellTyped.{IsTypedStatement, TypedScope as Place, Ca
 use Rattle.ss_names_uses.specs.Uses as uses
 use Rattle.ss_check_rules.specs.declared.error.CheckError.TheVariants as errors
 use Rattle.ss_names_meaning.specs.Statements.{simple_statement}
-use Rattle.ss_check_laws.proofs.Steps.{GoesWell, two_parts}
-use Rattle.ss_check_laws.proofs.Lists.{after_one, in_order}
+use Rattle.ss_check_laws.proofs.Steps.{after_one, GoesWell, two_parts}
+use Rattle.ss_check_laws.proofs.Lists.{in_order}
 use Rattle.ss_check_laws.proofs.Parts.{items_resolve}
 
 turned : {A B : Type 0} (Q : A → B → Type 0) (xs : List A) (ys : List B) → AllZip Q xs ys → AllZip (λ y x. Q x y) ys xs

@@ -44,9 +44,16 @@ agree a b m n x h e f = alike a b m n (not-true (differ a b) (holds_unless (not 
 abbrev pub GoesWell : {B : Type 0} → (B → Type 0) → Option B → Type 0
 GoesWell {B = B} Q o = (b : B) × (o ≡ Some b) × Q b
 
-pub two_steps : {A B C : Type 0} (o : Option A) (p : Option B) (next : A → B → Option C) (a : A) (b : B) (x : C) →
-    o ≡ Some a → p ≡ Some b → next a b ≡ Some x → (o >>= λ u. p >>= λ v. next u v) ≡ Some x
-two_steps o p next a b x h e f = rw (h, e) f
+-- one step after the other
+pub after : {A C : Type 0} (Q : C → Type 0) (o : Option A) (next : A → Option C) (a : A) → o ≡ Some a → GoesWell Q (next a) → GoesWell Q (o >>= next)
+after Q o next a e x = (x.0, rw e x.1, x.2)
+
+pub after_one : {A C : Type 0} {P : A → Type 0} (Q : C → Type 0) (o : Option A) (f : A → C) → GoesWell P o → ((a : A) → P a → Q (f a)) → GoesWell Q (o >>= λ a. Some (f a))
+after_one Q o f x good = after Q o (λ a. Some (f a)) x.0 x.1 (f x.0, refl, good x.0 x.2)
+
+pub after_two : {A B C : Type 0} {P : A → Type 0} {R : B → Type 0} (Q : C → Type 0) (o : Option A) (p : Option B) (f : A → B → C) → GoesWell P o → GoesWell R p →
+    ((a : A) (b : B) → P a → R b → Q (f a b)) → GoesWell Q (o >>= λ a. p >>= λ b. Some (f a b))
+after_two Q o p f x y good = after Q o (λ a. p >>= λ b. Some (f a b)) x.0 x.1 (after_one Q p (f x.0) y (λ b h. good x.0 b x.2 h))
 
 -- ---- lists of uses
 
@@ -67,6 +74,4 @@ module _ (s : Scope) (in_main : Bool) where
   each_resolves act uses Q good [] h = ([], refl, tt)
   each_resolves act uses Q good (a ∷ xs) h =
       let p = two_parts (uses a) (flat_map uses xs) h in
-      let first = good a p.0 in
-      let rest = each_resolves act uses Q good xs p.1 in
-      (first.0 ∷ rest.0, two_steps (act a) (each act xs) (λ y ys. Some (y ∷ ys)) first.0 rest.0 (first.0 ∷ rest.0) first.1 rest.1 refl, (first.2, rest.2))
+      after_two (Every Q) _ _ _ (good a p.0) (each_resolves act uses Q good xs p.1) (λ y ys k ks. (k, ks))
