@@ -2,11 +2,11 @@
 use Rattle.std.proofs.Common.{◌≡◌, true, false, List, ◌++◌, Option, Some, None, refl, subst}
 use Rattle.std.specs.Prelude.{is_some, IfSome}
 use Rattle.std.specs.List.{AllByRecursion as Every, flat_map}
-use Rattle.ss_check_laws.proofs.Common.{after_member, AreValid, ClassKind, expression, Expression, ExpressionTree, for_head, from_end, from_member, goes, guarded, GuardTree, HeadTree, Integer, is_variable, IsLinked, Line, LoopHeadTree, meaning_of_name, Name, NameBytes, no_expression, over_class, over_members, over_range, phrases_of, PhraseTree, Scope, StartTree, Variable, variable_named, variable_of}
-use Rattle.ss_check_laws.specs.BodyLaws.{IsResolvedForHead, IsResolvedHead, HeadsResolve}
+use Rattle.ss_check_laws.proofs.Common.{after_member, AreValid, ClassKind, expression, Expression, ExpressionTree, for_head, from_end, from_member, goes, guarded, GuardTree, HeadTree, Integer, is_variable, IsLinked, Line, meaning_of_name, Name, NameBytes, no_expression, over_class, over_members, over_range, phrases_of, PhraseTree, Scope, StartTree, Variable, variable_named, variable_of}
+use Rattle.ss_check_laws.specs.BodyLaws.{IsResolvedForHead, HeadsResolve}
 use Rattle.ss_names_meaning.specs.Answers.{each, if_there}
 use Rattle.ss_names_meaning.specs.Heads.{resolved_phrase, called_variable, guard, head, resolved_start}
-use Rattle.ss_names_uses.specs.Uses.{in_named, in_expression, in_guard, in_head, in_loop_head, in_option, in_phrase, in_start, loop_variable}
+use Rattle.ss_names_uses.specs.Uses.{in_named, in_expression, in_guard, in_head, in_option, in_phrase, in_start, loop_variable}
 use Rattle.ss_program.specs.Program.{ToVariable, AtEnd, Guard}
 use Rattle.ss_program.specs.WellTyped.{CanTakeMode, HasMode, kind_of_class, TypedScope as Place, IsTypedCondition, IsTypedPhrase, IsTypedStart, IsTypedHead}
 use Rattle.ss_names_uses.specs.declared.used.ClassNeed.TheVariants as needs
@@ -15,9 +15,9 @@ use Rattle.ss_check_laws.proofs.Steps.{GoesWell, each_resolves, three_parts, two
 use Rattle.ss_check_laws.proofs.Linked.{variable_here}
 use Rattle.ss_check_laws.proofs.Places.{in_role, number_mode}
 use Rattle.ss_check_laws.proofs.Expressions.{number_kept}
-use Rattle.ss_check_laws.proofs.Targets.{set_resolves}
-use Rattle.ss_check_laws.proofs.Conditions.{condition_resolves}
-use Rattle.ss_check_laws.proofs.Classes.{class_resolves, permanent_kind}
+use Rattle.ss_check_laws.proofs.Targets.{sets_resolve}
+use Rattle.ss_check_laws.proofs.Conditions.{conditions_resolve}
+use Rattle.ss_check_laws.proofs.Classes.{classes_resolve, permanent_kind}
 
 module _ (s : Scope) (g : Place) (k : IsLinked s g) (line : Line) where
   -- ---- variables of loops
@@ -39,13 +39,13 @@ module _ (s : Scope) (g : Place) (k : IsLinked s g) (line : Line) where
   -- ---- phrases and guards
 
   phrase_resolves : (p : PhraseTree) → AreValid s g.is_main (in_phrase line p) → GoesWell (IsTypedPhrase g) (resolved_phrase s p)
-  phrase_resolves p h = after_one (IsTypedPhrase g) _ _ (condition_resolves s g k line p.condition h) (λ x t. t)
+  phrase_resolves p h = after_one (IsTypedPhrase g) _ _ (conditions_resolve s g k line p.condition h) (λ x t. t)
 
   phrases_resolve : (ps : List PhraseTree) → AreValid s g.is_main (flat_map (in_phrase line) ps) → GoesWell (Every (IsTypedPhrase g)) (each (resolved_phrase s) ps)
   phrases_resolve ps h = each_resolves s g.is_main (resolved_phrase s) (in_phrase line) (IsTypedPhrase g) phrase_resolves ps h
 
   guard_resolves : (t : GuardTree) → AreValid s g.is_main (in_guard line t) → GoesWell (λ (x : Guard). IsTypedCondition g x.condition) (guard s t)
-  guard_resolves t h = after_one (λ (x : Guard). IsTypedCondition g x.condition) _ _ (condition_resolves s g k line t.condition h) (λ x r. r)
+  guard_resolves t h = after_one (λ (x : Guard). IsTypedCondition g x.condition) _ _ (conditions_resolve s g k line t.condition h) (λ x r. r)
 
   -- ---- parts of heads
 
@@ -80,17 +80,14 @@ module _ (s : Scope) (g : Place) (k : IsLinked s g) (line : Line) where
       let p = three_parts s g.is_main (in_named line roles.Set false set) (in_start line from) (flat_map (in_phrase line) phrases) h.1 in
       let v = loops variable (h.0, tt) in
       with_phrases (over_members variable set from reverse phrases)
-      (after (IsTypedHead g) _ _ v.0 v.1 (after_two (IsTypedHead g) _ _ _ (set_resolves s g k line set p.0) (start_resolves from p.1) (λ o x f i. (v.2, f, i)))) p.2
+      (after (IsTypedHead g) _ _ v.0 v.1 (after_two (IsTypedHead g) _ _ _ (sets_resolve s g k line set p.0) (start_resolves from p.1) (λ o x f i. (v.2, f, i)))) p.2
   for_resolves (over_class name called phrases) h =
       let p = two_parts s g.is_main (in_option (loop_variable line) called) (flat_map (in_phrase line) phrases) h.1 in
-      let c = class_resolves s g k line needs.Permanent name (is_some called) h.0 in
+      let c = classes_resolve s g k line needs.Permanent name (is_some called) (h.0, tt) in
       let permanent = subst (λ (kind : ClassKind). kind_of_class g.program c.0.class ≡ Some kind) (permanent_kind c.1 c.4) c.3 in
       with_phrases (over_class name called phrases)
       (after (IsTypedHead g) _ _ c.0 c.2 (after_one (IsTypedHead g) _ _ (called_loops c.0.variable called c.5 p.0) (λ v i. (i, permanent)))) p.1
 
-  head_resolves : (over : LoopHeadTree) → AreValid s g.is_main (in_loop_head line over) → IsResolvedHead s g over
-  head_resolves (for_head over) h = for_resolves over h
-  head_resolves (guarded guards) h = each_resolves s g.is_main (guard s) (in_guard line) (λ (x : Guard). IsTypedCondition g x.condition) guard_resolves guards h
-
 pub heads_resolve : HeadsResolve
-heads_resolve s g k line over h = head_resolves s g k line over h
+heads_resolve s g k line (for_head over) h = for_resolves s g k line over h
+heads_resolve s g k line (guarded guards) h = each_resolves s g.is_main (guard s) (in_guard line) (λ (x : Guard). IsTypedCondition g x.condition) (guard_resolves s g k line) guards h

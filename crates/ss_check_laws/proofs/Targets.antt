@@ -1,6 +1,6 @@
 -- Targets, sets and subjects of a RESET whose uses break no rule resolve, and are well typed.
-use Rattle.std.proofs.Common.{◌≡◌, ℕ, Bool, true, false, Option, Some, None, refl, sym, ap, subst, ◌∙◌}
-use Rattle.ss_check_laws.proofs.Common.{AreValid, Designator, ExpressionRow, Global, goes, in_named, Integer, is_some, IsLinked, Line, Meaning, meaning_mode, MemberCount, Mode, NamedTree, none-some, not-false, owner_of_subject, place_breaks, place_in, row_length, Subject, subject_of, value_for}
+use Rattle.std.proofs.Common.{◌≡◌, ℕ, true, false, Option, Some, None, refl, sym, ap, subst, ◌∙◌}
+use Rattle.ss_check_laws.proofs.Common.{Designator, ExpressionRow, Global, goes, Integer, is_some, IsLinked, Line, Meaning, meaning_mode, MemberCount, Mode, none-some, not-false, owner_of_subject, place_breaks, place_in, row_length, Subject, subject_of, value_for}
 use Rattle.ss_check_rules.specs.Kinds.{has_value, is_set, takes_values}
 use Rattle.ss_names_meaning.specs.Expressions.{place_named, set_owner, place_of, set_number}
 use Rattle.ss_names_scopes.specs.Scopes.{meaning_of_name, mode_of_meaning, Scope, unless_hidden}
@@ -11,7 +11,7 @@ use Rattle.ss_names_uses.specs.declared.used.Role.TheVariants as roles
 use Rattle.ss_names.specs.declared.meaning.Meaning.TheVariants as meanings
 use Rattle.ss_check_rules.specs.declared.error.CheckError.TheVariants as errors
 use Rattle.ss_names_meaning.specs.Answers.{◌>>=◌}
-use Rattle.ss_check_laws.specs.BodyLaws.{IsResolvedRestart, RestartsResolve, IsResolvedSet, SetsResolve, IsResolvedTarget, TargetsResolve}
+use Rattle.ss_check_laws.specs.BodyLaws.{IsResolvedRestart, RestartsResolve, IsResolvedSet, SetsResolve, TargetsResolve}
 use Rattle.ss_check_laws.proofs.Steps.{after, meant}
 use Rattle.ss_check_laws.proofs.Linked.{IsHere, meant_here, named_here, seen, watched_here}
 use Rattle.ss_check_laws.proofs.Places.{EntityFits, Numbers, OwnerHas, in_place, in_role, number_mode, owner_fits, place_kept, placed, said_is, statistic_fits}
@@ -49,25 +49,6 @@ module _ (s : Scope) (g : Place) (k : IsLinked s g) where
   meant_place (meanings.Attribute class field mode) (Some e) i f h = (ToAttribute class field e, mode, refl, refl, (i.0, f))
   meant_place _ of i f h = absurd cc
 
-  target_resolves : (line : Line) (b : Bool) (n : NamedTree) → AreValid s g.is_main (in_named line roles.Target b n) → IsResolvedTarget s g b n
-  target_resolves line b n h =
-      let d = n.designator in
-      let es = n.subscripts in
-      let p = in_role s g k line roles.Target has_value d es b refl refl h.0 (numbers s g k line es h.1) in
-      let v = meant_place p.0 p.5.1 p.3 p.5.4 (not-false (takes_values p.0) p.4.target) in
-      let q : Meaning × Option Expression = (p.0, p.5.1) in
-      let found : place_named s d es ≡ Some q = placed s g d es p.0 p.5 p.1 in
-      let read : ReadTarget = record { place = v.0; mode = v.1 } in (
-        v.0,
-        v.1,
-        goes (place_named s d es) (λ r. place_of r.0 r.1) q v.0 found v.2,
-        v.4,
-        said_is s d ∙ ap meaning_mode p.1 ∙ v.3,
-        number_mode b p.0 v.1 v.3 p.4.mode,
-        goes (place_named s d es) (λ r. place_of r.0 r.1 >>= λ x. mode_of_meaning r.0 >>= λ m. Some (record { place = x; mode = m })) q read found
-            (goes (place_of p.0 p.5.1) _ v.0 read v.2 (goes (mode_of_meaning p.0) _ v.1 read v.3 refl)),
-      )
-
   -- ---- sets
 
   set_by : (line : Line) (d : Designator) (es : ExpressionRow) → place_breaks s line roles.Set d (row_length es) false ≡ None → Numbers s g es → IsResolvedSet s g (record { designator = d; subscripts = es })
@@ -82,9 +63,6 @@ module _ (s : Scope) (g : Place) (k : IsLinked s g) where
       after Fits _ _ set.0 (ap set_number e) (after Fits _ _ p.0 p.2 (after Fits _ _ p.1 p.3 ((set.0, set_owner p.1), refl, owner_fits s g k set.0 here p.1 p.4)))
   set_by line TimeV es h n = absurd (none-some (errors.Unknown line) (sym h))
   set_by line TimeA es h n = absurd (none-some (errors.Unknown line) (sym h))
-
-  pub set_resolves : (line : Line) (n : NamedTree) → AreValid s g.is_main (in_named line roles.Set false n) → IsResolvedSet s g n
-  set_resolves line n h = set_by line n.designator n.subscripts h.0 (numbers s g k line n.subscripts h.1)
 
   -- ---- subjects
 
@@ -113,10 +91,26 @@ module _ (s : Scope) (g : Place) (k : IsLinked s g) where
   restart_by line TimeA es h n = absurd (none-some (errors.Unknown line) (sym h))
 
 pub targets_resolve : TargetsResolve
-targets_resolve s g k line b n h = target_resolves s g k line b n h
+targets_resolve s g k line b n h =
+    let d = n.designator in
+    let es = n.subscripts in
+    let p = in_role s g k line roles.Target has_value d es b refl refl h.0 (numbers s g k line es h.1) in
+    let v = meant_place s g k p.0 p.5.1 p.3 p.5.4 (not-false (takes_values p.0) p.4.target) in
+    let q : Meaning × Option Expression = (p.0, p.5.1) in
+    let found : place_named s d es ≡ Some q = placed s g d es p.0 p.5 p.1 in
+    let read : ReadTarget = record { place = v.0; mode = v.1 } in (
+      v.0,
+      v.1,
+      goes (place_named s d es) (λ r. place_of r.0 r.1) q v.0 found v.2,
+      v.4,
+      said_is s d ∙ ap meaning_mode p.1 ∙ v.3,
+      number_mode b p.0 v.1 v.3 p.4.mode,
+      goes (place_named s d es) (λ r. place_of r.0 r.1 >>= λ x. mode_of_meaning r.0 >>= λ m. Some (record { place = x; mode = m })) q read found
+          (goes (place_of p.0 p.5.1) _ v.0 read v.2 (goes (mode_of_meaning p.0) _ v.1 read v.3 refl)),
+    )
 
 pub sets_resolve : SetsResolve
-sets_resolve s g k line n h = set_resolves s g k line n h
+sets_resolve s g k line n h = set_by s g k line n.designator n.subscripts h.0 (numbers s g k line n.subscripts h.1)
 
 pub restarts_resolve : RestartsResolve
 restarts_resolve s g k line n h = restart_by s g k line n.designator n.subscripts h.0 (numbers s g k line n.subscripts h.1)
