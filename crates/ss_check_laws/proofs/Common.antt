@@ -41,7 +41,7 @@ pub use Rattle.ss_names_meaning.specs.Resolved.{local_modes}
 pub use Rattle.ss_names_meaning.specs.declared.classes.NamedClass.{NamedClass}
 pub use Rattle.ss_names_scopes.specs.Locals.{Moded, locals_of}
 pub use Rattle.ss_names_scopes.specs.Scopes.{Scope, hidden_by, history_of, is_kind, is_main, is_main_section, known_mode, local_mode, meaning_of, meaning_of_class, meaning_of_name, mode_of_meaning, scope_of, variable_of}
-pub use Rattle.ss_names_uses.specs.Uses.{in_named, place_use, row_length}
+pub use Rattle.ss_names_uses.specs.Uses.{place_use, row_length}
 pub use Rattle.ss_names_uses.specs.declared.used.ClassNeed.{ClassNeed}
 pub use Rattle.ss_names_uses.specs.declared.used.Use.{Use}
 pub use Rattle.ss_picture.specs.declared.field.Field.{Field}

@@ -27,8 +27,7 @@ use Rattle.ss_check_laws.proofs.Values.{takes_number}
 -- a class whose entities come one by one
 single_kind : (kind : ClassKind) → is_kind needs.Single kind ≡ true → is_created_singly (Some kind) ≡ true
 single_kind kinds.Permanent h = h
-single_kind kinds.Temporary h = h
-single_kind kinds.Notice h = h
+single_kind _ h = h
 
 -- ---- names of classes
 

@@ -96,8 +96,7 @@ module _ (p : tree.ProgramTree) (x : ResolvedLayout) (k : IsUnbroken p x) where
 
   class_has_event : (line : Line) (kind : ClassKind) (name : NameBytes) → eventless_of t line kind name ≡ [] → HasEvent name kind
   class_has_event line kinds.Notice name e f = has_event line name e
-  class_has_event line kinds.Permanent name e f = absurd cc
-  class_has_event line kinds.Temporary name e f = absurd cc
+  class_has_event line _ name e f = absurd cc
 
   have_events : (s : tree.PreambleTree) → in_preamble t s ≡ [] → ClassesFit HasEvent s
   have_events (tree.event_notices line names) e =

@@ -140,9 +140,7 @@ module _ (s : Scope) (g : Place) (k : IsLinked s g) where
   IsHere (meanings.OfSet query set) = IsSetHere set
   IsHere (meanings.OfMember query set) = IsSetHere set
   IsHere (meanings.Statistic fold n) = IsStatisticHere n
-  IsHere (meanings.Routine n) = Unit {0}
-  IsHere meanings.Clock = Unit {0}
-  IsHere meanings.NoticeTime = Unit {0}
+  IsHere _ = Unit {0}
 
   plain_here : (n : ℕ) (mode : Mode) → IsPlainAt k.laid n mode → CanTakeMode g (ToVariable (Global n)) mode
   plain_here n mode i = (
@@ -168,9 +166,7 @@ module _ (s : Scope) (g : Place) (k : IsLinked s g) where
   meant_here (meanings.OfSet query set) i = set_here set i
   meant_here (meanings.OfMember query set) i = set_here set i
   meant_here (meanings.Statistic fold n) i = statistic_here n i
-  meant_here (meanings.Routine n) i = tt
-  meant_here meanings.Clock i = absurd i
-  meant_here meanings.NoticeTime i = absurd i
+  meant_here _ i = tt
 
   -- a local variable has its mode
   local_here : (name : NameBytes) (n : ℕ) → place_in s.locals name ≡ Some n → slice_get g.locals n ≡ Some (known_mode (lookup (same_name name) s.locals))

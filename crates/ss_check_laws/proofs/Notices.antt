@@ -21,8 +21,7 @@ use Rattle.ss_check_laws.proofs.Entities.{class_is, new_resolves, old_resolves}
 
 notice_kind : (kind : ClassKind) → is_kind needs.Notice kind ≡ true → kind ≡ kinds.Notice
 notice_kind kinds.Notice h = refl
-notice_kind kinds.Permanent h = absurd cc
-notice_kind kinds.Temporary h = absurd cc
+notice_kind _ h = absurd cc
 
 -- the mode of an attribute, by its place in its class
 field_there : (t : Table) (names : List NameBytes) (fields : List Mode) (i : ℕ) (m : Mode) → each (mode_of_attribute t) names ≡ Some fields → slice_get fields i ≡ Some m → option_and_then (mode_of_attribute t) (slice_get names i) ≡ Some m

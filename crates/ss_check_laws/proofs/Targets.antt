@@ -6,7 +6,7 @@ use Rattle.ss_names_meaning.specs.Expressions.{place_named, set_owner, place_of,
 use Rattle.ss_names_scopes.specs.Scopes.{meaning_of_name, mode_of_meaning, Scope, unless_hidden}
 use Rattle.ss_program.specs.Program.{Expression, ToVariable, Place as Target, ToAttribute, ToCount, InputTarget as ReadTarget, SetOwner, Restart}
 use Rattle.ss_program.specs.WellTyped.{CanTakeMode, IsTypedOwner, IsTypedRestart, TypedScope as Place}
-use Rattle.ss_tree.specs.declared.expression.Designator.TheVariants.{Name, TimeV, TimeA}
+use Rattle.ss_tree.specs.declared.expression.Designator.TheVariants.{Name}
 use Rattle.ss_names_uses.specs.declared.used.Role.TheVariants as roles
 use Rattle.ss_names.specs.declared.meaning.Meaning.TheVariants as meanings
 use Rattle.ss_check_rules.specs.declared.error.CheckError.TheVariants as errors
@@ -61,8 +61,7 @@ module _ (s : Scope) (g : Place) (k : IsLinked s g) where
       let p = (in_place s g k line roles.Set (Name name) es false (meanings.Set set.0) here e h n).1 in
       let Fits = λ (o : ℕ × SetOwner). IsTypedOwner g o.0 o.1 in
       after Fits _ _ set.0 (ap set_number e) (after Fits _ _ p.0 p.2 (after Fits _ _ p.1 p.3 ((set.0, set_owner p.1), refl, owner_fits s g k set.0 here p.1 p.4)))
-  set_by line TimeV es h n = absurd (none-some (errors.Unknown line) (sym h))
-  set_by line TimeA es h n = absurd (none-some (errors.Unknown line) (sym h))
+  set_by line _ es h n = absurd (none-some (errors.Unknown line) (sym h))
 
   -- ---- subjects
 
@@ -87,8 +86,7 @@ module _ (s : Scope) (g : Place) (k : IsLinked s g) where
       after Fits _ _ w.number (ap (λ o. unless_hidden o (place_in s.table.histories name)) alone ∙ w.there)
       (after {A = Meaning × Option Expression} Fits _ _ (m.0, p.1) (placed s g (Name name) es m.0 p means)
       (record { statistic = w.number; of = p.1 }, refl, statistic_fits s g k w.number w.statistic p.1 here.0 here.1 (subject_owned m.0 w.statistic.subject p.1 (ap subject_of (sym m.1) ∙ w.meant) p.4)))
-  restart_by line TimeV es h n = absurd (none-some (errors.Unknown line) (sym h))
-  restart_by line TimeA es h n = absurd (none-some (errors.Unknown line) (sym h))
+  restart_by line _ es h n = absurd (none-some (errors.Unknown line) (sym h))
 
 pub targets_resolve : TargetsResolve
 targets_resolve s g k line b n h =

@@ -4,7 +4,7 @@ use Rattle.std.specs.Prelude.{◌==◌, nat_le, slice_get, if◌then◌else◌}
 use Rattle.std.specs.List.{AllByRecursion as Every, flat_map}
 use Rattle.ss_names_laws.proofs.Common.{Line, NameBytes, Role, Use, Used}
 use Rattle.ss_names_uses.specs.Uses.{in_body, in_places, as_mean, fields_of_pictures, in_call, in_condition, in_expression, in_field, in_given, in_guard, in_head, in_inner, in_item, in_item_at, in_items, in_itself, in_loop_head, in_named, in_new, in_numbers, in_old, in_option, in_phrase, in_position, in_row, in_start, in_statement, in_target, in_terms, in_test, in_value, in_when, loop_variable, expression_tree_mode, of_fit, of_text, with_decimals}
-use Rattle.ss_tree.specs.Tree.{ExpressionTree, number, text, named, call, parenthesised, product, signed, sum, ExpressionRow, no_expression, and_expression, TermRow, no_term, and_term, NamedTree, TestTree, compare, empty, member, data_ended, ConditionTree, PhraseTree, GuardTree, StartTree, from_end, from_member, after_member, HeadTree, over_range, over_members, over_class, LoopHeadTree, for_head, guarded, PositionTree, by_discipline, at_first, at_last, before, after, WhenTree, at_time, in_units, now, StatementTree, let_statement, add_statement, subtract_statement, call_statement, return_statement, stop_statement, read_statement, start_simulation, if_statement, loop_statement, find_statement, find_if_statement, create_statement, create_every, destroy_statement, file_statement, remove_end, remove_statement, schedule_new, schedule_statement, cancel_statement, reset_statement, print_statement, skip_statement, StatementRow, no_statement, and_statement}
+use Rattle.ss_tree.specs.Tree.{ExpressionTree, number, text, named, call, parenthesised, product, signed, sum, ExpressionRow, no_expression, and_expression, TermRow, no_term, and_term, NamedTree, TestTree, compare, empty, member, data_ended, ConditionTree, PhraseTree, GuardTree, StartTree, from_end, from_member, after_member, HeadTree, over_range, over_members, over_class, LoopHeadTree, for_head, guarded, PositionTree, before, after, WhenTree, at_time, in_units, now, StatementTree, let_statement, add_statement, subtract_statement, call_statement, read_statement, start_simulation, if_statement, loop_statement, find_statement, find_if_statement, create_statement, create_every, destroy_statement, file_statement, remove_end, remove_statement, schedule_new, schedule_statement, cancel_statement, reset_statement, print_statement, skip_statement, StatementRow, no_statement, and_statement}
 use Rattle.ss_names_uses.specs.declared.used.ModeOf.{ModeOf}
 use Rattle.ss_names_uses.specs.declared.used.ModeOf.TheVariants as modes
 use Rattle.ss_names_uses.specs.declared.used.Role.TheVariants as roles
@@ -121,11 +121,9 @@ module _ (line : Line) where
   -- ---- parts of statements
 
   position : (p : PositionTree) → Silent (in_position line p)
-  position by_discipline = nothing
-  position at_first = nothing
-  position at_last = nothing
   position (before e) = expression true e
   position (after e) = expression true e
+  position _ = nothing
 
   when : (t : WhenTree) → Silent (in_when line t)
   when (at_time e) = expression true e
@@ -185,8 +183,6 @@ itself (let_statement line n e) = both (target line (expression_tree_mode e) n) 
 itself (add_statement line e n) = both (expression line true e) (place_named line roles.Target true n)
 itself (subtract_statement line e n) = both (expression line true e) (place_named line roles.Target true n)
 itself (call_statement line name given yielding) = called_with line name given yielding
-itself (return_statement line) = nothing
-itself (stop_statement line) = nothing
 itself (read_statement line targets) = pieces (in_named line roles.Target false) targets (place_named line roles.Target false)
 itself (start_simulation line) = record { each = (refl, tt) }
 itself (if_statement line c first second) = condition line c
@@ -205,6 +201,7 @@ itself (cancel_statement line class called) = old line Notice class called
 itself (reset_statement line targets) = pieces (in_named line roles.Reset false) targets (place_named line roles.Reset false)
 itself (print_statement line items pictures) = printed line items pictures
 itself (skip_statement line lines) = expression line true lines
+itself _ = nothing
 
 mutual
   inner : (s : StatementTree) → Silent (in_inner s)

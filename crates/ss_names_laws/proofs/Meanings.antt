@@ -1,6 +1,6 @@
 -- Each name of a program that breaks no rule on declarations means something that is there.
 use Rattle.std.proofs.Common.{◌≡◌, ℕ, ◌<◌, List, [], length, get_or, slice_get, Option, Some, None, option_map, inl, refl, sym, ap, subst, ◌∙◌}
-use Rattle.ss_names_laws.proofs.Common.{Attribute, class_layout, ClassKind, count_by, counts, declarations, Discipline, each, firsts_once, Global, Integer, key_at, keys_of, length-map, Local, Meaning, Mode, mode_of_attribute, mode_of_meaning, NameBytes, numbered, Permanent, place_from, place_in, PlainClass, ProgramTree, refusal_of_declarations, resolved_layout, resolved_statistic, ResolvedLayout, same_Some, set_layout, SetLayout, slice_get-map, slice_get_within, Statistic, statistics, Subject, subject_of, table, there, upto, value_at, value_by_place, value_for, value_from_place, values_of}
+use Rattle.ss_names_laws.proofs.Common.{Attribute, class_layout, ClassKind, count_by, counts, declarations, Discipline, each, firsts_once, Global, Integer, key_at, keys_of, length-map, Meaning, Mode, mode_of_attribute, mode_of_meaning, NameBytes, numbered, Permanent, place_from, place_in, PlainClass, ProgramTree, refusal_of_declarations, resolved_layout, resolved_statistic, ResolvedLayout, same_Some, set_layout, SetLayout, slice_get-map, slice_get_within, Statistic, statistics, Subject, subject_of, table, there, upto, value_at, value_by_place, value_for, value_from_place, values_of}
 use Rattle.ss_names.specs.Entries.{class_by, classes, given_by, global_variables, set_names, set_of, routines, sets}
 use Rattle.ss_names.specs.declared.meaning.Meaning.TheVariants as m
 use Rattle.ss_names_laws.specs.Laws.{TablesAreValid}
@@ -60,7 +60,6 @@ module _ (p : ProgramTree) (kept : refusal_of_declarations p ≡ None) (cs : Lis
 
   fits : (name : NameBytes) (meaning : Meaning) → value_for (table p).meanings name ≡ Some meaning → IsKnown (numbered (declarations p)) name meaning → IsMeant (table p) x meaning
   fits name (m.Variable (Global k) mode) h known = plain_at name (m.Variable (Global k) mode) k mode h known refl refl
-  fits name (m.Variable (Local k) mode) h known = known
   fits name (m.Class class kind variable) h known = (kind_at name class kind known.0 known.1, plain_at name (m.Class class kind variable) variable Integer h known.2 refl refl)
   fits name (m.Count count) h known =
       let ms = (table p).meanings in
@@ -71,10 +70,8 @@ module _ (p : ProgramTree) (kept : refusal_of_declarations p ≡ None) (cs : Lis
   fits name (m.Set set) h known = set_at set known
   fits name (m.OfSet query set) h known = set_at set known
   fits name (m.OfMember query set) h known = set_at set known
-  fits name (m.Statistic fold k) h known = known
   fits name (m.Routine k) h known = let r = value_by_place (routines (declarations p)) name k known in (r.0, value_at (routines (declarations p)) k name r.0 r.2)
-  fits name m.Clock h known = known
-  fits name m.NoticeTime h known = known
+  fits name _ h known = known
 
   known_class : (name : NameBytes) (class : ℕ) (kind : ClassKind) (variable : ℕ) → value_for (table p).meanings name ≡ Some (m.Class class kind variable) → IsKnown (numbered (declarations p)) name (m.Class class kind variable)
   known_class name class kind variable h = name_known (declarations p) name (m.Class class kind variable) h
