@@ -1,5 +1,4 @@
 -- The names of other crates, and of definitions here, that several proofs of this crate cite, passed on from one place. Declares nothing.
-pub use Rattle.ss_base.specs.Layout.{is_layout, is_sound}
 pub use Rattle.ss_base.specs.Plain.{PlainClass, PlainLayout}
 pub use Rattle.ss_base.specs.declared.layout.ClassKind.{ClassKind}
 pub use Rattle.ss_base.specs.declared.layout.ClassKind.TheVariants.{Notice}
@@ -36,7 +35,7 @@ unfoldable pub use Rattle.ss_names_meaning.specs.Answers.{each}
 pub use Rattle.ss_names_meaning.specs.Classes.{class_named, class_number, counted, variable_named}
 pub use Rattle.ss_names_meaning.specs.Expressions.{expression, item, resolved_item, target}
 pub use Rattle.ss_names_meaning.specs.Heads.{phrases_of}
-pub use Rattle.ss_names_meaning.specs.Layouts.{ResolvedLayout, class_layout, disciplines, layout, resolved_layout, set_layout, statistics, tie_keys}
+pub use Rattle.ss_names_meaning.specs.Layouts.{ResolvedLayout, class_layout, resolved_layout, tie_keys}
 pub use Rattle.ss_names_meaning.specs.Resolved.{local_modes}
 pub use Rattle.ss_names_meaning.specs.declared.classes.NamedClass.{NamedClass}
 pub use Rattle.ss_names_scopes.specs.Locals.{Moded, locals_of}
@@ -60,7 +59,7 @@ pub use Rattle.ss_tree.specs.declared.expression.Function.TheVariants.{One, Two}
 pub use Rattle.ss_tree.specs.declared.statement.FindOutcome.{FindOutcome}
 pub use Rattle.std.proofs.lemmas.Bool.{and_parts, both_ways, eqb-true, false≢true, leb-true, ltb-true, not-false, not-true}
 pub use Rattle.std.proofs.lemmas.List.Sums.{sum_by-cons}
-pub use Rattle.std.proofs.lemmas.Option.{cond_some, get_or_from_slice_get, none-some, same_Some, slice_get-get_or, slice_get-map, slice_get_within}
+pub use Rattle.std.proofs.lemmas.Option.{get_or_from_slice_get, none-some, same_Some, slice_get-get_or, slice_get-map, slice_get_within}
 pub use Rattle.std.specs.List.{AllZip}
 pub use Rattle.std.specs.Map.{keys_of, values_of}
 pub use Rattle.std.specs.Option.{option_map_or}

@@ -1,12 +1,12 @@
 -- The event routines of a program that breaks no rule.
 use Rattle.std.proofs.Common.{◌≡◌, ◌≢◌, ℕ, zero, suc, ◌+◌, ◌<◌, ◌≤◌, Bool, true, false, List, [], ◌∷◌, length, get_or, take, map, flat_map, slice_get, option_map, Option, Some, None, is_some, IfSome, refl, sym, ap, subst, subst₂, ◌∙◌, nat_eq, nat_le, add-zero, take-append-drop, length-take, get_or-take, arith}
-use Rattle.ss_check_laws.proofs.Common.{and_parts, at_item, at_place, attribute_mode, class_layout, ClassKind, cond_some, CountedClass, declarations, disciplines, Done, each_at, each_empty, each_made, Event, event_by, EventSection, every_first, from_places, get_or_from_slice_get, given_by, Global, got, hidden_by, in_parts, Integer, is_layout, is_main, is_sound, keys_of, known_mode, layout, leb-true, Line, local_mode, Meaning, meaning_mode, Mode, mode_of_attribute, mode_of_use, NameBytes, none-some, numbers_at, option_and_then, option_map_or, place_in, PlainClass, PlainLayout, Program, ResolvedLayout, same_Some, Scope, scope_of, set_layout, slice_get-get_or, slice_get_within, statistics, Table, table, tie_keys, Use, value_for}
+use Rattle.ss_check_laws.proofs.Common.{at_item, at_place, attribute_mode, class_layout, ClassKind, CountedClass, declarations, Done, each_at, each_empty, each_made, Event, event_by, EventSection, every_first, from_places, get_or_from_slice_get, given_by, Global, hidden_by, in_parts, Integer, is_main, keys_of, known_mode, leb-true, Line, local_mode, Meaning, meaning_mode, Mode, mode_of_attribute, mode_of_use, NameBytes, none-some, numbers_at, option_and_then, option_map_or, place_in, PlainClass, PlainLayout, Program, ResolvedLayout, same_Some, Scope, scope_of, slice_get-get_or, slice_get_within, Table, table, tie_keys, Use, value_for}
 use Rattle.std.specs.List.{AllByRecursion as Every, list_any}
 use Rattle.std.proofs.lemmas.List.{length-take-le}
 use Rattle.std.proofs.lemmas.Map.Entries.{length-keys_of}
 use Rattle.ss_check_rules.specs.Refusal.{use_breaks, eventless, eventless_of, in_preamble}
 use Rattle.ss_names_declarations.proofs.Entries.{firsts_once, place_from, there, entry_of_key, key_at, place_of_value, value_at, value_from_place}
-use Rattle.ss_names_meaning.specs.Answers.{each, upto, ◌>>=◌}
+use Rattle.ss_names_meaning.specs.Answers.{each, ◌>>=◌}
 use Rattle.ss_names_meaning.specs.Resolved.{event_from, local_modes, Parts, class_variable, event_of_class, saved}
 use Rattle.ss_names_scopes.specs.Locals.{locals_of, defined, local_used, moded_in}
 use Rattle.ss_program.specs.WellTyped.{IsTypedBlock, IsTypedEvent, AreTypedKeys, IsPlain}
@@ -20,7 +20,7 @@ use Rattle.ss_names.specs.declared.meaning.Meaning.TheVariants as m
 use Rattle.ss_check_rules.specs.Counts.{suits_count}
 use Rattle.ss_check_rules.specs.declared.error.CheckError.TheVariants as errors
 use Rattle.ss_names_laws.specs.ValidTables.{IsNamedClass, parameters_of}
-use Rattle.ss_names_laws.proofs.Parts.{class_parts, numbers_length}
+use Rattle.ss_names_laws.proofs.Parts.{class_parts, numbers_length, parts_of}
 use Rattle.ss_names_laws.proofs.Steps.{none_listed, some_there}
 use Rattle.ss_check_laws.proofs.Steps.{agree, holds_unless}
 use Rattle.ss_check_laws.proofs.Ranks.{IsNotice, notice_is_ranked, ranks_are_notices}
@@ -59,21 +59,9 @@ module _ (p : tree.ProgramTree) (x : ResolvedLayout) (k : IsUnbroken p x) where
 
   -- ---- classes
 
-  pub laid_classes : (each (class_layout t) (upto (length t.classes)) ≡ Some x.layout.classes) × (is_sound x.layout ≡ true)
-  laid_classes =
-      let l = got (layout t) _ x k.valid.laid in
-      let o = got (disciplines t) _ x l.2 in
-      let s = got (statistics t) _ x o.2 in
-      let cs = got (each (class_layout t) (upto (length t.classes))) _ l.0 l.1 in
-      let ss = got (each set_layout t.sets) _ l.0 cs.2 in
-      let plain : PlainLayout = record { classes = cs.0; sets = ss.0 } in
-      let made = cond_some (is_layout plain) plain l.0 ss.2 in
-      let same : plain ≡ x.layout = made.1 ∙ ap (λ (r : ResolvedLayout). r.layout) (same_Some _ x s.2) in
-      (cs.1 ∙ ap (λ (z : PlainLayout). Some z.classes) same, subst (λ z. is_sound z ≡ true) same (and_parts (is_sound plain) _ made.0).0)
-
   pub class_there : (class : ℕ) (name : NameBytes) (kind : ClassKind) → slice_get t.classes class ≡ Some (name, kind) → (c : PlainClass) × (slice_get x.layout.classes class ≡ Some c) × (c.kind ≡ kind)
   class_there class name kind e =
-      let at = numbers_at (class_layout t) (length t.classes) x.layout.classes class laid_classes.0 (slice_get_within t.classes class (name, kind) e) in
+      let at = numbers_at (class_layout t) (length t.classes) x.layout.classes class (parts_of t x k.valid.laid).are_classes (slice_get_within t.classes class (name, kind) e) in
       (at.0, at.1, same_Some at.0.kind kind (sym (class_parts t class at.0 at.2).0 ∙ value_at t.classes class name kind e))
 
   -- a class of notices is in the order of rank

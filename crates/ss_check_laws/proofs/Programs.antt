@@ -15,9 +15,10 @@ use Rattle.ss_check_rules.specs.Order.{check_error_order}
 use Rattle.ss_names_laws.specs.Laws.{LayoutsAreWellTyped, RoutinesAreThere, SectionsAreValid, TablesAreThere, TablesAreValid}
 use Rattle.ss_check_laws.specs.ProgramLaws.{ProgramsResolve}
 use Rattle.ss_names_laws.proofs.Kept.{nothing_found}
+use Rattle.ss_names_laws.proofs.Parts.{parts_of}
 use Rattle.ss_names_laws.proofs.Steps.{mapped}
 use Rattle.ss_check_laws.proofs.Steps.{first_holds}
-use Rattle.ss_check_laws.proofs.Events.{class_is_ranked, class_there, event_kept, event_there, events_there, laid_classes}
+use Rattle.ss_check_laws.proofs.Events.{class_is_ranked, class_there, event_kept, event_there, events_there}
 use Rattle.ss_check_laws.proofs.Routines.{IsUnbroken, IsWhole, body_good, laid_with, main_kept, program_with, routines_there, section, section_modes}
 
 -- ---- steps
@@ -119,7 +120,7 @@ module _ (p : tree.ProgramTree) (x : ResolvedLayout) (k : IsUnbroken p x) where
         q,
         assembled t (map (locals_of t) p.sections) p.sections x routines.0 events.0 main.0 parts.0 k.valid.laid all_known routines.1 events.1 main.3 parts.1,
         record {
-          sets = (laid_classes p x k).1;
+          sets = (parts_of t x k.valid.laid).sound;
           disciplines = laid.disciplines;
           counts = laid.counts;
           statistics = laid.statistics;
