@@ -1,6 +1,6 @@
 -- The event routines of a program that breaks no rule.
 use Rattle.std.proofs.Common.{◌≡◌, ◌≢◌, ℕ, zero, suc, ◌+◌, ◌<◌, ◌≤◌, Bool, true, false, List, [], ◌∷◌, length, get_or, take, map, flat_map, slice_get, option_map, Option, Some, None, is_some, IfSome, refl, sym, ap, subst, subst₂, ◌∙◌, nat_eq, nat_le, add-zero, take-append-drop, length-take, get_or-take, arith}
-use Rattle.ss_check_laws.proofs.Common.{at_item, at_place, attribute_mode, class_layout, ClassKind, CountedClass, declarations, Done, each_at, each_empty, each_made, Event, event_by, EventSection, every_first, from_places, get_or_from_slice_get, given_by, Global, hidden_by, in_parts, Integer, is_main, keys_of, known_mode, leb-true, Line, local_mode, Meaning, meaning_mode, Mode, mode_of_attribute, mode_of_use, NameBytes, none-some, numbers_at, option_and_then, option_map_or, place_in, PlainClass, PlainLayout, Program, ResolvedLayout, same_Some, Scope, scope_of, slice_get-get_or, slice_get_within, Table, table, tie_keys, Use, value_for}
+use Rattle.ss_check_laws.proofs.Common.{at_item, at_place, attribute_mode, class_by, class_layout, ClassKind, CountedClass, declarations, Declared, Done, each_at, each_empty, each_made, Event, event_by, EventSection, every_first, from_places, get_or_from_slice_get, given_by, Global, hidden_by, in_parts, Integer, is_main, keys_of, known_mode, leb-true, Line, local_mode, Meaning, meaning_mode, Mode, mode_of_attribute, mode_of_use, NameBytes, none-some, numbers_at, option_and_then, option_map_or, place_in, PlainClass, PlainLayout, Program, ResolvedLayout, same_Some, Scope, scope_of, slice_get-get_or, slice_get_within, Table, table, tie_keys, Use, value_for}
 use Rattle.std.specs.List.{AllByRecursion as Every, list_any}
 use Rattle.std.proofs.lemmas.List.{length-take-le}
 use Rattle.std.proofs.lemmas.Map.Entries.{length-keys_of}
@@ -13,6 +13,7 @@ use Rattle.ss_program.specs.WellTyped.{IsTypedBlock, IsTypedEvent, AreTypedKeys,
 use Rattle.ss_base.specs.declared.layout.ClassKind.TheVariants as kinds
 use Rattle.ss_base.specs.declared.layout.RankKey.{RankKey}
 use Rattle.ss_tree.specs.Tree as tree
+use Rattle.ss_names_declarations.specs.declared.declaration.Declared.TheVariants as d
 use Rattle.ss_names_uses.specs.Uses as uses
 use Rattle.ss_names_uses.specs.declared.used.CountNeed.TheVariants as counts
 use Rattle.ss_names_uses.specs.declared.used.ModeOf.TheVariants as modes
@@ -21,11 +22,11 @@ use Rattle.ss_check_rules.specs.Counts.{suits_count}
 use Rattle.ss_check_rules.specs.declared.error.CheckError.TheVariants as errors
 use Rattle.ss_names_laws.specs.ValidTables.{IsNamedClass, parameters_of}
 use Rattle.ss_names_laws.proofs.Parts.{class_parts, numbers_length, parts_of}
+use Rattle.ss_names_laws.proofs.Sources.{DeclaresClass, every_made, IsEventSection, IsMade}
 use Rattle.ss_names_laws.proofs.Steps.{none_listed, some_there}
 use Rattle.ss_check_laws.proofs.Steps.{agree, holds_unless}
 use Rattle.ss_check_laws.proofs.Ranks.{IsNotice, notice_is_ranked, ranks_are_notices}
 use Rattle.ss_check_laws.proofs.Routines.{IsUnbroken, IsWhole, Keeps, body_good, laid_with, preamble_kept, program_with, section, section_modes, section_valid, uses_kept}
-use Rattle.ss_check_laws.proofs.TableSections.{ClassesFit, classes_declared, events_quiet, every_declared, head_of}
 
 -- ---- steps
 
@@ -76,37 +77,33 @@ module _ (p : tree.ProgramTree) (x : ResolvedLayout) (k : IsUnbroken p x) where
   -- ---- EVENT sections
 
   -- a class of notices has one
-  abbrev HasEvent : NameBytes → ClassKind → Type 0
-  HasEvent name kind = kind ≡ kinds.Notice → is_some (value_for t.events name) ≡ true
+  abbrev HasEvent : NameBytes × ClassKind → Type 0
+  HasEvent e = e.1 ≡ kinds.Notice → is_some (value_for t.events e.0) ≡ true
 
   has_event : (line : Line) (name : NameBytes) → eventless t line name ≡ [] → is_some (value_for t.events name) ≡ true
   has_event line name e = holds_unless (is_some (value_for t.events name)) (errors.NoEventRoutine line) (none_listed _ e)
 
-  class_has_event : (line : Line) (kind : ClassKind) (name : NameBytes) → eventless_of t line kind name ≡ [] → HasEvent name kind
-  class_has_event line kinds.Notice name e f = has_event line name e
-  class_has_event line _ name e f = absurd cc
+  class_has_event : (name : NameBytes) (kind : ClassKind) (s : tree.PreambleTree) → in_preamble t s ≡ [] → DeclaresClass name kind s → HasEvent (name, kind)
+  class_has_event name kind (tree.event_notices line names) e a f =
+      has_event line name (at_item (λ z. eventless t line z ≡ []) names name (each_empty (eventless t line) names e) a)
+  class_has_event name kind (tree.every line own class clauses) e a f =
+      subst (λ n. is_some (value_for t.events n) ≡ true) a.0 (has_event line class (subst (λ z. eventless_of t line z class ≡ []) (a.1 ∙ f) e))
+  class_has_event name kind _ e a f = absurd a
 
-  have_events : (s : tree.PreambleTree) → in_preamble t s ≡ [] → ClassesFit HasEvent s
-  have_events (tree.event_notices line names) e =
-      λ name a f. has_event line name (at_item (λ z. eventless t line z ≡ []) names name (each_empty (eventless t line) names e) a)
-  have_events (tree.every line kind class clauses) e = class_has_event line kind class e
-  have_events _ e = tt
+  classes_have_events : (w : Declared) → IsMade p w → Every HasEvent (class_by w)
+  classes_have_events (d.Class name kind) h =
+      (class_has_event name kind h.1 (at_place (λ z. in_preamble t z ≡ []) p.preamble h.0 h.1 (preamble_kept p x k) h.2) h.3, tt)
+  classes_have_events _ h = tt
 
-  all_have_events : Every (λ (e : NameBytes × ClassKind). HasEvent e.0 e.1) t.classes
-  all_have_events = classes_declared HasEvent p (λ i s e. have_events s (at_place (λ z. in_preamble t z ≡ []) p.preamble i s (preamble_kept p x k) e))
+  all_have_events : Every HasEvent t.classes
+  all_have_events = every_first HasEvent (given_by class_by (declarations p)) (every_made p HasEvent class_by classes_have_events)
 
-  -- its class, what it is given, and whether it saves its notice
-  abbrev pub IsEventSection : NameBytes × EventSection → Type 0
-  IsEventSection e =
-      (s : tree.SectionTree) × (given : List NameBytes) × (slice_get p.sections e.1.section ≡ Some s) × (s.kind ≡ tree.event e.0 given e.1.saving) × (e.1.given ≡ length given)
+  of_event : (w : Declared) → IsMade p w → Every (IsEventSection p) (event_by w)
+  of_event (d.Event name section given saving) h = (h.1, tt)
+  of_event _ h = tt
 
-  event_head : (n : ℕ) (s : tree.SectionTree) (kind : tree.SectionKindTree) → slice_get p.sections n ≡ Some s → s.kind ≡ kind → Every IsEventSection (event_by (head_of n kind))
-  event_head n s tree.main e f = tt
-  event_head n s (tree.routine name given yielding) e f = tt
-  event_head n s (tree.event name given saving) e f = ((s, given, e, f, refl), tt)
-
-  of_events : Every IsEventSection t.events
-  of_events = every_first IsEventSection (given_by event_by (declarations p)) (every_declared IsEventSection event_by events_quiet p (λ n s e. event_head n s s.kind e refl))
+  of_events : Every (IsEventSection p) t.events
+  of_events = every_first (IsEventSection p) (given_by event_by (declarations p)) (every_made p (IsEventSection p) event_by of_event)
 
   -- a class of notices with its EVENT section
   pub record HasSection (class : ℕ) : Type 0 where
@@ -116,17 +113,17 @@ module _ (p : tree.ProgramTree) (x : ResolvedLayout) (k : IsUnbroken p x) where
     pub named : IsNamedClass t class laid
     pub known : EventSection
     pub event : value_for t.events named.name ≡ Some known
-    pub section : IsEventSection (named.name, known)
+    pub section : IsEventSection p (named.name, known)
 
   has_section : (class : ℕ) → IsNotice t.classes class → HasSection class
   has_section class h =
       let c = class_there class h.0 kinds.Notice h.1 in
       let n = k.valid.classes class c.0 c.1 in
       let same : h.0 ≡ n.name = same_Some h.0 n.name (sym (key_at t.classes class h.0 kinds.Notice h.1) ∙ n.there) in
-      let event = at_place (λ (e : NameBytes × ClassKind). HasEvent e.0 e.1) t.classes class (h.0, kinds.Notice) all_have_events h.1 refl in
+      let event = at_place HasEvent t.classes class (h.0, kinds.Notice) all_have_events h.1 refl in
       let known = some_there (value_for t.events n.name) (subst (λ name. is_some (value_for t.events name) ≡ true) same event) in
       let at = place_of_value t.events n.name known.0 known.1 in
-      record { laid = c.0; there = c.1; notice = c.2; named = n; known = known.0; event = known.1; section = at_place IsEventSection t.events at.0 (n.name, known.0) of_events at.1.1 }
+      record { laid = c.0; there = c.1; notice = c.2; named = n; known = known.0; event = known.1; section = at_place (IsEventSection p) t.events at.0 (n.name, known.0) of_events at.1.1 }
 
   pub event_kept : (n : ℕ) (s : tree.SectionTree) (name : NameBytes) (given : List NameBytes) (saving : Bool) → slice_get p.sections n ≡ Some s → s.kind ≡ tree.event name given saving → Keeps p x k s (uses.in_event s.line name given)
   event_kept n s name given saving e f = subst (λ kind. Keeps p x k s (uses.in_kind s.line kind)) f (uses_kept p x k n s e).0

@@ -1,20 +1,19 @@
 -- What the sections of a program that breaks no rule resolve to, and its routines.
-use Rattle.std.proofs.Common.{◌≡◌, ℕ, ◌+◌, ◌≤◌, Bool, false, List, [], ◌++◌, length, map, take, drop, slice_get, option_map, flat_map, Option, Some, None, refl, sym, ap, subst, subst₂, ◌∙◌, take-append-drop, arith}
+use Rattle.std.proofs.Common.{◌≡◌, ℕ, ◌+◌, ◌≤◌, Bool, List, [], ◌++◌, length, map, take, drop, slice_get, option_map, flat_map, Option, Some, None, refl, sym, ap, subst, subst₂, ◌∙◌, take-append-drop, arith}
 use Rattle.std.specs.List.{AllByRecursion as Every}
-use Rattle.ss_check_laws.proofs.Common.{AreValid, at_place, Block, BodiesResolve, declarations, Done, each_at, each_empty, each_made, Event, every_first, from_places, given_by, in_parts, is_main, IsLinked, local_mode, locals_of, Mode, Moded, NameBytes, numbers_length, Program, ResolvedLayout, Routine, routine_by, RoutineSection, same_Some, scope_of, slice_get-map, Table, table, Use, values_of}
+use Rattle.ss_check_laws.proofs.Common.{AreValid, at_place, Block, BodiesResolve, Done, each_at, each_empty, each_made, Event, from_places, in_parts, is_main, IsLinked, local_mode, locals_of, Mode, Moded, numbers_length, Program, ResolvedLayout, Routine, RoutineSection, same_Some, scope_of, slice_get-map, Table, table, Use, values_of}
 use Rattle.ss_check_rules.specs.Refusal.{use_breaks, breaches, in_preamble, in_program, breaches_in_section}
 use Rattle.ss_names_meaning.specs.Answers.{each, ◌>>=◌}
 use Rattle.ss_names_meaning.specs.Resolved.{local_modes, Parts, parts_with_locals, routine_from, resolved_body, routine_of}
 use Rattle.ss_program.specs.WellTyped.{IsTypedBlock, TypedScope as Place, IsTypedRoutine}
 use Rattle.ss_tree.specs.Tree as tree
-use Rattle.ss_names_declarations.proofs.Entries.{entry_of_value}
 use Rattle.ss_names_uses.specs.Uses as uses
 use Rattle.ss_names_laws.specs.Laws.{HasLayout, IsWellLaid}
 use Rattle.ss_names_laws.specs.ValidTables.{HasRoutines, IsValidSection, IsValidTable}
 use Rattle.ss_names_laws.proofs.Each.{each_none}
 use Rattle.ss_names_laws.proofs.Items.{both_empty}
+use Rattle.ss_names_laws.proofs.Routines.{section_of_routine}
 use Rattle.ss_names_laws.proofs.Steps.{mapped}
-use Rattle.ss_check_laws.proofs.TableSections.{every_declared, head_of, routines_quiet}
 
 -- what is known of a program that breaks no rule
 pub record IsUnbroken (p : tree.ProgramTree) (x : ResolvedLayout) : Type 0 where
@@ -227,23 +226,10 @@ module _ (p : tree.ProgramTree) (x : ResolvedLayout) (k : IsUnbroken p x) where
 
   -- ---- routines
 
-  -- the section of a routine isn't MAIN
-  abbrev IsOfRoutine : NameBytes × RoutineSection → Type 0
-  IsOfRoutine e = (s : tree.SectionTree) × (slice_get p.sections e.1.section ≡ Some s) × (is_main s.kind ≡ false)
-
-  routine_head : (n : ℕ) (s : tree.SectionTree) (kind : tree.SectionKindTree) → slice_get p.sections n ≡ Some s → s.kind ≡ kind → Every IsOfRoutine (routine_by (head_of n kind))
-  routine_head n s tree.main e f = tt
-  routine_head n s (tree.routine name given yielding) e f = ((s, e, ap is_main f), tt)
-  routine_head n s (tree.event name given saving) e f = tt
-
-  of_routines : Every IsOfRoutine t.routines
-  of_routines = every_first IsOfRoutine (given_by routine_by (declarations p)) (every_declared IsOfRoutine routine_by routines_quiet p (λ n s e. routine_head n s s.kind e refl))
-
   -- they are well typed in each such program
   pub routines_there : (rs : List Routine) × (each (routine_from section) (values_of t.routines) ≡ Some rs) × Every (λ r. (q : Program) → IsWhole q → IsTypedRoutine q r) rs
   routines_there = routines_made section section_modes (λ r. (q : Program) → IsWhole q → IsTypedRoutine q r) (λ i known e q b.
       let parts = (has_routine section section_modes i known e).parts in
-      let entry = entry_of_value t.routines i known e in
-      let s = at_place IsOfRoutine t.routines i (entry.0, known) of_routines entry.1 in
-      subst₂ (λ (locals : List Mode) (in_main : Bool). IsTypedBlock (record { program = q; locals = locals; is_main = in_main }) parts.body) (sym (all_locals known.given known.yielding parts.modes)) s.2
+      let s = section_of_routine p i known e in
+      subst₂ (λ (locals : List Mode) (in_main : Bool). IsTypedBlock (record { program = q; locals = locals; is_main = in_main }) parts.body) (sym (all_locals known.given known.yielding parts.modes)) s.3
       (body_good q b known.section s.0 parts s.1 (has_routine section section_modes i known e).resolved))

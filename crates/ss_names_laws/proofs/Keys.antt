@@ -1,6 +1,6 @@
 -- The keys of ranked sets and of ties are attributes of their classes, so each set has a discipline and each class its keys.
 use Rattle.std.proofs.Common.{◌≡◌, ℕ, ◌==◌, nat_eq, Bool, true, false, List, [], Option, Some, None, refl, sym, ap, subst, ◌∙◌}
-use Rattle.ss_names_laws.proofs.Common.{Attribute, bytes_decides, Declaration, declarations, Declared, define_sets, DefinedOrder, Discipline, discipline, disciplines, entry_of_key, eqb-true, firsts_once, keys_of, Line, NameBytes, NamedKey, not-false, ordered, OrderTree, place_from, place_in, PreambleTree, ProgramTree, rank_key, rank_keys, ranked, ranked_by, RankedBy, RankKey, refusal_of_declarations, ruled, same_name, same_Some, Set, SetRule, slice_get, Table, table, tie_keys, tied_by, TiedBy, value_for, where_holds}
+use Rattle.ss_names_laws.proofs.Common.{Attribute, bytes_decides, declarations, Declared, define_sets, DefinedOrder, Discipline, discipline, disciplines, entry_of_key, eqb-true, firsts_once, keys_of, Line, NameBytes, NamedKey, not-false, ordered, OrderTree, place_from, place_in, PreambleTree, ProgramTree, rank_key, rank_keys, ranked, ranked_by, RankedBy, RankKey, refusal_of_declarations, ruled, same_name, same_Some, Set, SetRule, slice_get, Table, table, tie_keys, tied_by, TiedBy, value_for, where_holds}
 use Rattle.std.specs.List.{AllByRecursion as Every, filter}
 use Rattle.ss_names.specs.Entries.{class_by, classes, given_by, set_names, set_of, order_by, rank_key_by, tie_key_by}
 use Rattle.ss_tables_rules.specs.Rules.{broken_in, is_attribute_of, is_class_of}
@@ -9,13 +9,13 @@ use Rattle.ss_names_declarations.specs.declared.declaration.Declared.TheVariants
 use Rattle.ss_names_declarations.specs.declared.declaration.SetRule.TheVariants as rules
 use Rattle.ss_tables_rules.specs.declared.error.TableError.TheVariants as errors
 use Rattle.ss_tables_rules.specs.Keys.{class_of, is_foreign, is_foreign_to_any, member_named, member_of, misranked_in, misranked_key}
-use Rattle.ss_names_laws.proofs.Each.{at_place, each_empty, every_image, every_passed, every_piece, none_of_any}
+use Rattle.ss_names_laws.proofs.Each.{at_place, each_empty, every_image, every_passed, none_of_any}
 use Rattle.ss_names_laws.proofs.NameTable.{value_among}
 use Rattle.ss_names_laws.proofs.Items.{Among, at_item}
 use Rattle.ss_names_laws.proofs.Kept.{none_misranked}
 use Rattle.ss_names_laws.proofs.Owners.{IsOwned, all_owned}
 use Rattle.ss_names_laws.proofs.Results.{each_made, goes}
-use Rattle.ss_names_laws.proofs.Sources.{IsMade, Made, all_made}
+use Rattle.ss_names_laws.proofs.Sources.{IsMade, every_made}
 use Rattle.ss_names_laws.proofs.Unbroken.{every_given, fits, none_breaks}
 
 -- ---- one key
@@ -80,7 +80,7 @@ module _ (p : ProgramTree) (kept : refusal_of_declarations p ≡ None) where
   -- ---- disciplines
 
   all_ranked : Every (IsRanked p) (table p).rank_keys
-  all_ranked = every_piece (IsRanked p) (λ (x : Declaration). rank_key_by x.what) (declarations p) (λ x a. rank_key_made p x.what (at_item (Made p) (declarations p) x (all_made p) a))
+  all_ranked = every_made p (IsRanked p) rank_key_by (rank_key_made p)
 
   -- a key of the DEFINE of a set is an attribute of the class of its members
   key_owned : (name : NameBytes) (set : IsOwned p name) (o : DefinedOrder) → IsOrdered p (name, o) → (k : RankedBy) → IsRanked p k → nat_eq k.statement o.statement ≡ true → IsKeyOf (table p) set.member k.attribute
@@ -116,7 +116,7 @@ module _ (p : ProgramTree) (kept : refusal_of_declarations p ≡ None) where
       by : (o : Option DefinedOrder) → value_for (given_by order_by (declarations p)) name ≡ o → (x : Discipline) × (ordered (table p) (set_of (classes (declarations p)) (declarations p) name).member o ≡ Some x) × Unit {0}
       by None is = (disciplines_of.Fifo, refl, tt)
       by (Some o) is =
-          let orders = every_piece (IsOrdered p) (λ (x : Declaration). order_by x.what) (declarations p) (λ x a. order_made p x.what (at_item (Made p) (declarations p) x (all_made p) a)) in
+          let orders = every_made p (IsOrdered p) order_by (order_made p) in
           let made = at_item (IsOrdered p) (given_by order_by (declarations p)) (name, o) orders (value_among (given_by order_by (declarations p)) name o is) in
           let found = by_rule name set o made o.rule in
           (found.0, found.1, tt)

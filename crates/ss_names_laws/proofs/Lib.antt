@@ -12,7 +12,7 @@ mod Meanings
 pub mod Each
 mod Names
 mod Unbroken
-mod Sources
+pub mod Sources
 mod Limits
 mod Owners
 pub mod Results
@@ -23,4 +23,4 @@ mod Typed
 mod Bodies
 mod Locals
 mod Parameters
-mod Routines
+pub mod Routines

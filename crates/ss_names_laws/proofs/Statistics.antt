@@ -2,7 +2,7 @@
 use Rattle.std.proofs.Common.{◌≡◌, ℕ, not, Bool, true, false, [], ◌++◌, List, length, Option, Some, None, option_map, refl, ap, ◌∙◌}
 use Rattle.std.specs.Prelude.{if◌then◌else◌, slice_get}
 use Rattle.std.specs.List.{AllByRecursion as Every, flat_map}
-use Rattle.ss_names_laws.proofs.Common.{Declaration, declarations, Declared, Global, is_text, key_at, keys_of, Line, Local, Meaning, MemberCount, NameBytes, numbered, OfAttribute, OfCount, OfVariable, slice_get-map, Statistic, Subject, subject_of, Table, table, there, unless, upto, value_at, value_for, values_of}
+use Rattle.ss_names_laws.proofs.Common.{declarations, Declared, Global, is_text, key_at, keys_of, Line, Local, Meaning, MemberCount, NameBytes, numbered, OfAttribute, OfCount, OfVariable, slice_get-map, Statistic, Subject, subject_of, Table, table, there, unless, upto, value_at, value_for, values_of}
 use Rattle.ss_names.specs.Entries.{given_by, history_by}
 use Rattle.ss_names_meaning.specs.Layouts.{resolved_statistic, statistics as statistics_of}
 use Rattle.ss_tree.specs.Tree.{PreambleTree, ProgramTree, statistics}
@@ -13,12 +13,12 @@ use Rattle.ss_check_rules.specs.declared.error.CheckError.TheVariants as errors
 use Rattle.ss_check_rules.specs.Kinds.{may_be_watched}
 use Rattle.ss_check_rules.specs.Order.{check_error_order}
 use Rattle.ss_check_rules.specs.Refusal.{breaches, in_preamble, in_program, breaches_in_section, refusal_of_uses, subject_breaks}
-use Rattle.ss_names_laws.proofs.Each.{at_place, each_empty, every_first, every_piece}
-use Rattle.ss_names_laws.proofs.Items.{at_item, both_empty}
+use Rattle.ss_names_laws.proofs.Each.{at_place, each_empty, every_first}
+use Rattle.ss_names_laws.proofs.Items.{both_empty}
 use Rattle.ss_names_laws.proofs.Kept.{nothing_found}
 use Rattle.ss_names_laws.proofs.Known.{IsKnown, name_known}
 use Rattle.ss_names_laws.proofs.Results.{each_made, upto_every}
-use Rattle.ss_names_laws.proofs.Sources.{IsMade, Made, all_made}
+use Rattle.ss_names_laws.proofs.Sources.{IsMade, every_made}
 use Rattle.ss_names_laws.proofs.Steps.{none_listed}
 
 -- a meaning that may have a history, and is a whole number
@@ -65,9 +65,7 @@ module _ (p : ProgramTree) (kept : refusal_of_uses p ≡ None) where
   subject_whole _ h = tt
 
   pub all_watched : Every IsWatched (table p).histories
-  all_watched =
-      let ds = declarations p in
-      every_first IsWatched (given_by history_by ds) (every_piece IsWatched (λ (x : Declaration). history_by x.what) ds (λ x a. subject_whole x.what (at_item (Made p) ds x (all_made p) a)))
+  all_watched = every_first IsWatched (given_by history_by (declarations p)) (every_made p IsWatched history_by subject_whole)
 
   pub statistics_there : (xs : List Statistic) × (statistics_of (table p) ≡ Some xs)
   statistics_there =
