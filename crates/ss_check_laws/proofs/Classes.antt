@@ -1,14 +1,14 @@
 -- Classes whose uses break no rule are there.
 use Rattle.std.proofs.Common.{◌≡◌, ℕ, Bool, true, false, not, [], length, Option, Some, None, refl, ap, subst, ◌∙◌}
 use Rattle.std.specs.Prelude.{◌||◌, get_or}
-use Rattle.ss_check_laws.proofs.Common.{class_number, ClassKind, ClassNeed, goes, Integer, is_kind, is_text, IsLinked, Line, Meaning, meaning_mode, meaning_of_name, NamedClass, not-true, Scope, suits_class, ToVariable, unless, value_for, variable_named, variable_of, where_holds}
+use Rattle.ss_check_laws.proofs.Common.{class_number, ClassKind, ClassNeed, first_holds, goes, holds_unless, Integer, is_kind, is_text, IsLinked, Line, Meaning, meaning_mode, meaning_of_name, NamedClass, not-true, Scope, suits_class, ToVariable, unless, value_for, variable_named, variable_of, where_holds}
 use Rattle.ss_check_laws.specs.BodyLaws.{ClassesResolve}
 use Rattle.ss_program.specs.WellTyped.{CanTakeMode, TypedScope as Place}
 use Rattle.ss_base.specs.declared.layout.ClassKind.TheVariants as kinds
 use Rattle.ss_names_uses.specs.declared.used.ClassNeed.TheVariants as needs
 use Rattle.ss_names.specs.declared.meaning.Meaning.TheVariants as meanings
 use Rattle.ss_check_rules.specs.declared.error.CheckError.TheVariants as errors
-use Rattle.ss_check_laws.proofs.Steps.{alike, first_holds, holds_unless}
+use Rattle.ss_check_laws.proofs.Steps.{alike}
 use Rattle.ss_check_laws.proofs.Linked.{IsVariable, class_variable, meant_here}
 
 pub permanent_kind : (kind : ClassKind) → is_kind needs.Permanent kind ≡ true → kind ≡ kinds.Permanent

@@ -14,7 +14,7 @@ pub use Rattle.ss_check_rules.specs.Kinds.{has_value, if_means, is_mean, is_vari
 pub use Rattle.ss_check_rules.specs.Modes.{attribute_mode, is_text, meaning_mode, mode_of_use}
 pub use Rattle.ss_check_rules.specs.Refusal.{breaches, place_breaks, use_breaks}
 pub use Rattle.ss_check_rules.specs.declared.error.CheckError.{CheckError}
-pub use Rattle.ss_names.specs.Entries.{class_by, classes, event_by, given_by, is_notice_class, notice_by, number_added, priority_by, routine_by}
+pub use Rattle.ss_names.specs.Entries.{class_by, event_by, given_by, is_notice_class, notice_by, number_added, priority_by, routine_by}
 pub use Rattle.ss_names.specs.Table.{Table, mode_of_attribute, owner_kind_of_set, owner_of_meaning, owner_of_statistic, owner_of_subject, subject_of, table}
 pub use Rattle.ss_names.specs.declared.entry.EventSection.{EventSection}
 pub use Rattle.ss_names.specs.declared.entry.RoutineSection.{RoutineSection}
@@ -30,6 +30,7 @@ pub use Rattle.ss_names_laws.proofs.Items.{at_item, each_item}
 pub use Rattle.ss_names_laws.proofs.Parts.{each_length, numbers_length}
 pub use Rattle.ss_names_laws.proofs.Results.{each_made, goes}
 pub use Rattle.ss_names_laws.proofs.Steps.{each_at, got, numbers_at}
+pub use Rattle.ss_names_laws.proofs.Unbroken.{first_fails, first_holds, holds_unless}
 pub use Rattle.ss_names_meaning.specs.Answers.{of_one, where_holds}
 unfoldable pub use Rattle.ss_names_meaning.specs.Answers.{each}
 pub use Rattle.ss_names_meaning.specs.Classes.{class_named, class_number, counted, variable_named}

@@ -1,7 +1,7 @@
 -- Expressions whose uses break no rule resolve, and are well typed.
 use Rattle.std.proofs.Common.{◌≡◌, ℕ, Bool, true, false, List, Option, Some, None, refl, sym, ap, subst, ◌∙◌, arith}
 use Rattle.std.specs.Prelude.{◌==◌}
-use Rattle.ss_check_laws.proofs.Common.{Alpha, AreValid, Designator, eqb-true, false≢true, Global, goes, has_value, Integer, is_mean, IsLinked, Line, Meaning, meaning_mode, Mode, mode_of_meaning, mode_of_use, Multiply, none-some, One, place_use, row_length, Scope, Two, use_breaks}
+use Rattle.ss_check_laws.proofs.Common.{Alpha, AreValid, Designator, eqb-true, false≢true, Global, goes, has_value, holds_unless, Integer, is_mean, IsLinked, Line, Meaning, meaning_mode, Mode, mode_of_meaning, mode_of_use, Multiply, none-some, One, place_use, row_length, Scope, Two, use_breaks}
 use Rattle.ss_names_meaning.specs.Expressions.{meaning_with_entity, subscript, expression, factors, one, resolved_operator, resolved_value, terms, two}
 use Rattle.ss_program.specs.Program.{Expression, Fetch, Constant, Attribute, OfSystemSet, OfSet, OfMember, Clock, TimeOf, Figure, FigureOf, Calculate}
 use Rattle.ss_program.specs.WellTyped.{HasMode, TypedScope as Place}
@@ -15,7 +15,7 @@ use Rattle.ss_check_rules.specs.Counts.{argument_count}
 use Rattle.ss_check_rules.specs.declared.error.CheckError.TheVariants as errors
 use Rattle.ss_names_meaning.specs.Answers.{◌>>=◌}
 use Rattle.ss_check_laws.specs.BodyLaws.{ExpressionsResolve, IsResolved}
-use Rattle.ss_check_laws.proofs.Steps.{after, after_one, after_two, GoesWell, holds_unless, two_parts}
+use Rattle.ss_check_laws.proofs.Steps.{after, after_one, after_two, GoesWell, two_parts}
 use Rattle.ss_check_laws.proofs.Linked.{IsHere}
 use Rattle.ss_check_laws.proofs.Places.{EntityFits, Number, Numbers, NumberTerms, OwnerHas, in_role, named_statistic_fits, named_with, number_mode, owner_fits, said_is}
 

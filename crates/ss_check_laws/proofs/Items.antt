@@ -1,7 +1,7 @@
 -- Items of PRINT whose uses break no rule resolve, each to one that its field takes.
 use Rattle.std.proofs.Common.{◌≡◌, ◌⊎◌, inl, inr, ℕ, zero, suc, ◌≤◌, Bool, true, false, Option, Some, None, refl, sym, ap, subst, ◌∙◌, arith}
 use Rattle.std.specs.Prelude.{nat_le, option_map, if◌then◌else◌}
-use Rattle.ss_check_laws.proofs.Common.{AreValid, both_ways, Designator, expression, ExpressionRow, ExpressionTree, Field, has_value, if_means, is_mean, IsLinked, item, leb-true, Line, Meaning, meaning_of, named, none-some, parenthesised, resolved_item, Scope}
+use Rattle.ss_check_laws.proofs.Common.{AreValid, both_ways, Designator, expression, ExpressionRow, ExpressionTree, Field, has_value, holds_unless, if_means, is_mean, IsLinked, item, leb-true, Line, Meaning, meaning_of, named, none-some, parenthesised, resolved_item, Scope}
 use Rattle.ss_check_rules.specs.Refusal.{use_breaks, used_breaks}
 use Rattle.ss_names_uses.specs.Uses.{row_length, as_mean, in_item, place_use, with_decimals}
 use Rattle.ss_program.specs.Program.{Expression, PrintItem, AValue, AMean, AMeanOf}
@@ -12,7 +12,7 @@ use Rattle.ss_names_uses.specs.declared.used.Used.TheVariants.{Mean, Unfit}
 use Rattle.ss_names.specs.declared.meaning.Meaning.TheVariants as meanings
 use Rattle.ss_check_rules.specs.declared.error.CheckError.TheVariants as errors
 use Rattle.ss_check_laws.specs.BodyLaws.{IsResolvedItem, ItemsResolve, IsResolved}
-use Rattle.ss_check_laws.proofs.Steps.{after, holds_unless}
+use Rattle.ss_check_laws.proofs.Steps.{after}
 use Rattle.ss_check_laws.proofs.Linked.{IsHere}
 use Rattle.ss_check_laws.proofs.Places.{EntityFits, Numbers, in_role, named_statistic_fits, placed}
 use Rattle.ss_check_laws.proofs.Expressions.{meant_value, numbers, resolves}

@@ -1,6 +1,6 @@
 -- SCHEDULE, CANCEL and RESET.
 use Rattle.std.proofs.Common.{◌≡◌, ℕ, ◌<◌, ◌≤◌, Bool, true, false, List, ◌++◌, length, get_or, take, Option, Some, None, is_some, nat_le, option_map, [], refl, sym, ap, subst, arith, ◌∙◌, le-leb, leb-true}
-use Rattle.ss_check_laws.proofs.Common.{AreValid, at_time, attribute_mode, cancel_statement, ClassKind, each_at, each_length, expression, ExpressionTree, in_units, is_kind, IsLinked, IsResolvedClass, Line, Mode, mode_of_attribute, NameBytes, NamedClass, NamedTree, now, option_and_then, option_map_or, place_in, PlainClass, PlainLayout, reset_statement, schedule_new, schedule_statement, Scope, slice_get, slice_get_within, Table, there, unless, WhenTree}
+use Rattle.ss_check_laws.proofs.Common.{AreValid, at_time, attribute_mode, cancel_statement, ClassKind, each_at, each_length, expression, ExpressionTree, holds_unless, in_units, is_kind, IsLinked, IsResolvedClass, Line, Mode, mode_of_attribute, NameBytes, NamedClass, NamedTree, now, option_and_then, option_map_or, place_in, PlainClass, PlainLayout, reset_statement, schedule_new, schedule_statement, Scope, slice_get, slice_get_within, Table, there, unless, WhenTree}
 use Rattle.ss_names_meaning.specs.Answers.{each, where_holds, ◌>>=◌}
 use Rattle.ss_program.specs.Program.{Expression, Statement, Now, When, Restart, ScheduleNew, Schedule}
 use Rattle.ss_program.specs.WellTyped.{HasMode, IsTypedStatement, TypedScope as Place, HaveModes, IsTypedWhen, AreTypedGiven, IsTypedRestart}
@@ -12,7 +12,7 @@ use Rattle.ss_names_uses.specs.Uses as uses
 use Rattle.ss_names.specs.declared.meaning.Meaning.TheVariants as meanings
 use Rattle.ss_check_rules.specs.declared.error.CheckError.TheVariants as errors
 use Rattle.ss_names_meaning.specs.Statements.{restart, simple_statement, when}
-use Rattle.ss_check_laws.proofs.Steps.{GoesWell, each_resolves, holds_unless, three_parts, after, after_one}
+use Rattle.ss_check_laws.proofs.Steps.{GoesWell, each_resolves, three_parts, after, after_one}
 use Rattle.ss_check_laws.proofs.Expressions.{number_kept}
 use Rattle.ss_check_laws.proofs.Lists.{holds, in_order}
 use Rattle.ss_check_laws.proofs.Parts.{classes_resolve, restarts_resolve}

@@ -2,7 +2,7 @@
 use Rattle.std.proofs.Common.{◌≡◌, ℕ, ◌≤◌, Bool, true, false, Option, Some, None, refl, sym, ap, subst, ◌∙◌, arith}
 use Rattle.std.specs.Prelude.{not, ◌&&◌, ◌||◌, ◌==◌, option_map, slice_get, if◌then◌else◌}
 use Rattle.std.proofs.lemmas.Bool.{eqb-true, leb-true, not-false, not-true, or_parts}
-use Rattle.ss_check_laws.proofs.Common.{and_expression, and_term, Designator, Expression, ExpressionRow, ExpressionTree, Fetch, goes, Integer, IsLinked, Line, Meaning, Mode, no_expression, no_term, Owner, owner_kind_of_set, owner_of_meaning, owner_of_statistic, owner_of_subject, SetLayout, Statistic, Subject, TermRow, unless, Variable}
+use Rattle.ss_check_laws.proofs.Common.{and_expression, and_term, Designator, Expression, ExpressionRow, ExpressionTree, Fetch, first_fails, first_holds, goes, holds_unless, Integer, IsLinked, Line, Meaning, Mode, no_expression, no_term, Owner, owner_kind_of_set, owner_of_meaning, owner_of_statistic, owner_of_subject, SetLayout, Statistic, Subject, TermRow, unless, Variable}
 use Rattle.ss_check_rules.specs.Kinds.{if_means, is_target, may_have, meaning_in_role, suits, suits_subscripts, takes_values}
 use Rattle.ss_check_rules.specs.Modes.{meaning_mode, mode_of_use, is_mean_as_value, is_text, mixes_modes}
 use Rattle.ss_names_meaning.specs.Expressions.{entity_of, expression, meaning_with_entity, place_named, set_owner, of_owner, subscript}
@@ -17,7 +17,7 @@ use Rattle.ss_names.specs.declared.meaning.Meaning.TheVariants as meanings
 use Rattle.ss_check_rules.specs.Refusal.{meaning_breaks, place_breaks}
 use Rattle.ss_check_rules.specs.declared.error.CheckError.TheVariants as errors
 use Rattle.ss_names_meaning.specs.Answers.{◌>>=◌, of_one}
-use Rattle.ss_check_laws.proofs.Steps.{alike, first_fails, first_holds, holds_unless, meant}
+use Rattle.ss_check_laws.proofs.Steps.{alike, meant}
 use Rattle.ss_check_laws.proofs.Linked.{IsHere, IsOwner, IsSetHere, IsStatisticHere, IsSubjectHere, implied_here, meaning_here, owner_here}
 
 -- ---- modes

@@ -1,7 +1,7 @@
 -- A program that breaks no rule has a resolved form, which is well typed.
 use Rattle.std.proofs.Common.{◌≡◌, ℕ, ◌<◌, ◌≤◌, Bool, true, false, cond, List, [], ◌∷◌, length, get_or, map, slice_get, option_map, Option, Some, None, Contains, ⊎_elim, refl, sym, ap, subst, ◌∙◌, nat_eq, arith}
 use Rattle.std.specs.List.{AllByRecursion as Every, list_all, list_any, position, position_or_len}
-use Rattle.ss_check_laws.proofs.Common.{at_item, BodiesResolve, breaches, CheckError, each, each_at, each_item, Event, get_or_from_slice_get, is_main, is_main_section, is_notice_class, locals_of, Meaning, Moded, PlainClass, PlainLayout, Program, resolved_layout, ResolvedLayout, Routine, same_Some, slice_get-get_or, slice_get-map, slice_get_within, suits_class, Table, table, value_by_place, value_for, values_of}
+use Rattle.ss_check_laws.proofs.Common.{at_item, BodiesResolve, breaches, CheckError, each, each_at, each_item, Event, first_holds, get_or_from_slice_get, is_main, is_main_section, is_notice_class, locals_of, Meaning, Moded, PlainClass, PlainLayout, Program, resolved_layout, ResolvedLayout, Routine, same_Some, slice_get-get_or, slice_get-map, slice_get_within, suits_class, Table, table, value_by_place, value_for, values_of}
 use Rattle.std.proofs.lemmas.Bool.{both_ways, cases_lt, eqb-true, lt-ltb}
 use Rattle.std.proofs.lemmas.List.Folds.{Any-from_list_any}
 use Rattle.std.proofs.lemmas.List.Sums.{fails_before_first, list_all-from_AllPass, passes_at_first}
@@ -17,7 +17,6 @@ use Rattle.ss_check_laws.specs.ProgramLaws.{ProgramsResolve}
 use Rattle.ss_names_laws.proofs.Kept.{nothing_found}
 use Rattle.ss_names_laws.proofs.Parts.{parts_of}
 use Rattle.ss_names_laws.proofs.Steps.{mapped}
-use Rattle.ss_check_laws.proofs.Steps.{first_holds}
 use Rattle.ss_check_laws.proofs.Events.{class_is_ranked, class_there, event_kept, event_there, events_there}
 use Rattle.ss_check_laws.proofs.Routines.{IsUnbroken, IsWhole, body_good, laid_with, main_kept, program_with, routines_there, section, section_modes}
 

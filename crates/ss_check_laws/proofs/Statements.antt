@@ -2,7 +2,7 @@
 use Rattle.std.proofs.Common.{List, Some, refl}
 use Rattle.std.specs.List.{AllByRecursion as Every}
 use Rattle.ss_base.specs.declared.words.Sign.TheVariants.{Plus, Minus}
-use Rattle.ss_check_laws.proofs.Common.{AreValid, IsLinked, IsResolvedForHead, Scope}
+use Rattle.ss_check_laws.proofs.Common.{AreValid, holds_unless, IsLinked, IsResolvedForHead, Scope}
 use Rattle.ss_names_meaning.specs.Answers.{each, ◌>>=◌}
 use Rattle.ss_names_meaning.specs.Heads.{phrases_of, resolved_phrase, head}
 use Rattle.ss_program.specs.Program.{Done, Statement, Head, Phrase, Find, Return, Simulate, Stop}
@@ -11,7 +11,7 @@ use Rattle.ss_tree.specs.Tree.{call_statement, cancel_statement, create_every, c
 use Rattle.ss_names_uses.specs.Uses as uses
 use Rattle.ss_check_rules.specs.declared.error.CheckError.TheVariants as errors
 use Rattle.ss_names_meaning.specs.Statements.{simple_statement, statement}
-use Rattle.ss_check_laws.proofs.Steps.{after_one, after_two, GoesWell, holds_unless}
+use Rattle.ss_check_laws.proofs.Steps.{after_one, after_two, GoesWell}
 use Rattle.ss_check_laws.proofs.Expressions.{number_kept}
 use Rattle.ss_check_laws.proofs.Parts.{heads_resolve}
 use Rattle.ss_check_laws.proofs.Values.{call_resolves, change_resolves, let_resolves, read_resolves}

@@ -1,24 +1,11 @@
 -- Uses that break no rule, and steps that go well.
 use Rattle.std.proofs.Common.{◌≡◌, Bool, true, false, not, List, [], ◌∷◌, ◌++◌, Option, Some, None, refl, subst}
-use Rattle.std.specs.Prelude.{if◌then◌else◌}
 use Rattle.std.specs.List.{AllByRecursion as Every, flat_map}
-use Rattle.ss_check_laws.proofs.Common.{Alpha, AreValid, CheckError, if_means, in_parts, Integer, Meaning, Mode, not-true, Scope, unless, Use, use_breaks}
+use Rattle.ss_check_laws.proofs.Common.{Alpha, AreValid, CheckError, holds_unless, if_means, in_parts, Integer, Meaning, Mode, not-true, Scope, unless, Use, use_breaks}
 use Rattle.ss_check_rules.specs.Modes.{differ}
 use Rattle.ss_names_meaning.specs.Answers.{◌>>=◌, each}
 
 -- ---- tests that break nothing
-
-pub holds_unless : (b : Bool) (x : CheckError) → unless b x ≡ None → b ≡ true
-holds_unless true x h = refl
-holds_unless false x h = absurd cc
-
-pub first_holds : (b : Bool) (o : Option CheckError) (x : CheckError) → (if b then o else Some x) ≡ None → (b ≡ true) × (o ≡ None)
-first_holds true o x h = (refl, h)
-first_holds false o x h = absurd cc
-
-pub first_fails : (b : Bool) (o : Option CheckError) (x : CheckError) → (if b then Some x else o) ≡ None → (b ≡ false) × (o ≡ None)
-first_fails true o x h = absurd cc
-first_fails false o x h = (refl, h)
 
 -- what has to mean something of a kind
 pub meant : (o : Option Meaning) (kind : Meaning → Bool) → if_means kind o ≡ true → (m : Meaning) × (o ≡ Some m) × (kind m ≡ true)

@@ -1,7 +1,7 @@
 -- Values and targets of the modes that their places want: LET, ADD, SUBTRACT, READ and CALL.
 use Rattle.std.proofs.Common.{◌≡◌, ℕ, ◌+◌, ◌<◌, true, false, List, ◌++◌, length, take, drop, Option, Some, None, refl, sym, ap, subst, arith, ◌∙◌, length-drop, eq-eqb, eqb-true}
 use Rattle.std.specs.Prelude.{◌&&◌, ◌==◌, option_and_then, slice_get}
-use Rattle.ss_check_laws.proofs.Common.{AllZip, call_statement, CheckError, each_length, expression, ExpressionTree, Integer, let_statement, Line, local_modes, Meaning, Mode, mode_of_use, Moded, NameBytes, NamedTree, option_map_or, read_statement, RoutineSection, slice_get_within, target, unless, value_for, values_of}
+use Rattle.ss_check_laws.proofs.Common.{AllZip, call_statement, CheckError, each_length, expression, ExpressionTree, holds_unless, Integer, let_statement, Line, local_modes, Meaning, Mode, mode_of_use, Moded, NameBytes, NamedTree, option_map_or, read_statement, RoutineSection, slice_get_within, target, unless, value_for, values_of}
 use Rattle.ss_check_laws.specs.Links.{AreValid, IsLinked, IsRoutineAt}
 use Rattle.ss_check_rules.specs.Kinds.{if_means, is_routine}
 use Rattle.ss_names_laws.proofs.Steps.{numbers_at, upto_length}
@@ -17,7 +17,7 @@ use Rattle.ss_names_uses.specs.Uses as uses
 use Rattle.ss_names.specs.declared.meaning.Meaning.TheVariants as meanings
 use Rattle.ss_check_rules.specs.declared.error.CheckError.TheVariants as errors
 use Rattle.ss_names_meaning.specs.Statements.{reader, routine_number, simple_statement}
-use Rattle.ss_check_laws.proofs.Steps.{GoesWell, agree, each_resolves, holds_unless, two_parts, after, after_one, after_two}
+use Rattle.ss_check_laws.proofs.Steps.{GoesWell, agree, each_resolves, two_parts, after, after_one, after_two}
 use Rattle.ss_check_laws.proofs.Expressions.{number_kept}
 use Rattle.ss_check_laws.proofs.Lists.{after_first, holds, in_order}
 use Rattle.ss_check_laws.proofs.Parts.{expressions_resolve, targets_resolve}

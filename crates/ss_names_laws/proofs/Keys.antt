@@ -16,7 +16,7 @@ use Rattle.ss_names_laws.proofs.Kept.{none_misranked}
 use Rattle.ss_names_laws.proofs.Owners.{IsOwned, all_owned}
 use Rattle.ss_names_laws.proofs.Results.{each_made, goes}
 use Rattle.ss_names_laws.proofs.Sources.{IsMade, every_made}
-use Rattle.ss_names_laws.proofs.Unbroken.{every_given, fits, none_breaks}
+use Rattle.ss_names_laws.proofs.Unbroken.{every_given, holds_unless, none_breaks}
 
 -- ---- one key
 
@@ -132,7 +132,7 @@ module _ (p : ProgramTree) (kept : refusal_of_declarations p ≡ None) where
   -- ---- ties
 
   tie_says : (line : Line) (w : Declared) → broken_in (table p) line w ≡ None → Every (λ (k : TiedBy). is_attribute_of (table p) k.class k.attribute ≡ true) (tie_key_by w)
-  tie_says line (d.TieKey class attribute high) h = (fits (is_attribute_of (table p) class attribute) (errors.TieKey line) h, tt)
+  tie_says line (d.TieKey class attribute high) h = (holds_unless (is_attribute_of (table p) class attribute) (errors.TieKey line) h, tt)
   tie_says line _ h = tt
 
   pub ties_there : (class : ℕ) (name : NameBytes) → slice_get (keys_of (table p).classes) class ≡ Some name → (keys : List RankKey) × (tie_keys (table p) class name ≡ Some keys)

@@ -11,7 +11,7 @@ pub mod Parts
 mod Meanings
 pub mod Each
 mod Names
-mod Unbroken
+pub mod Unbroken
 pub mod Sources
 mod Limits
 mod Owners

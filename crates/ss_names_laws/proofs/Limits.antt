@@ -8,7 +8,7 @@ use Rattle.ss_names_declarations.specs.declared.declaration.Declared.TheVariants
 use Rattle.ss_tables_rules.specs.declared.error.TableError.TheVariants as errors
 use Rattle.ss_names_laws.proofs.Each.{at_place, every_first, every_if, from_places}
 use Rattle.ss_names_laws.proofs.Names.{entry_of, every_entry, once_as_entries}
-use Rattle.ss_names_laws.proofs.Unbroken.{every_given, fits, two_fit}
+use Rattle.ss_names_laws.proofs.Unbroken.{every_given, holds_unless, two_fit}
 
 abbrev IsFew : Option ℕ → Type 0
 IsFew o = not (is_too_many o) ≡ true
@@ -32,7 +32,7 @@ few_entries {V = V} es once h = ⊎_elim
 
 module _ (t : Table) (line : Line) where
   class_few : (w : Declared) → broken_in t line w ≡ None → Every (λ (e : NameBytes × ClassKind). IsFew (place_in t.classes e.0)) (class_by w)
-  class_few (d.Class name kind) h = (fits (not (is_too_many (place_in t.classes name))) (errors.TooMany line) h, tt)
+  class_few (d.Class name kind) h = (holds_unless (not (is_too_many (place_in t.classes name))) (errors.TooMany line) h, tt)
   class_few _ h = tt
 
   set_few : (w : Declared) → broken_in t line w ≡ None → Every (λ (name : NameBytes). IsFew (place_among t.set_names name)) (set_by w)

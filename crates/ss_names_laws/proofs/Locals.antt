@@ -19,7 +19,7 @@ use Rattle.ss_names_laws.proofs.Each.{at_number, at_place, each_empty, every_fir
 use Rattle.ss_names_laws.proofs.Items.{at_item, each_item, in_image, in_pieces}
 use Rattle.ss_names_laws.proofs.Kept.{none_broken, none_unmoded}
 use Rattle.ss_names_laws.proofs.Results.{each_made, upto_every}
-use Rattle.ss_names_laws.proofs.Unbroken.{fits, none_breaks, two_fit}
+use Rattle.ss_names_laws.proofs.Unbroken.{holds_unless, none_breaks, two_fit}
 
 -- ---- entries
 
@@ -84,7 +84,7 @@ module _ (p : ProgramTree) (kept : refusal_of_declarations p ≡ None) where
   of_parameters : (line : Line) (k : ℕ) (names : List NameBytes) → Every Unbroken (map (parameter_declaration line k) names) → Every (Hides p) (map (used.parameter_use line) names)
   of_parameters line k names h =
       every_image (Hides p) (used.parameter_use line) names
-      (λ n a. this_one p n (fits (may_be_hidden (value_for (table p).meanings n)) (errors.Twice line) (at_item Unbroken (map (parameter_declaration line k) names) (parameter_declaration line k n) h (in_image (parameter_declaration line k) names n a))))
+      (λ n a. this_one p n (holds_unless (may_be_hidden (value_for (table p).meanings n)) (errors.Twice line) (at_item Unbroken (map (parameter_declaration line k) names) (parameter_declaration line k n) h (in_image (parameter_declaration line k) names n a))))
 
   of_head : (line : Line) (k : ℕ) (kind : SectionKindTree) → Every Unbroken (in_section_head line k kind) → Every (Hides p) (in_kind line kind)
   of_head line k main h = tt

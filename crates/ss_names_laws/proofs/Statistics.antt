@@ -1,7 +1,8 @@
 -- The subjects of TALLY and ACCUMULATE: each is there and a whole number, so each history has a statistic.
-use Rattle.std.proofs.Common.{◌≡◌, ℕ, not, Bool, true, false, [], ◌++◌, List, length, Option, Some, None, option_map, refl, ap, ◌∙◌}
-use Rattle.std.specs.Prelude.{if◌then◌else◌, slice_get}
+use Rattle.std.proofs.Common.{◌≡◌, ℕ, not, true, false, [], ◌++◌, List, length, Option, Some, None, option_map, refl, ap, ◌∙◌}
+use Rattle.std.specs.Prelude.{slice_get}
 use Rattle.std.specs.List.{AllByRecursion as Every, flat_map}
+use Rattle.std.proofs.lemmas.Bool.{not-true}
 use Rattle.ss_names_laws.proofs.Common.{declarations, Declared, Global, is_text, key_at, keys_of, Line, Local, Meaning, MemberCount, NameBytes, numbered, OfAttribute, OfCount, OfVariable, slice_get-map, Statistic, Subject, subject_of, Table, table, there, unless, upto, value_at, value_for, values_of}
 use Rattle.ss_names.specs.Entries.{given_by, history_by}
 use Rattle.ss_names_meaning.specs.Layouts.{resolved_statistic, statistics as statistics_of}
@@ -20,22 +21,17 @@ use Rattle.ss_names_laws.proofs.Known.{IsKnown, name_known}
 use Rattle.ss_names_laws.proofs.Results.{each_made, upto_every}
 use Rattle.ss_names_laws.proofs.Sources.{IsMade, every_made}
 use Rattle.ss_names_laws.proofs.Steps.{none_listed}
+use Rattle.ss_names_laws.proofs.Unbroken.{first_holds, holds_unless}
 
 -- a meaning that may have a history, and is a whole number
 abbrev pub IsWhole : Option Meaning → Type 0
 IsWhole o = (meaning : Meaning) × (o ≡ Some meaning) × (may_be_watched meaning ≡ true) × (is_text (Some meaning) ≡ false)
 
-no_text : (line : Line) (b : Bool) → unless (not b) (errors.Mode line) ≡ None → b ≡ false
-no_text line true h = absurd cc
-no_text line false h = refl
-
 whole_so : (line : Line) (o : Option Meaning) → subject_breaks line o ≡ None → IsWhole o
 whole_so line None h = absurd cc
-whole_so line (Some meaning) h = by (may_be_watched meaning) refl h
-  where
-    by : (b : Bool) → may_be_watched meaning ≡ b → (if b then unless (not (is_text (Some meaning))) (errors.Mode line) else Some (errors.Unknown line)) ≡ None → IsWhole (Some meaning)
-    by true is g = (meaning, refl, is, no_text line (is_text (Some meaning)) g)
-    by false is g = absurd cc
+whole_so line (Some meaning) h =
+    let kept = first_holds (may_be_watched meaning) (unless (not (is_text (Some meaning))) (errors.Mode line)) (errors.Unknown line) h in
+    (meaning, refl, kept.0, not-true (is_text (Some meaning)) (holds_unless (not (is_text (Some meaning))) (errors.Mode line) kept.1))
 
 -- what may have a history is a subject
 subject_there : (t : Table) (name : NameBytes) (meaning : Meaning) → IsKnown t name meaning → may_be_watched meaning ≡ true → (subject : Subject) × (subject_of (Some meaning) ≡ Some subject)

@@ -1,5 +1,5 @@
 -- What rules on declarations say where they aren't broken.
-use Rattle.std.proofs.Common.{◌≡◌, Bool, true, false, List, [], ◌∷◌, None, refl}
+use Rattle.std.proofs.Common.{◌≡◌, Bool, true, false, List, [], ◌∷◌, None, refl, Option, Some}
 use Rattle.std.specs.Prelude.{if◌then◌else◌}
 use Rattle.std.specs.List.{AllByRecursion as Every}
 use Rattle.ss_names_laws.proofs.Common.{broken_by, broken_in, Declaration, declarations, Declared, given_by, Line, option_or, ProgramTree, refusal_of_declarations, table, unless}
@@ -8,13 +8,21 @@ use Rattle.ss_names_laws.proofs.Each.{every_piece}
 use Rattle.ss_names_laws.proofs.Items.{at_item}
 use Rattle.ss_names_laws.proofs.Kept.{none_broken}
 
-pub fits : (b : Bool) (breach : TableError) → unless b breach ≡ None → b ≡ true
-fits true breach h = refl
-fits false breach h = absurd cc
+pub holds_unless : {E : Type 0} (b : Bool) (breach : E) → unless b breach ≡ None → b ≡ true
+holds_unless true breach h = refl
+holds_unless false breach h = absurd cc
+
+pub first_holds : {E : Type 0} (b : Bool) (o : Option E) (breach : E) → (if b then o else Some breach) ≡ None → (b ≡ true) × (o ≡ None)
+first_holds true o breach h = (refl, h)
+first_holds false o breach h = absurd cc
+
+pub first_fails : {E : Type 0} (b : Bool) (o : Option E) (breach : E) → (if b then Some breach else o) ≡ None → (b ≡ false) × (o ≡ None)
+first_fails true o breach h = absurd cc
+first_fails false o breach h = (refl, h)
 
 -- of two rules
 pub two_fit : (a b : Bool) (first second : TableError) → option_or (unless a first) (unless b second) ≡ None → (a ≡ true) × (b ≡ true)
-two_fit true b first second h = (refl, fits b second h)
+two_fit true b first second h = (refl, holds_unless b second h)
 two_fit false b first second h = absurd cc
 
 pub none_breaks : (b : Bool) (breach : TableError) → (if b then breach ∷ [] else []) ≡ [] → b ≡ false
