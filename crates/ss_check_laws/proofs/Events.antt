@@ -240,6 +240,5 @@ module _ (p : tree.ProgramTree) (x : ResolvedLayout) (k : IsUnbroken p x) where
   pub events_there : (es : List Event) × (each (event_from t (section p x k)) t.ranks ≡ Some es) × Every (λ e. (q : Program) → IsWhole p x k q → IsTypedEvent q e) es
   events_there =
       let good = λ (e : Event). (q : Program) → IsWhole p x k q → IsTypedEvent q e in
-      let found = each_made (event_from t (section p x k)) good t.ranks (from_places (λ class. (e : Event) × (event_from t (section p x k) class ≡ Some e) × good e) t.ranks (λ i class e.
-      let r = event_there i class e in (r.0, r.1, r.3))) in
-      (found.0, found.1, found.3)
+      each_made (event_from t (section p x k)) good t.ranks (from_places (λ class. (e : Event) × (event_from t (section p x k) class ≡ Some e) × good e) t.ranks (λ i class e.
+      let r = event_there i class e in (r.0, r.1, r.3)))

@@ -114,9 +114,8 @@ module _ (p : tree.ProgramTree) (x : ResolvedLayout) (k : IsUnbroken p x) where
       ((i : ℕ) (known : RoutineSection) (e : slice_get (values_of t.routines) i ≡ Some known) → Q (made known (has_routine section m i known e).parts)) →
       (rs : List Routine) × (each (routine_from section) (values_of t.routines) ≡ Some rs) × Every Q rs
   routines_made section m Q h =
-      let found = each_made (routine_from section) Q (values_of t.routines) (from_places (λ known. (r : Routine) × (routine_from section known ≡ Some r) × Q r) (values_of t.routines) (λ i known e.
-      let r = has_routine section m i known e in (made known r.parts, is_made section known r.parts r.resolved, h i known e))) in
-      (found.0, found.1, found.3)
+      each_made (routine_from section) Q (values_of t.routines) (from_places (λ known. (r : Routine) × (routine_from section known ≡ Some r) × Q r) (values_of t.routines) (λ i known e.
+      let r = has_routine section m i known e in (made known r.parts, is_made section known r.parts r.resolved, h i known e)))
 
   -- a program with the layout and these routines
   pub record IsBuilt (section : ℕ → Option Parts) (q : Program) : Type 0 where

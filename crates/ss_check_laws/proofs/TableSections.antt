@@ -1,4 +1,4 @@
--- The routines and EVENT sections that a program declares are its sections, and its classes are those of its preamble.
+-- The routines and EVENT sections that a program declares are its sections.
 use Rattle.std.proofs.Common.{◌≡◌, ℕ, ◌+◌, List, [], ◌∷◌, ◌++◌, length, map, refl, ap, ◌∙◌, append-nil, flat_map}
 use Rattle.std.specs.List.{AllByRecursion as Every}
 use Rattle.std.proofs.lemmas.List.Concat.{flat_map-append}

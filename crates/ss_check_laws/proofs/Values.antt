@@ -1,7 +1,7 @@
 -- Values and targets of the modes that their places want: LET, ADD, SUBTRACT, READ and CALL.
 use Rattle.std.proofs.Common.{◌≡◌, ℕ, ◌+◌, ◌<◌, true, false, List, ◌++◌, length, take, drop, Option, Some, None, refl, sym, ap, subst, arith, ◌∙◌, length-drop, eq-eqb, eqb-true}
 use Rattle.std.specs.Prelude.{◌&&◌, ◌==◌, option_and_then, slice_get}
-use Rattle.ss_check_laws.proofs.Common.{AllZip, call_statement, CheckError, each_length, expression, ExpressionTree, holds_unless, Integer, let_statement, Line, local_modes, Meaning, Mode, mode_of_use, Moded, NameBytes, NamedTree, option_map_or, read_statement, RoutineSection, slice_get_within, target, unless, value_for, values_of}
+use Rattle.ss_check_laws.proofs.Common.{AllZip, call_statement, CheckError, each_length, expression, ExpressionTree, goes, holds_unless, Integer, let_statement, Line, local_modes, Meaning, Mode, mode_of_use, Moded, NameBytes, NamedTree, option_map_or, read_statement, RoutineSection, slice_get_within, target, unless, value_for, values_of}
 use Rattle.ss_check_laws.specs.Links.{AreValid, IsLinked, IsRoutineAt}
 use Rattle.ss_check_rules.specs.Kinds.{if_means, is_routine}
 use Rattle.ss_names_laws.proofs.Steps.{numbers_at, upto_length}
@@ -27,13 +27,6 @@ use Rattle.ss_check_laws.proofs.Parts.{expressions_resolve, targets_resolve}
 routine_meant : (o : Option Meaning) → if_means is_routine o ≡ true → (k : ℕ) × (o ≡ Some (meanings.Routine k))
 routine_meant (Some (meanings.Routine k)) h = (k, refl)
 routine_meant _ h = absurd cc
-
-abbrev with_section : ℕ → RoutineSection → ℕ × RoutineSection
-with_section k known = (k, known)
-
-routine_found : (o : Option Meaning) (all : List RoutineSection) (k : ℕ) (known : RoutineSection) → o ≡ Some (meanings.Routine k) → slice_get all k ≡ Some known →
-    (routine_number o >>= λ r. slice_get all r >>= λ x. Some (with_section r x)) ≡ Some (with_section k known)
-routine_found o all k known h g = rw (h, g) refl
 
 as_many : (n count : ℕ) (x : CheckError) → unless (n == count) x ≡ None → n ≡ count
 as_many n count x k = eqb-true n count (holds_unless (n == count) x k)
@@ -118,7 +111,9 @@ module _ (s : Scope) (g : Place) (linked : IsLinked s g) (line : Line) where
       (ap (option_and_then (λ (r : RoutineSection). parameter_mode s r.section (r.given + i))) entry.2 ∙ parameter_there s g meant.0 known r (known.given + i) m (sym (after_first known.given i r.modes) ∙ f)) h)
       (omega (arith, more, r.enough, length-drop known.given r.modes)) p.1 in
       let made : Statement = Call line meant.0 xs.0 ys.0 in
-      after {A = ℕ × RoutineSection} (IsTypedStatement g) _ _ (meant.0, known) (routine_found (value_for s.table.meanings name) (values_of s.table.routines) meant.0 known meant.1 entry.1)
+      after {A = ℕ × RoutineSection} (IsTypedStatement g) _ _ (meant.0, known)
+      (goes {B = ℕ × RoutineSection} (routine_number (value_for s.table.meanings name)) _ meant.0 (meant.0, known) (ap routine_number meant.1)
+      (goes {B = ℕ × RoutineSection} (slice_get (values_of s.table.routines) meant.0) _ known (meant.0, known) entry.1 refl))
       (after (IsTypedStatement g) _ _ xs.0 xs.1 (after (IsTypedStatement g) _ _ ys.0 ys.1 (
         made,
         holds ((length xs.0 == known.given) && (length ys.0 == known.yielding)) made

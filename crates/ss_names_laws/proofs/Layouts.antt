@@ -1,5 +1,5 @@
 -- A program that breaks no rule on declarations has a layout.
-use Rattle.std.proofs.Common.{◌≡◌, ℕ, ◌<◌, ◌≤◌, ◌&&◌, nat_eq, nat_le, nat_lt, Bool, true, List, [], ◌∷◌, ◌++◌, length, get_or, Option, Some, None, option_map, inl, inr, refl, sym, ap, subst, ◌∙◌, arith}
+use Rattle.std.proofs.Common.{◌≡◌, ℕ, ◌<◌, ◌≤◌, ◌&&◌, nat_eq, nat_le, nat_lt, Bool, true, List, [], ◌∷◌, ◌++◌, length, get_or, Option, Some, None, option_map, inl, inr, refl, sym, ap, subst, arith}
 use Rattle.ss_names_laws.proofs.Common.{Attribute, attribute_after, attribute_classes, attributes, attributes_after, attributes_of_class, class_layout, classes, ClassKind, declarations, each, fields, get_or-map-range_with_len, layout, Mode, mode_of_attribute, mode_of_name, NameBytes, Owner, PlainClass, PlainLayout, ProgramTree, refusal_of_declarations, Set, set_layout, set_names, set_of, SetLayout, slice_get, Table, table, there, upto, value_at, value_for, values_of}
 use Rattle.std.specs.List.{AllByRecursion as Every, filter, list_all}
 use Rattle.std.proofs.lemmas.Bool.{and_from, cond-true, le-leb}
@@ -10,8 +10,8 @@ use Rattle.ss_names_laws.proofs.NameTable.{has_value}
 use Rattle.ss_names_laws.proofs.Items.{Among, at_item, each_item}
 use Rattle.ss_names_laws.proofs.Limits.{few_attributes, few_classes, few_sets}
 use Rattle.ss_names_laws.proofs.Owners.{IsOwned, all_owned}
+use Rattle.ss_names_laws.proofs.Parts.{each_length, numbers_length}
 use Rattle.ss_names_laws.proofs.Results.{each_made, upto_every}
-use Rattle.ss_names_laws.proofs.Steps.{upto_length}
 
 -- ---- attributes of a class
 
@@ -52,7 +52,7 @@ class_there t n kind class known few =
     let k = at_item (IsKnown t) (get_or t.fields n []) name known a in
     (k.0.mode, ap (λ (o : Option Attribute). option_map (λ (x : Attribute). x.mode) o) k.1, tt))) in
     let laid : PlainClass = record { kind = kind; fields = modes.0 } in
-    (laid, rw (class, modes.1) refl, le-leb (length modes.0) 1048576 (omega (arith, modes.2, few)))
+    (laid, rw (class, modes.1) refl, le-leb (length modes.0) 1048576 (omega (arith, each_length (mode_of_attribute t) (get_or t.fields n []) modes.0 modes.1, few)))
 
 set_there : (s : Set) (owner : Owner) (member classes : ℕ) → s.owner ≡ Some owner → s.member ≡ Some member → owns_among classes owner ≡ true → nat_lt member classes ≡ true → (y : SetLayout) × (set_layout s ≡ Some y) × (names_classes classes y ≡ true)
 set_there s owner member classes e f g h =
@@ -82,12 +82,12 @@ layouts_are_there p kept =
     let laid = each_made (class_layout t) (λ (c : PlainClass). is_narrow c ≡ true) (upto (length t.classes))
     (upto_every (λ (n : ℕ). (c : PlainClass) × (class_layout t n ≡ Some c) × (is_narrow c ≡ true)) (length t.classes)
     (λ n lt. let e = there t.classes n lt in class_there t n e.0.1 (value_at t.classes n e.0.0 e.0.1 e.1) (row_known p n lt) (row_few p kept n lt))) in
-    let count : length laid.0 ≡ length t.classes = laid.2 ∙ upto_length (length t.classes) in
+    let count : length laid.0 ≡ length t.classes = numbers_length (class_layout t) (length t.classes) laid.0 laid.1 in
     let each_set = every_image (λ (s : Set). (y : SetLayout) × (set_layout s ≡ Some y) × (names_classes (length t.classes) y ≡ true)) (set_of (classes ds) ds) (set_names ds) (λ name a.
     let set = at_item (IsOwned p) (set_names ds) name (all_owned p kept) a in
     set_there (set_of (classes ds) ds name) set.owner set.member (length t.classes) set.owned set.filled set.owner_below set.member_below) in
     let laid_sets = each_made set_layout (λ (y : SetLayout). names_classes (length t.classes) y ≡ true) t.sets each_set in
     let few_cs : length laid.0 ≤ 64 = omega (arith, count, few_classes p kept) in
-    let few_ss : length laid_sets.0 ≤ 64 = omega (arith, laid_sets.2, few_sets p kept) in
-    layout_there t laid.0 laid_sets.0 laid.1 laid_sets.1 few_cs few_ss laid.3
-    (subst (λ (n : ℕ). Every (λ (y : SetLayout). names_classes n y ≡ true) laid_sets.0) (sym count) laid_sets.3)
+    let few_ss : length laid_sets.0 ≤ 64 = omega (arith, each_length set_layout t.sets laid_sets.0 laid_sets.1, few_sets p kept) in
+    layout_there t laid.0 laid_sets.0 laid.1 laid_sets.1 few_cs few_ss laid.2
+    (subst (λ (n : ℕ). Every (λ (y : SetLayout). names_classes n y ≡ true) laid_sets.0) (sym count) laid_sets.2)

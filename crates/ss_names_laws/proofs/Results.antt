@@ -1,5 +1,5 @@
 -- Steps that have results, and what holds of all of them.
-use Rattle.std.proofs.Common.{◌≡◌, ℕ, zero, suc, ◌<◌, Bool, true, false, List, [], ◌∷◌, length, Option, Some, refl, ap, subst, arith}
+use Rattle.std.proofs.Common.{◌≡◌, ℕ, zero, suc, ◌<◌, Bool, true, false, List, [], ◌∷◌, Option, Some, refl, subst, arith}
 use Rattle.std.specs.List.{AllByRecursion as Every, AllZip}
 use Rattle.ss_names_meaning.specs.Answers.{◌>>=◌, each, upto, where_holds}
 use Rattle.ss_names_laws.proofs.Each.{joined}
@@ -14,14 +14,14 @@ held false x y e = absurd cc
 
 -- ---- steps for each item
 
--- where each step has a result of which something holds, there are as many results, and it holds of each
+-- where each step has a result of which something holds, all have, and it holds of each
 pub each_made : {A B : Type 0} (step : A → Option B) (Q : B → Type 0) (xs : List A) → Every (λ x. (y : B) × (step x ≡ Some y) × Q y) xs →
-    (ys : List B) × (each step xs ≡ Some ys) × (length ys ≡ length xs) × Every Q ys
+    (ys : List B) × (each step xs ≡ Some ys) × Every Q ys
 unfolding each
-each_made step Q [] h = ([], refl, refl, tt)
+each_made step Q [] h = ([], refl, tt)
 each_made step Q (x ∷ xs) h =
     let rest = each_made step Q xs h.1 in
-    (h.0.0 ∷ rest.0, goes (step x) _ h.0.0 (h.0.0 ∷ rest.0) h.0.1 (goes (each step xs) _ rest.0 (h.0.0 ∷ rest.0) rest.1 refl), ap suc rest.2, (h.0.2, rest.3))
+    (h.0.0 ∷ rest.0, goes (step x) _ h.0.0 (h.0.0 ∷ rest.0) h.0.1 (goes (each step xs) _ rest.0 (h.0.0 ∷ rest.0) rest.1 refl), (h.0.2, rest.2))
 
 pub each_every : {A B : Type 0} (step : A → Option B) (P : B → Type 0) (xs : List A) (ys : List B) → each step xs ≡ Some ys → ((x : A) (y : B) → step x ≡ Some y → P y) → Every P ys
 unfolding each
