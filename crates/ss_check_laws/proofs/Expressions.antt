@@ -29,18 +29,10 @@ module _ (s : Scope) (g : Place) where
   pub as_number : (e : ExpressionTree) → IsResolved s g true e → Number s g e
   as_number e r = (r.0, r.2, subst (HasMode g r.0) (r.5 refl) r.3)
 
-  number_resolves : (b : Bool) (z : _) → IsResolved s g b (number z)
-  unfolding expression
-  number_resolves b z = (Constant (Whole z), Integer, refl, refl, refl, λ t. refl)
-
   text_resolves : (line : Line) (b : Bool) (t : List ℕ) → AreValid s g.is_main (uses.in_expression line b (text t)) → IsResolved s g b (text t)
   unfolding expression
   text_resolves line true t h = absurd (none-some (errors.Mode line) (sym h.0))
   text_resolves line false t h = (Constant (Text t), Alpha, refl, refl, refl, λ f. absurd (false≢true f))
-
-  parenthesised_resolves : (b : Bool) (e : ExpressionTree) → IsResolved s g b e → IsResolved s g b (parenthesised e)
-  unfolding expression
-  parenthesised_resolves b e r = r
 
   -- ---- signs, products and sums
 
@@ -148,14 +140,16 @@ module _ (s : Scope) (g : Place) (k : IsLinked s g) where
     -- ---- expressions
 
     mutual
+      unfolding expression
+
       pub resolves : (b : Bool) (e : ExpressionTree) → AreValid s g.is_main (uses.in_expression line b e) → IsResolved s g b e
-      resolves b (number z) h = number_resolves s g b z
+      resolves b (number z) h = (Constant (Whole z), Integer, refl, refl, refl, λ t. refl)
       resolves b (text t) h = text_resolves s g line b t h
       resolves b (named d es) h = named_resolves b d es h.0 (numbers es h.1)
       resolves b (call f es) h =
           from_number s g b (call f es)
           (call_number s g f es (eqb-true (row_length es) (argument_count f) (holds_unless (row_length es == argument_count f) (errors.Arguments line) h.0)) (numbers es h.1)) refl
-      resolves b (parenthesised e) h = parenthesised_resolves s g b e (resolves b e h)
+      resolves b (parenthesised e) h = resolves b e h
       resolves b (product e es) h =
           let p = two_parts s g.is_main (uses.in_expression line true e) (uses.in_numbers line es) h in
           from_number s g b (product e es) (product_number s g e es (as_number s g e (resolves true e p.0)) (numbers es p.1)) refl

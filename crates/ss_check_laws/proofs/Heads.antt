@@ -1,10 +1,10 @@
 -- Heads of loops whose uses break no rule resolve, and are well typed.
-use Rattle.std.proofs.Common.{◌≡◌, true, false, List, ◌++◌, Option, Some, None, refl, subst}
+use Rattle.std.proofs.Common.{◌≡◌, true, false, ◌++◌, Option, Some, None, refl, subst}
 use Rattle.std.specs.Prelude.{is_some, IfSome}
-use Rattle.std.specs.List.{AllByRecursion as Every, flat_map}
+use Rattle.std.specs.List.{flat_map}
 use Rattle.ss_check_laws.proofs.Common.{after_member, AreValid, ClassKind, expression, Expression, ExpressionTree, for_head, from_end, from_member, goes, guarded, GuardTree, HeadTree, Integer, is_variable, IsLinked, Line, meaning_of_name, Name, NameBytes, no_expression, over_class, over_members, over_range, phrases_of, PhraseTree, Scope, StartTree, Variable, variable_named, variable_of}
 use Rattle.ss_check_laws.specs.BodyLaws.{IsResolvedForHead, HeadsResolve}
-use Rattle.ss_names_meaning.specs.Answers.{each, if_there}
+use Rattle.ss_names_meaning.specs.Answers.{if_there}
 use Rattle.ss_names_meaning.specs.Heads.{resolved_phrase, called_variable, guard, head, resolved_start}
 use Rattle.ss_names_uses.specs.Uses.{in_named, in_expression, in_guard, in_head, in_option, in_phrase, in_start, loop_variable}
 use Rattle.ss_program.specs.Program.{ToVariable, AtEnd, Guard}
@@ -41,9 +41,6 @@ module _ (s : Scope) (g : Place) (k : IsLinked s g) (line : Line) where
   phrase_resolves : (p : PhraseTree) → AreValid s g.is_main (in_phrase line p) → GoesWell (IsTypedPhrase g) (resolved_phrase s p)
   phrase_resolves p h = after_one (IsTypedPhrase g) _ _ (conditions_resolve s g k line p.condition h) (λ x t. t)
 
-  phrases_resolve : (ps : List PhraseTree) → AreValid s g.is_main (flat_map (in_phrase line) ps) → GoesWell (Every (IsTypedPhrase g)) (each (resolved_phrase s) ps)
-  phrases_resolve ps h = each_resolves s g.is_main (resolved_phrase s) (in_phrase line) (IsTypedPhrase g) phrase_resolves ps h
-
   guard_resolves : (t : GuardTree) → AreValid s g.is_main (in_guard line t) → GoesWell (λ (x : Guard). IsTypedCondition g x.condition) (guard s t)
   guard_resolves t h = after_one (λ (x : Guard). IsTypedCondition g x.condition) _ _ (conditions_resolve s g k line t.condition h) (λ x r. r)
 
@@ -61,7 +58,9 @@ module _ (s : Scope) (g : Place) (k : IsLinked s g) (line : Line) where
   -- ---- heads
 
   with_phrases : (over : HeadTree) → GoesWell (IsTypedHead g) (head s over) → AreValid s g.is_main (flat_map (in_phrase line) (phrases_of over)) → IsResolvedForHead s g over
-  with_phrases over x h = let ps = phrases_resolve (phrases_of over) h in (x.0, x.1, x.2, ps.0, ps.1, ps.2)
+  with_phrases over x h =
+      let ps = each_resolves s g.is_main (resolved_phrase s) (in_phrase line) (IsTypedPhrase g) phrase_resolves (phrases_of over) h in
+      (x.0, x.1, x.2, ps.0, ps.1, ps.2)
 
   for_resolves : (over : HeadTree) → AreValid s g.is_main (in_head line over) → IsResolvedForHead s g over
   unfolding head

@@ -14,9 +14,8 @@ meant (Some m) kind h = (m, refl, h)
 
 same_mode : (m n : Mode) → differ (Some m) (Some n) ≡ false → m ≡ n
 same_mode Integer Integer h = refl
-same_mode Integer Alpha h = absurd cc
-same_mode Alpha Integer h = absurd cc
 same_mode Alpha Alpha h = refl
+same_mode _ _ h = absurd cc
 
 -- two modes that don't differ are one
 pub alike : (a b : Option Mode) (m n : Mode) → differ a b ≡ false → a ≡ Some m → b ≡ Some n → m ≡ n

@@ -28,9 +28,8 @@ subject_meant None p h = absurd cc
 subject_meant (Some m) p h = (m, refl)
 
 not_hidden : (local found : Option ℕ) → is_some (unless_hidden local found) ≡ true → (n : ℕ) × (local ≡ None) × (found ≡ Some n)
-not_hidden None None h = absurd cc
 not_hidden None (Some n) h = (n, refl, refl)
-not_hidden (Some k) found h = absurd cc
+not_hidden _ _ h = absurd cc
 
 module _ (s : Scope) (g : Place) (k : IsLinked s g) where
   -- ---- targets
