@@ -8,7 +8,7 @@ pub use Rattle.ss_base.specs.declared.layout.Owner.{Owner}
 pub use Rattle.ss_base.specs.declared.layout.SetLayout.{SetLayout}
 pub use Rattle.ss_base.specs.declared.line.Line.{Line}
 pub use Rattle.ss_base.specs.declared.words.Operator.TheVariants.{Multiply}
-pub use Rattle.ss_check_laws.specs.BodyLaws.{BodiesResolve, IsResolvedClass, IsResolvedCondition, IsResolvedForHead, IsResolvedHead}
+pub use Rattle.ss_check_laws.specs.BodyLaws.{BodiesResolve, IsResolvedClass, IsResolvedForHead, IsResolvedHead}
 pub use Rattle.ss_check_laws.specs.Links.{AreValid, IsLinked}
 pub use Rattle.ss_check_rules.specs.Kinds.{has_value, if_means, is_mean, is_variable, suits_class}
 pub use Rattle.ss_check_rules.specs.Modes.{attribute_mode, is_text, meaning_mode, mode_of_use}
@@ -53,7 +53,7 @@ pub use Rattle.ss_program.specs.declared.sections.Statistic.{Statistic}
 pub use Rattle.ss_program.specs.declared.sections.Subject.{Subject}
 pub use Rattle.ss_program.specs.declared.statement.CountedClass.{CountedClass}
 pub use Rattle.ss_tree.specs.Names.{NameBytes}
-pub use Rattle.ss_tree.specs.Tree.{ConditionTree, ExpressionRow, ExpressionTree, GuardTree, HeadTree, LoopHeadTree, NamedTree, PhraseTree, StartTree, StatementRow, StatementTree, TermRow, TestTree, WhenTree, add_statement, after_member, and_expression, and_statement, and_term, at_time, call, call_statement, cancel_statement, compare, create_every, create_statement, data_ended, destroy_statement, empty, file_statement, find_if_statement, find_statement, for_head, from_end, from_member, guarded, if_statement, in_units, let_statement, loop_statement, member, named, no_expression, no_statement, no_term, now, over_class, over_members, over_range, parenthesised, print_statement, product, read_statement, remove_end, remove_statement, reset_statement, schedule_new, schedule_statement, signed, skip_statement, statement_row, subtract_statement, sum}
+pub use Rattle.ss_tree.specs.Tree.{ExpressionRow, ExpressionTree, GuardTree, HeadTree, LoopHeadTree, NamedTree, PhraseTree, StartTree, StatementRow, StatementTree, TermRow, TestTree, WhenTree, add_statement, after_member, and_expression, and_statement, and_term, at_time, call, call_statement, cancel_statement, compare, create_every, create_statement, data_ended, destroy_statement, empty, file_statement, find_if_statement, find_statement, for_head, from_end, from_member, guarded, if_statement, in_units, let_statement, loop_statement, member, named, no_expression, no_statement, no_term, now, over_class, over_members, over_range, parenthesised, print_statement, product, read_statement, remove_end, remove_statement, reset_statement, schedule_new, schedule_statement, signed, skip_statement, statement_row, subtract_statement, sum}
 pub use Rattle.ss_tree.specs.declared.expression.Designator.{Designator}
 pub use Rattle.ss_tree.specs.declared.expression.Designator.TheVariants.{Name}
 pub use Rattle.ss_tree.specs.declared.expression.Function.TheVariants.{One, Two}

@@ -63,6 +63,12 @@ none_of_any test (x ∷ xs) h = let parts = or_parts (test x) (list_any test xs)
 pub every_first : {V : Type 0} (P : NameBytes × V → Type 0) (all : List (NameBytes × V)) → Every P all → Every P (first_entries all)
 every_first P all h = each_item P (first_entries all) (λ e a. at_item P all e h (value_among all e.0 e.1 (sym (value_in_firsts all e.0) ∙ value_of_entry all e.0 e.1 a)))
 
+-- what holds of names holds of the first entries of these names
+pub every_named : {V : Type 0} (P : NameBytes → Type 0) (f : NameBytes → NameBytes × V) → ((name : NameBytes) → P name → P (f name).0) → (names : List NameBytes) → Every P names → Every (λ (e : NameBytes × V). P e.0) (first_entries (map f names))
+every_named {V} P f good names h =
+    let Q = λ (e : NameBytes × V). P e.0 in
+    every_first Q (map f names) (every_image Q f names (λ name a. good name (at_item P names name h a)))
+
 pub every_if : {V : Type 0} (P : NameBytes × V → Type 0) (name : NameBytes) (o : Option V) → ((v : V) → o ≡ Some v → P (name, v)) → Every P (entry_if name o)
 every_if P name None h = tt
 every_if P name (Some v) h = (h v refl, tt)

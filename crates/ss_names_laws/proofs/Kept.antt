@@ -198,9 +198,6 @@ module _ (p : ProgramTree) (kept : refusal_of_declarations p ≡ None) where
   pub no_clash : clashes (declarations p) ≡ []
   no_clash = no_images errors.Twice (clashes (declarations p)) parts.0
 
-  pub no_repeats : repeats (table p) (declarations p) ≡ []
-  no_repeats = parts.1
-
   pub none_broken : Every (λ (x : Declaration). broken_by (table p) x ≡ None) (declarations p)
   none_broken = each_none (broken_by (table p)) (declarations p) parts.2
 
@@ -212,7 +209,7 @@ module _ (p : ProgramTree) (kept : refusal_of_declarations p ≡ None) where
 
   -- what may be said once is said once: of all such things, in the order of the text, none is the same as one before it
   pub said_once : IsDistinct (λ (b a : Once). same_once a b) (onces (table p) (declarations p))
-  said_once = (never_again (table p) [] (declarations p) no_repeats).1
+  said_once = (never_again (table p) [] (declarations p) parts.1).1
 
   -- the first that a name means is what a declaration declares it as, or both are of one set
   pub first_meant : (x : Declaration) (name : NameBytes) (meaning : Meaning) → Among (declarations p) x → Among (declares (numbered (declarations p)) x.what) (name, meaning) →

@@ -15,7 +15,7 @@ use Rattle.ss_tables_rules.specs.declared.error.TableError.TheVariants as errors
 use Rattle.ss_names_scopes.specs.Scopes.{local_mode}
 use Rattle.ss_names_meaning.specs.Resolved.{local_modes}
 use Rattle.ss_names_laws.proofs.Bodies.{IsSilent, body_silent, declares_local, places}
-use Rattle.ss_names_laws.proofs.Each.{at_number, at_place, each_empty, every_first, every_image, every_listed, every_piece, in_parts, joined}
+use Rattle.ss_names_laws.proofs.Each.{at_number, at_place, each_empty, every_first, every_image, every_listed, every_named, every_piece, in_parts, joined}
 use Rattle.ss_names_laws.proofs.Items.{at_item, each_item, in_image, in_pieces}
 use Rattle.ss_names_laws.proofs.Kept.{none_broken, none_unmoded}
 use Rattle.ss_names_laws.proofs.Results.{each_made, upto_every}
@@ -25,10 +25,7 @@ use Rattle.ss_names_laws.proofs.Unbroken.{holds_unless, none_breaks, two_fit}
 
 -- what holds of each name that uses name as a local variable holds of each local variable
 every_local : (t : Table) (P : NameBytes → Type 0) (us : List Use) → Every P (flat_map (local_used t) us) → Every (λ (e : NameBytes × Option Mode). P e.0) (locals t us)
-every_local t P us h =
-    let names = flat_map (local_used t) us in
-    let Q = λ (e : NameBytes × Option Mode). P e.0 in
-    every_first Q (map (moded_in t.usual (defined us)) names) (every_image Q (moded_in t.usual (defined us)) names (λ n a. at_item P names n h a))
+every_local t P us h = every_named P (moded_in t.usual (defined us)) (λ name k. k) (flat_map (local_used t) us) h
 
 some_mode : (o : Option Mode) (usual : Mode) → (mode : Mode) × (option_or o (Some usual) ≡ Some mode)
 some_mode None usual = (usual, refl)

@@ -5,7 +5,7 @@ use Rattle.std.specs.List.{AllByRecursion as Every, fold}
 use Rattle.std.proofs.lemmas.Map.Made.{is_some-lookup}
 use Rattle.ss_names_laws.proofs.Common.{keys_append, keys_of, NameBytes}
 use Rattle.ss_names_declarations.specs.NameTable.{first_entries, same_name, value_for, each_once, entry_beside, is_one_of, with_first, with_name}
-use Rattle.ss_names_laws.proofs.Each.{every_first, every_image}
+use Rattle.ss_names_laws.proofs.Each.{every_image, every_named}
 use Rattle.ss_names_laws.proofs.Items.{at_item}
 
 abbrev pub entry_of : NameBytes → NameBytes × NameBytes
@@ -26,13 +26,7 @@ as_entries es (name ∷ names) =
 pub once_as_entries : (names : List NameBytes) → each_once names ≡ keys_of (first_entries (map entry_of names))
 once_as_entries names = as_entries [] names
 
--- what holds of each entry's name
-pub every_entry : (P : NameBytes → Type 0) (names : List NameBytes) → Every P names → Every (λ (e : NameBytes × NameBytes). P e.0) (first_entries (map entry_of names))
-every_entry P names h =
-    let Q = λ (e : NameBytes × NameBytes). P e.0 in
-    every_first Q (map entry_of names) (every_image Q entry_of names (λ name a. at_item P names name h a))
-
 pub every_once : (P : NameBytes → Type 0) (names : List NameBytes) → Every P names → Every P (each_once names)
 every_once P names h =
     let es = first_entries (map entry_of names) in
-    subst (Every P) (sym (once_as_entries names)) (every_image P (λ (e : NameBytes × NameBytes). e.0) es (λ e a. at_item (λ (f : NameBytes × NameBytes). P f.0) es e (every_entry P names h) a))
+    subst (Every P) (sym (once_as_entries names)) (every_image P (λ (e : NameBytes × NameBytes). e.0) es (λ e a. at_item (λ (f : NameBytes × NameBytes). P f.0) es e (every_named P entry_of (λ name k. k) names h) a))

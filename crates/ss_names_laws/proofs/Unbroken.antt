@@ -2,11 +2,12 @@
 use Rattle.std.proofs.Common.{◌≡◌, Bool, true, false, List, [], ◌∷◌, None, refl, Option, Some}
 use Rattle.std.specs.Prelude.{if◌then◌else◌}
 use Rattle.std.specs.List.{AllByRecursion as Every}
-use Rattle.ss_names_laws.proofs.Common.{broken_by, broken_in, Declaration, declarations, Declared, given_by, Line, option_or, ProgramTree, refusal_of_declarations, table, unless}
+use Rattle.ss_names_laws.proofs.Common.{broken_by, broken_in, Declaration, declarations, Declared, given_by, Line, NameBytes, option_or, ProgramTree, refusal_of_declarations, table, unless, value_for}
 use Rattle.ss_tables_rules.specs.declared.error.TableError.{TableError}
 use Rattle.ss_names_laws.proofs.Each.{every_piece}
 use Rattle.ss_names_laws.proofs.Items.{at_item}
 use Rattle.ss_names_laws.proofs.Kept.{none_broken}
+use Rattle.ss_names_laws.proofs.NameTable.{value_among}
 
 pub holds_unless : {E : Type 0} (b : Bool) (breach : E) → unless b breach ≡ None → b ≡ true
 holds_unless true breach h = refl
@@ -35,3 +36,8 @@ pub every_given : (p : ProgramTree) → refusal_of_declarations p ≡ None → {
 every_given p kept P f rule =
     every_piece P (λ (x : Declaration). f x.what) (declarations p)
     (λ x a. rule x.line x.what (at_item (λ (y : Declaration). broken_by (table p) y ≡ None) (declarations p) x (none_broken p kept) a))
+
+-- and of their entries the one for a name
+pub given_so : (p : ProgramTree) → refusal_of_declarations p ≡ None → {V : Type 0} (P : NameBytes × V → Type 0) (f : Declared → List (NameBytes × V)) →
+    ((line : Line) (w : Declared) → broken_in (table p) line w ≡ None → Every P (f w)) → (name : NameBytes) (v : V) → value_for (given_by f (declarations p)) name ≡ Some v → P (name, v)
+given_so p kept P f rule name v is = at_item P (given_by f (declarations p)) (name, v) (every_given p kept P f rule) (value_among (given_by f (declarations p)) name v is)
