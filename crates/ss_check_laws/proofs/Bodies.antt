@@ -7,7 +7,8 @@ use Rattle.ss_tree.specs.declared.statement.FindOutcome.TheVariants as outcomes
 use Rattle.ss_names_uses.specs.Uses as uses
 use Rattle.ss_names_meaning.specs.Statements.{find_by, statement, statements}
 use Rattle.ss_check_laws.proofs.Steps.{GoesWell, two_parts, three_parts, after, after_one, after_two}
-use Rattle.ss_check_laws.proofs.Parts.{conditions_resolve, heads_resolve}
+use Rattle.ss_check_laws.proofs.Conditions.{conditions_resolve}
+use Rattle.ss_check_laws.proofs.Heads.{heads_resolve}
 use Rattle.ss_check_laws.proofs.Statements.{alone_resolves, over_head}
 
 in_row_of : (ts : List StatementTree) → uses.in_row (statement_row ts) ≡ uses.in_body ts

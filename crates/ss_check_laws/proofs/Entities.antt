@@ -18,8 +18,8 @@ use Rattle.ss_names_meaning.specs.Statements.{entity_called, new_place, position
 use Rattle.ss_names_laws.proofs.Results.{held}
 use Rattle.ss_check_laws.proofs.Steps.{GoesWell, two_parts, three_parts, after, after_one, after_two}
 use Rattle.ss_check_laws.proofs.Expressions.{number_kept}
-use Rattle.ss_check_laws.proofs.Classes.{permanent_kind}
-use Rattle.ss_check_laws.proofs.Parts.{classes_resolve, sets_resolve}
+use Rattle.ss_check_laws.proofs.Classes.{classes_resolve, permanent_kind}
+use Rattle.ss_check_laws.proofs.Targets.{sets_resolve}
 use Rattle.ss_check_laws.proofs.Values.{takes_number}
 
 -- ---- kinds

@@ -8,7 +8,6 @@ mod Items
 mod Classes
 mod Conditions
 mod Heads
-mod Parts
 mod Lists
 mod Values
 mod Entities

@@ -15,7 +15,8 @@ use Rattle.ss_names_meaning.specs.Statements.{restart, simple_statement, when}
 use Rattle.ss_check_laws.proofs.Steps.{GoesWell, each_resolves, three_parts, after, after_one}
 use Rattle.ss_check_laws.proofs.Expressions.{number_kept}
 use Rattle.ss_check_laws.proofs.Lists.{holds, in_order}
-use Rattle.ss_check_laws.proofs.Parts.{classes_resolve, restarts_resolve}
+use Rattle.ss_check_laws.proofs.Classes.{classes_resolve}
+use Rattle.ss_check_laws.proofs.Targets.{restarts_resolve}
 use Rattle.ss_check_laws.proofs.Values.{value_resolves}
 use Rattle.ss_check_laws.proofs.Entities.{class_is, new_resolves, old_resolves}
 

@@ -8,7 +8,7 @@ use Rattle.ss_check_rules.specs.declared.error.CheckError.TheVariants as errors
 use Rattle.ss_names_meaning.specs.Statements.{simple_statement}
 use Rattle.ss_check_laws.proofs.Steps.{after_one, GoesWell, two_parts}
 use Rattle.ss_check_laws.proofs.Lists.{in_order}
-use Rattle.ss_check_laws.proofs.Parts.{items_resolve}
+use Rattle.ss_check_laws.proofs.Items.{items_resolve}
 
 turned : {A B : Type 0} (Q : A → B → Type 0) (xs : List A) (ys : List B) → AllZip Q xs ys → AllZip (λ y x. Q x y) ys xs
 turned Q [] [] h = tt

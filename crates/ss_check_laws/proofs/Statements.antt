@@ -13,7 +13,7 @@ use Rattle.ss_check_rules.specs.declared.error.CheckError.TheVariants as errors
 use Rattle.ss_names_meaning.specs.Statements.{simple_statement, statement}
 use Rattle.ss_check_laws.proofs.Steps.{after_one, after_two, GoesWell}
 use Rattle.ss_check_laws.proofs.Expressions.{number_kept}
-use Rattle.ss_check_laws.proofs.Parts.{heads_resolve}
+use Rattle.ss_check_laws.proofs.Heads.{heads_resolve}
 use Rattle.ss_check_laws.proofs.Values.{call_resolves, change_resolves, let_resolves, read_resolves}
 use Rattle.ss_check_laws.proofs.Entities.{create_every_resolves, create_resolves, destroy_resolves, file_resolves, remove_end_resolves, remove_resolves}
 use Rattle.ss_check_laws.proofs.Notices.{cancel_resolves, reset_resolves, schedule_new_resolves, schedule_resolves}

@@ -18,9 +18,9 @@ use Rattle.ss_names.specs.declared.meaning.Meaning.TheVariants as meanings
 use Rattle.ss_check_rules.specs.declared.error.CheckError.TheVariants as errors
 use Rattle.ss_names_meaning.specs.Statements.{reader, routine_number, simple_statement}
 use Rattle.ss_check_laws.proofs.Steps.{GoesWell, agree, each_resolves, two_parts, after, after_one, after_two}
-use Rattle.ss_check_laws.proofs.Expressions.{number_kept}
+use Rattle.ss_check_laws.proofs.Expressions.{expressions_resolve, number_kept}
 use Rattle.ss_check_laws.proofs.Lists.{after_first, holds, in_order}
-use Rattle.ss_check_laws.proofs.Parts.{expressions_resolve, targets_resolve}
+use Rattle.ss_check_laws.proofs.Targets.{targets_resolve}
 
 -- ---- routines
 
