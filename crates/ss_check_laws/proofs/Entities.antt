@@ -5,7 +5,7 @@ use Rattle.ss_check_laws.proofs.Common.{AreValid, ClassKind, ClassNeed, CountedC
 use Rattle.ss_names_meaning.specs.Classes.{class_named, variable_named, class_number, count_of, counted}
 use Rattle.ss_program.specs.Program.{Fetch, ToVariable, ByDiscipline, AsFirst, AsLast}
 use Rattle.ss_program.specs.WellTyped.{CanTakeMode, HasMode, IsTypedStatement, TypedScope as Place, IsTypedPosition, is_created_singly}
-use Rattle.ss_tree.specs.Tree.{create_every, create_statement, destroy_statement, ExpressionTree, file_statement, NamedTree, remove_end, remove_statement, PositionTree, by_discipline, at_first, at_last, before, after as after_member}
+use Rattle.ss_tree.specs.Tree.{ExpressionTree, file_statement, NamedTree, remove_end, remove_statement, PositionTree, by_discipline, at_first, at_last, before, after as after_member}
 use Rattle.ss_base.specs.declared.layout.ClassKind.TheVariants as kinds
 use Rattle.ss_base.specs.declared.words.End.{End}
 use Rattle.ss_names_uses.specs.declared.used.ClassNeed.TheVariants as needs
@@ -25,7 +25,7 @@ use Rattle.ss_check_laws.proofs.Values.{takes_number}
 -- ---- kinds
 
 -- a class whose entities come one by one
-single_kind : (kind : ClassKind) → is_kind needs.Single kind ≡ true → is_created_singly (Some kind) ≡ true
+pub single_kind : (kind : ClassKind) → is_kind needs.Single kind ≡ true → is_created_singly (Some kind) ≡ true
 single_kind kinds.Permanent h = h
 single_kind _ h = h
 
@@ -65,19 +65,7 @@ module _ (s : Scope) (g : Place) (linked : IsLinked s g) (line : Line) where
   old_resolves need name None c k = (Fetch c.0.variable, refl, (c.5 refl).0)
   old_resolves need name (Some e) c k = number_kept s g linked line e k
 
-  -- ---- CREATE and DESTROY
-
-  pub create_resolves : (name : NameBytes) (called : Option NamedTree) → AreValid s g.is_main (uses.in_new line needs.Single name called) → GoesWell (IsTypedStatement g) (simple_statement s (create_statement line name called))
-  unfolding simple_statement
-  create_resolves name called k =
-      let c = classes_resolve s g linked line needs.Single name (is_some called) (k.0, tt) in
-      after (IsTypedStatement g) _ _ c.0 c.2 (after_one (IsTypedStatement g) _ _ (new_resolves needs.Single name called c k.1) (λ x h. (ap is_created_singly c.3 ∙ single_kind c.1 c.4, h)))
-
-  pub destroy_resolves : (name : NameBytes) (called : Option ExpressionTree) → AreValid s g.is_main (uses.in_old line needs.Single name called) → GoesWell (IsTypedStatement g) (simple_statement s (destroy_statement line name called))
-  unfolding simple_statement
-  destroy_resolves name called k =
-      let c = classes_resolve s g linked line needs.Single name (is_some called) (k.0, tt) in
-      after (IsTypedStatement g) _ _ c.0 c.2 (after_one (IsTypedStatement g) _ _ (old_resolves needs.Single name called c k.1) (λ x h. (ap is_created_singly c.3 ∙ single_kind c.1 c.4, h)))
+  -- ---- CREATE EVERY
 
   counted_there : (name : NameBytes) → use_breaks s g.is_main (uses.class_used line needs.Permanent name true) ≡ None → GoesWell (Contains g.program.counts) (counted s name)
   counted_there name k =
@@ -89,15 +77,11 @@ module _ (s : Scope) (g : Place) (linked : IsLinked s g) (line : Line) where
       let meant = linked.table.meanings (count_name name) (meanings.Count count.0) count.1 in
       (count.0, ap count_of count.1, subst (λ (all : List CountedClass). Contains all count.0) (sym linked.counts) meant.0)
 
-  all_counted : (names : List NameBytes) → AreValid s g.is_main (map (λ (name : NameBytes). uses.class_used line needs.Permanent name true) names) → GoesWell (Every (Contains g.program.counts)) (each (counted s) names)
+  pub all_counted : (names : List NameBytes) → AreValid s g.is_main (map (λ (name : NameBytes). uses.class_used line needs.Permanent name true) names) → GoesWell (Every (Contains g.program.counts)) (each (counted s) names)
   unfolding each
   all_counted [] k = ([], refl, tt)
   all_counted (name ∷ names) k =
       after_two (Every (Contains g.program.counts)) _ _ _ (counted_there name k.0) (all_counted names k.1) (λ y ys h hs. (h, hs))
-
-  pub create_every_resolves : (names : List NameBytes) → AreValid s g.is_main (map (λ (name : NameBytes). uses.class_used line needs.Permanent name true) names) → GoesWell (IsTypedStatement g) (simple_statement s (create_every line names))
-  unfolding simple_statement
-  create_every_resolves names k = after_one (IsTypedStatement g) _ _ (all_counted names k) (λ ys h. h)
 
   -- ---- FILE and REMOVE
 

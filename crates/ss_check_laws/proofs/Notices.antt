@@ -1,26 +1,24 @@
 -- SCHEDULE, CANCEL and RESET.
-use Rattle.std.proofs.Common.{◌≡◌, ℕ, ◌<◌, ◌≤◌, Bool, true, false, List, ◌++◌, length, get_or, take, Option, Some, None, is_some, nat_le, option_map, [], refl, sym, ap, subst, arith, ◌∙◌, le-leb, leb-true}
-use Rattle.ss_check_laws.proofs.Common.{AreValid, at_time, attribute_mode, cancel_statement, ClassKind, each_at, each_length, expression, ExpressionTree, holds_unless, in_units, is_kind, IsLinked, IsResolvedClass, Line, Mode, mode_of_attribute, NameBytes, NamedClass, NamedTree, now, option_and_then, option_map_or, place_in, PlainClass, PlainLayout, reset_statement, schedule_new, schedule_statement, Scope, slice_get, slice_get_within, Table, there, unless, WhenTree}
+use Rattle.std.proofs.Common.{◌≡◌, ℕ, ◌<◌, ◌≤◌, Bool, true, List, ◌++◌, length, get_or, take, Option, Some, None, is_some, nat_le, option_map, [], refl, sym, ap, subst, arith, ◌∙◌, le-leb, leb-true}
+use Rattle.ss_check_laws.proofs.Common.{AreValid, at_time, attribute_mode, ClassKind, each_at, each_length, expression, ExpressionTree, holds_unless, in_units, is_kind, IsLinked, IsResolvedClass, Line, Mode, mode_of_attribute, NameBytes, NamedClass, NamedTree, now, option_and_then, option_map_or, place_in, PlainClass, PlainLayout, schedule_new, schedule_statement, Scope, slice_get, slice_get_within, Table, there, unless, WhenTree}
 use Rattle.ss_names_meaning.specs.Answers.{each, where_holds, ◌>>=◌}
-use Rattle.ss_program.specs.Program.{Expression, Statement, Now, When, Restart, ScheduleNew, Schedule}
-use Rattle.ss_program.specs.WellTyped.{HasMode, IsTypedStatement, TypedScope as Place, HaveModes, IsTypedWhen, AreTypedGiven, IsTypedRestart}
+use Rattle.ss_program.specs.Program.{Expression, Statement, Now, When, ScheduleNew, Schedule}
+use Rattle.ss_program.specs.WellTyped.{HasMode, IsTypedStatement, TypedScope as Place, HaveModes, IsTypedWhen, AreTypedGiven}
 use Rattle.ss_base.specs.declared.layout.ClassKind.TheVariants as kinds
 use Rattle.ss_names_uses.specs.declared.used.ClassNeed.TheVariants as needs
 use Rattle.ss_names_uses.specs.declared.used.ModeOf.TheVariants as modes
-use Rattle.ss_names_uses.specs.declared.used.Role.TheVariants as roles
 use Rattle.ss_names_uses.specs.Uses as uses
 use Rattle.ss_names.specs.declared.meaning.Meaning.TheVariants as meanings
 use Rattle.ss_check_rules.specs.declared.error.CheckError.TheVariants as errors
-use Rattle.ss_names_meaning.specs.Statements.{restart, simple_statement, when}
-use Rattle.ss_check_laws.proofs.Steps.{GoesWell, each_resolves, three_parts, after, after_one}
+use Rattle.ss_names_meaning.specs.Statements.{simple_statement, when}
+use Rattle.ss_check_laws.proofs.Steps.{GoesWell, three_parts, after, after_one}
 use Rattle.ss_check_laws.proofs.Expressions.{number_kept}
 use Rattle.ss_check_laws.proofs.Lists.{holds, in_order}
 use Rattle.ss_check_laws.proofs.Classes.{classes_resolve}
-use Rattle.ss_check_laws.proofs.Targets.{restarts_resolve}
 use Rattle.ss_check_laws.proofs.Values.{value_resolves}
 use Rattle.ss_check_laws.proofs.Entities.{class_is, new_resolves, old_resolves}
 
-notice_kind : (kind : ClassKind) → is_kind needs.Notice kind ≡ true → kind ≡ kinds.Notice
+pub notice_kind : (kind : ClassKind) → is_kind needs.Notice kind ≡ true → kind ≡ kinds.Notice
 notice_kind kinds.Notice h = refl
 notice_kind _ h = absurd cc
 
@@ -103,14 +101,3 @@ module _ (s : Scope) (g : Place) (linked : IsLinked s g) (line : Line) where
       let x = old_resolves s g linked line needs.Notice name called c p.0.1 in
       after (IsTypedStatement g) _ _ c.0 c.2 (after (IsTypedStatement g) _ _ x.0 x.1
       (scheduled name (is_some called) c given time (λ xs due. Schedule line c.0.class x.0 xs due) p.1 p.2 (λ xs due h f. (h, x.2, f))))
-
-  pub cancel_resolves : (name : NameBytes) (called : Option ExpressionTree) → AreValid s g.is_main (uses.in_old line needs.Notice name called) → GoesWell (IsTypedStatement g) (simple_statement s (cancel_statement line name called))
-  unfolding simple_statement
-  cancel_resolves name called k =
-      let c = classes_resolve s g linked line needs.Notice name (is_some called) (k.0, tt) in
-      after (IsTypedStatement g) _ _ c.0 c.2 (after_one (IsTypedStatement g) _ _ (old_resolves s g linked line needs.Notice name called c k.1) (λ x h. (c.3 ∙ ap Some (notice_kind c.1 c.4), h)))
-
-  pub reset_resolves : (ns : List NamedTree) → AreValid s g.is_main (uses.in_all_named line roles.Reset ns) → GoesWell (IsTypedStatement g) (simple_statement s (reset_statement line ns))
-  unfolding simple_statement
-  reset_resolves ns k =
-      after_one (IsTypedStatement g) _ _ (each_resolves s g.is_main (restart s) (uses.in_named line roles.Reset false) (λ (r : Restart). IsTypedRestart g r.statistic r.of) (restarts_resolve s g linked line) ns k) (λ xs h. h)

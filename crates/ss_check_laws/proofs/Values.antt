@@ -1,7 +1,7 @@
 -- Values and targets of the modes that their places want: LET, ADD, SUBTRACT, READ and CALL.
 use Rattle.std.proofs.Common.{◌≡◌, ℕ, ◌+◌, ◌<◌, true, false, List, ◌++◌, length, take, drop, Option, Some, None, refl, sym, ap, subst, arith, ◌∙◌, length-drop, eq-eqb, eqb-true}
 use Rattle.std.specs.Prelude.{◌&&◌, ◌==◌, option_and_then, slice_get}
-use Rattle.ss_check_laws.proofs.Common.{AllZip, call_statement, CheckError, each_length, expression, ExpressionTree, goes, holds_unless, Integer, let_statement, Line, local_modes, Meaning, Mode, mode_of_use, Moded, NameBytes, NamedTree, option_map_or, read_statement, RoutineSection, slice_get_within, target, unless, value_for, values_of}
+use Rattle.ss_check_laws.proofs.Common.{AllZip, call_statement, CheckError, each_length, expression, ExpressionTree, goes, holds_unless, Integer, let_statement, Line, local_modes, Meaning, Mode, mode_of_use, Moded, NameBytes, NamedTree, option_map_or, RoutineSection, slice_get_within, target, unless, value_for, values_of}
 use Rattle.ss_check_laws.specs.Links.{AreValid, IsLinked, IsRoutineAt}
 use Rattle.ss_check_rules.specs.Kinds.{if_means, is_routine}
 use Rattle.ss_names_laws.proofs.Steps.{numbers_at, upto_length}
@@ -17,7 +17,7 @@ use Rattle.ss_names_uses.specs.Uses as uses
 use Rattle.ss_names.specs.declared.meaning.Meaning.TheVariants as meanings
 use Rattle.ss_check_rules.specs.declared.error.CheckError.TheVariants as errors
 use Rattle.ss_names_meaning.specs.Statements.{reader, routine_number, simple_statement}
-use Rattle.ss_check_laws.proofs.Steps.{GoesWell, agree, each_resolves, two_parts, after, after_one, after_two}
+use Rattle.ss_check_laws.proofs.Steps.{GoesWell, agree, two_parts, after, after_two}
 use Rattle.ss_check_laws.proofs.Expressions.{expressions_resolve, number_kept}
 use Rattle.ss_check_laws.proofs.Lists.{after_first, holds, in_order}
 use Rattle.ss_check_laws.proofs.Targets.{targets_resolve}
@@ -80,15 +80,10 @@ module _ (s : Scope) (g : Place) (linked : IsLinked s g) (line : Line) where
       let p = two_parts s g.is_main (uses.in_expression line true e) (uses.in_named line roles.Target true n) k in
       after_two (IsTypedStatement g) _ _ _ (number_kept s g linked line e p.0) (takes_number n p.1) (λ v x h f. (f, h))
 
-  reader_resolves : (n : NamedTree) → AreValid s g.is_main (uses.in_named line roles.Target false n) → GoesWell (λ (x : InputTarget). CanTakeMode g x.place x.mode) (reader s n)
+  pub reader_resolves : (n : NamedTree) → AreValid s g.is_main (uses.in_named line roles.Target false n) → GoesWell (λ (x : InputTarget). CanTakeMode g x.place x.mode) (reader s n)
   reader_resolves n k =
       let x = targets_resolve s g linked line false n k in
       (record { place = x.0; mode = x.1 }, x.6, x.3)
-
-  pub read_resolves : (ns : List NamedTree) → AreValid s g.is_main (uses.in_all_named line roles.Target ns) → GoesWell (IsTypedStatement g) (simple_statement s (read_statement line ns))
-  unfolding simple_statement
-  read_resolves ns k =
-      after_one (IsTypedStatement g) _ _ (each_resolves s g.is_main (reader s) (uses.in_named line roles.Target false) (λ (x : InputTarget). CanTakeMode g x.place x.mode) reader_resolves ns k) (λ xs h. h)
 
   pub call_resolves : (name : NameBytes) (given : List ExpressionTree) (yielding : List NamedTree) → AreValid s g.is_main (uses.in_call line name given yielding) →
       GoesWell (IsTypedStatement g) (simple_statement s (call_statement line name given yielding))
