@@ -3,8 +3,8 @@ use Rattle.std.proofs.Common.{◌≡◌, ℕ, zero, suc, ◌+◌, Bool, true, fa
 use Rattle.std.specs.Prelude.{◌==◌, nat_le, slice_get, if◌then◌else◌}
 use Rattle.std.specs.List.{AllByRecursion as Every, flat_map}
 use Rattle.ss_names_laws.proofs.Common.{Line, NameBytes, Role, Use, Used}
-use Rattle.ss_names_uses.specs.Uses.{in_body, in_places, as_mean, fields_of_pictures, in_call, in_condition, in_expression, in_field, in_given, in_guard, in_head, in_inner, in_item, in_item_at, in_items, in_itself, in_loop_head, in_named, in_new, in_numbers, in_old, in_option, in_phrase, in_position, in_row, in_start, in_statement, in_target, in_terms, in_test, in_value, in_when, loop_variable, expression_tree_mode, of_fit, of_text, with_decimals}
-use Rattle.ss_tree.specs.Tree.{ExpressionTree, number, text, named, call, parenthesised, product, signed, sum, ExpressionRow, no_expression, and_expression, TermRow, no_term, and_term, NamedTree, TestTree, compare, empty, member, data_ended, ConditionTree, PhraseTree, GuardTree, StartTree, from_end, from_member, after_member, HeadTree, over_range, over_members, over_class, LoopHeadTree, for_head, guarded, PositionTree, before, after, WhenTree, at_time, in_units, now, StatementTree, let_statement, add_statement, subtract_statement, call_statement, read_statement, start_simulation, if_statement, loop_statement, find_statement, find_if_statement, create_statement, create_every, destroy_statement, file_statement, remove_end, remove_statement, schedule_new, schedule_statement, cancel_statement, reset_statement, print_statement, skip_statement, StatementRow, no_statement, and_statement}
+use Rattle.ss_names_uses.specs.Uses.{in_body, in_places, as_mean, fields_of_pictures, in_call, in_condition, in_expression, in_field, in_given, in_guard, in_head, in_inner, in_item, in_item_at, in_itself, in_named, in_new, in_numbers, in_old, in_option, in_phrase, in_position, in_row, in_start, in_statement, in_target, in_terms, in_test, in_value, in_when, loop_variable, expression_tree_mode, of_fit, of_text, with_decimals}
+use Rattle.ss_tree.specs.Tree.{ExpressionTree, number, text, named, call, parenthesised, product, signed, sum, ExpressionRow, no_expression, and_expression, TermRow, no_term, and_term, NamedTree, TestTree, compare, empty, member, data_ended, ConditionTree, PhraseTree, GuardTree, StartTree, from_end, from_member, after_member, HeadTree, over_range, over_members, over_class, for_head, guarded, PositionTree, before, after, WhenTree, at_time, in_units, now, StatementTree, let_statement, add_statement, subtract_statement, call_statement, read_statement, start_simulation, if_statement, loop_statement, find_statement, find_if_statement, create_statement, create_every, destroy_statement, file_statement, remove_end, remove_statement, schedule_new, schedule_statement, cancel_statement, reset_statement, print_statement, skip_statement, StatementRow, no_statement, and_statement}
 use Rattle.ss_names_uses.specs.declared.used.ModeOf.{ModeOf}
 use Rattle.ss_names_uses.specs.declared.used.ModeOf.TheVariants as modes
 use Rattle.ss_names_uses.specs.declared.used.Role.TheVariants as roles
@@ -114,10 +114,6 @@ module _ (line : Line) where
   head (over_class class called ps) =
       record { each = (refl, (both (option (loop_variable line) called looped) (phrases ps)).each) }
 
-  loop_head : (h : LoopHeadTree) → Silent (in_loop_head line h)
-  loop_head (for_head h) = head h
-  loop_head (guarded guards) = pieces (in_guard line) guards (λ (g : GuardTree). condition g.condition)
-
   -- ---- parts of statements
 
   position : (p : PositionTree) → Silent (in_position line p)
@@ -168,10 +164,6 @@ module _ (line : Line) where
   fit true = nothing
   fit false = record { each = (refl, tt) }
 
-  printed : (items : List ExpressionTree) (pictures : List (List ℕ)) → Silent (in_items line items (fields_of_pictures pictures))
-  printed items pictures =
-      both (fit (length items == length (fields_of_pictures pictures))) (places (in_item_at line (fields_of_pictures pictures)) 0 items (item_at pictures))
-
 -- ---- statements
 
 every_class : (line : Line) (classes : List NameBytes) → Silent (in_itself (create_every line classes))
@@ -186,7 +178,8 @@ itself (call_statement line name given yielding) = called_with line name given y
 itself (read_statement line targets) = pieces (in_named line roles.Target false) targets (place_named line roles.Target false)
 itself (start_simulation line) = record { each = (refl, tt) }
 itself (if_statement line c first second) = condition line c
-itself (loop_statement line h body) = loop_head line h
+itself (loop_statement line (for_head h) body) = head line h
+itself (loop_statement line (guarded guards) body) = pieces (in_guard line) guards (λ (g : GuardTree). condition line g.condition)
 itself (find_statement line h) = head line h
 itself (find_if_statement line h outcome first second) = head line h
 itself (create_statement line class called) = new line Single class called
@@ -199,7 +192,8 @@ itself (schedule_new line class called given t) = both (both (new line Notice cl
 itself (schedule_statement line class called given t) = both (both (old line Notice class called) (given_to line class given)) (when line t)
 itself (cancel_statement line class called) = old line Notice class called
 itself (reset_statement line targets) = pieces (in_named line roles.Reset false) targets (place_named line roles.Reset false)
-itself (print_statement line items pictures) = printed line items pictures
+itself (print_statement line items pictures) =
+    both (fit line (length items == length (fields_of_pictures pictures))) (places (in_item_at line (fields_of_pictures pictures)) 0 items (item_at line pictures))
 itself (skip_statement line lines) = expression line true lines
 itself _ = nothing
 

@@ -1,10 +1,11 @@
 -- A program that breaks no rule on declarations has a layout.
 use Rattle.std.proofs.Common.{◌≡◌, ℕ, ◌<◌, ◌≤◌, ◌&&◌, nat_eq, nat_le, nat_lt, Bool, true, List, [], ◌∷◌, ◌++◌, length, get_or, Option, Some, None, option_map, inl, inr, refl, sym, ap, subst, arith}
-use Rattle.ss_names_laws.proofs.Common.{Attribute, attribute_after, attribute_classes, attributes, attributes_after, attributes_of_class, class_layout, classes, ClassKind, declarations, each, fields, get_or-map-range_with_len, layout, Mode, mode_of_attribute, mode_of_name, NameBytes, Owner, PlainClass, PlainLayout, ProgramTree, refusal_of_declarations, Set, set_layout, set_names, set_of, SetLayout, slice_get, Table, table, there, upto, value_at, value_for, values_of}
+use Rattle.ss_names_laws.proofs.Common.{Attribute, attribute_after, attribute_classes, attributes, attributes_after, class_layout, classes, ClassKind, declarations, each, fields, layout, Mode, mode_of_attribute, mode_of_name, NameBytes, Owner, PlainClass, PlainLayout, ProgramTree, refusal_of_declarations, Set, set_layout, set_names, set_of, SetLayout, slice_get, Table, table, there, upto, value_at, value_for, values_of}
 use Rattle.std.specs.List.{AllByRecursion as Every, filter, list_all}
 use Rattle.std.proofs.lemmas.Bool.{and_from, cond-true, le-leb}
 use Rattle.ss_base.specs.Layout.{is_layout, is_narrow, is_sound, names_classes, owns_among}
 use Rattle.ss_names_laws.specs.Laws.{LayoutsAreThere}
+use Rattle.ss_names_laws.proofs.Attributes.{row_of}
 use Rattle.ss_names_laws.proofs.Each.{every_image, every_passed}
 use Rattle.ss_names_laws.proofs.NameTable.{has_value}
 use Rattle.ss_names_laws.proofs.Items.{Among, at_item, each_item}
@@ -34,15 +35,10 @@ row_known p class lt =
     let P = λ (e : NameBytes × ℕ). IsKnown (table p) e.0 in
     let all = each_item P owned (λ e a. let entry = entry_after (mode_of_name ds) [] owned e a in has_value (attributes ds) e.0 entry.0 entry.1) in
     let own = every_passed P P of_class (λ e h is. h) owned all in
-    let row : get_or (fields ds) class [] ≡ attributes_of_class owned class = get_or-map-range_with_len (attributes_of_class owned) 0 (length (classes ds)) class class [] lt (omega arith) in
-    subst (Every (IsKnown (table p))) (sym row) (every_image (IsKnown (table p)) (λ (e : NameBytes × ℕ). e.0) (filter of_class owned) (λ e a. at_item P (filter of_class owned) e own a))
+    subst (Every (IsKnown (table p))) (sym (row_of ds class lt)) (every_image (IsKnown (table p)) (λ (e : NameBytes × ℕ). e.0) (filter of_class owned) (λ e a. at_item P (filter of_class owned) e own a))
 
 row_few : (p : ProgramTree) → refusal_of_declarations p ≡ None → (class : ℕ) → class < length (table p).classes → length (get_or (table p).fields class []) ≤ 64
-row_few p kept class lt =
-    let ds = declarations p in
-    let owned = attribute_classes ds in
-    let row : get_or (fields ds) class [] ≡ attributes_of_class owned class = get_or-map-range_with_len (attributes_of_class owned) 0 (length (classes ds)) class class [] lt (omega arith) in
-    subst (λ (names : List NameBytes). length names ≤ 64) (sym row) (few_attributes p kept class)
+row_few p kept class lt = subst (λ (names : List NameBytes). length names ≤ 64) (sym (row_of (declarations p) class lt)) (few_attributes p kept class)
 
 -- ---- what is laid out
 
