@@ -68,19 +68,16 @@ module _ (s : Scope) (g : Place) where
 
   one_argument : (es : ExpressionRow) → row_length es ≡ 1 → Numbers s g es → IsNumber (one s es)
   unfolding one
-  one_argument no_expression h n = absurd (omega (arith, h))
   one_argument (and_expression e no_expression) h n = n.0
-  one_argument (and_expression e (and_expression f es)) h n = absurd (omega (arith, h))
+  one_argument _ h n = absurd (omega (arith, h))
 
   abbrev ArePair : Expression × Expression → Type 0
   ArePair p = HasMode g p.0 Integer × HasMode g p.1 Integer
 
   two_arguments : (es : ExpressionRow) → row_length es ≡ 2 → Numbers s g es → GoesWell ArePair (two s es)
   unfolding two
-  two_arguments no_expression h n = absurd (omega (arith, h))
-  two_arguments (and_expression e no_expression) h n = absurd (omega (arith, h))
   two_arguments (and_expression e (and_expression f no_expression)) h n = after_two ArePair _ _ _ n.0 n.1.0 (λ x y i j. (i, j))
-  two_arguments (and_expression e (and_expression f (and_expression d es))) h n = absurd (omega (arith, h))
+  two_arguments _ h n = absurd (omega (arith, h))
 
   call_number : (f : Function) (es : ExpressionRow) → row_length es ≡ argument_count f → Numbers s g es → Number s g (call f es)
   unfolding expression
