@@ -51,6 +51,7 @@ shown_small m of = shown (value_small m of)
 pub place_small : (m : Meaning) (of : Option Expression) → Within place_nodes (1 + of_nodes m of) (place_of m of)
 place_small meanings.NoticeTime None = omega arith
 place_small _ None = omega arith
+place_small meanings.NoticeTime (Some e) = omega arith
 place_small _ (Some e) = omega arith
 
 owner_less : (of : Option Expression) → set_nodes (set_owner of) ≤ 1 + option_nodes subscript_nodes of

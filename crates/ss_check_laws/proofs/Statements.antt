@@ -1,5 +1,5 @@
 -- Heads of FOR and FIND, and statements without statements in them.
-use Rattle.std.proofs.Common.{List, Some, refl, ap, is_some, ◌∙◌}
+use Rattle.std.proofs.Common.{List, Some, refl, ap, is_some, ◌∙◌, false}
 use Rattle.std.specs.List.{AllByRecursion as Every}
 use Rattle.ss_base.specs.declared.words.Sign.TheVariants.{Plus, Minus}
 use Rattle.ss_check_laws.proofs.Common.{AreValid, holds_unless, IsLinked, IsResolvedForHead, Scope}
