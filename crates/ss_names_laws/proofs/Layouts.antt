@@ -1,6 +1,6 @@
 -- A program that breaks no rule on declarations has a layout.
 use Rattle.std.proofs.Common.{◌≡◌, ℕ, ◌<◌, ◌≤◌, ◌&&◌, nat_eq, nat_le, nat_lt, Bool, true, List, [], ◌∷◌, ◌++◌, length, get_or, Option, Some, None, option_map, inl, inr, refl, sym, ap, subst, arith}
-use Rattle.ss_names_laws.proofs.Common.{Attribute, attribute_after, attribute_classes, attributes, attributes_after, class_layout, classes, ClassKind, declarations, each, fields, layout, Mode, mode_of_attribute, mode_of_name, NameBytes, Owner, PlainClass, PlainLayout, ProgramTree, refusal_of_declarations, Set, set_layout, set_names, set_of, SetLayout, slice_get, Table, table, there, upto, value_at, value_for, values_of}
+use Rattle.ss_names_laws.proofs.Common.{Attribute, attribute_after, attribute_classes, attributes, attributes_after, class_layout, classes, ClassKind, declarations, each, layout, Mode, mode_of_attribute, mode_of_name, NameBytes, Owner, PlainClass, PlainLayout, ProgramTree, refusal_of_declarations, Set, set_layout, set_names, set_of, SetLayout, slice_get, Table, table, there, upto, value_at, value_for, values_of}
 use Rattle.std.specs.List.{AllByRecursion as Every, filter, list_all}
 use Rattle.std.proofs.lemmas.Bool.{and_from, cond-true, le-leb}
 use Rattle.ss_base.specs.Layout.{is_layout, is_narrow, is_sound, names_classes, owns_among}

@@ -2,7 +2,7 @@
 use Rattle.std.proofs.Common.{◌≡◌, ℕ, Bool, true, false, List, [], ◌++◌, length, map, Option, Some, None, option_and_then, refl, sym, ap, subst, ◌∙◌}
 use Rattle.std.specs.Prelude.{not, ◌&&◌, ◌==◌, is_none, is_some, slice_get}
 use Rattle.std.specs.List.{AllByRecursion as Every, flat_map}
-use Rattle.std.specs.Map.{lookup, values_of}
+use Rattle.std.specs.Map.{lookup}
 use Rattle.ss_names_laws.proofs.Common.{as_attribute, cond_some, Declaration, DefinitionTree, event, first_entries, firsts_once, flat_map_from, in_body, in_definition, in_kind, in_places, in_preamble_statement, in_section, in_section_head, Line, local_declaration, main, Meaning, Mode, NameBytes, option_or, parameter_declaration, place_in, ProgramTree, refusal_of_declarations, Role, routine, same_name, same_Some, SectionKindTree, SectionTree, Table, table, there, upto, Use, Used, uses, value_at, value_by_place, value_for, value_from_place}
 use Rattle.std.proofs.lemmas.Bool.{and_parts, cond-false}
 use Rattle.ss_names_scopes.specs.Locals.{locals_of, Moded, defined, is_local_place, may_be_variable, local_of, local_place, local_used, locals, moded_in}

@@ -1,6 +1,6 @@
 -- Each name of a program that breaks no rule on declarations means something that is there.
 use Rattle.std.proofs.Common.{◌≡◌, ℕ, ◌<◌, List, [], length, get_or, slice_get, Option, Some, None, option_map, inl, refl, sym, ap, subst, ◌∙◌, ◌≢◌, Contains}
-use Rattle.ss_names_laws.proofs.Common.{Attribute, class_layout, ClassKind, count_by, CountedClass, counts, declarations, each, firsts_once, Global, Integer, key_at, keys_of, length-map, Meaning, Mode, mode_of_attribute, mode_of_meaning, NameBytes, numbered, Permanent, place_from, place_in, PlainClass, ProgramTree, refusal_of_declarations, resolved_layout, resolved_statistic, ResolvedLayout, same_Some, set_layout, slice_get-map, slice_get_within, Statistic, statistics, Subject, subject_of, table, there, value_at, value_by_place, value_for, value_from_place, values_of}
+use Rattle.ss_names_laws.proofs.Common.{Attribute, class_layout, ClassKind, count_by, CountedClass, counts, declarations, each, firsts_once, Global, Integer, key_at, keys_of, length-map, Meaning, Mode, mode_of_attribute, mode_of_meaning, NameBytes, numbered, Permanent, place_from, place_in, PlainClass, ProgramTree, refusal_of_declarations, resolved_layout, resolved_statistic, ResolvedLayout, same_Some, set_layout, slice_get-map, slice_get_within, Statistic, Subject, subject_of, table, there, value_at, value_by_place, value_for, value_from_place, values_of}
 use Rattle.ss_names.specs.Entries.{class_by, classes, given_by, global_variables, set_names, set_of, routines, sets}
 use Rattle.std.specs.List.{AllByRecursion as Every}
 use Rattle.ss_names.specs.declared.meaning.Meaning.TheVariants as m

@@ -1,6 +1,6 @@
 -- The layout of a program that breaks no rule is there with all of its parts, and is well typed.
 use Rattle.std.proofs.Common.{◌≡◌, ◌≢◌, ℕ, ◌==◌, Bool, false, List, length, Option, Some, None, option_map, option_and_then, refl, sym, ap, subst, ◌∙◌}
-use Rattle.ss_names_laws.proofs.Common.{Attribute, classes, count_by, CountedClass, counts, declarations, declares, DefinedOrder, Discipline, discipline, disciplines, entry_of_key, eqb-true, given_by, Global, is_text, IsMeant, IsValidTable, keys_of, layout, Meaning, MemberCount, Mode, NameBytes, numbered, OfAttribute, OfCount, OfVariable, ordered, Permanent, PlainClass, PlainLayout, ProgramTree, rank_key, rank_keys, ranked_by, RankedBy, RankKey, refusal_of_uses, resolved_layout, resolved_statistic, ResolvedLayout, ruled, same_name, same_Some, Set, set_layout, SetLayout, SetRule, slice_get, slice_get-map, Statistic, statistics, Subject, subject_of, Table, table, tie_keys, tied_by, TiedBy, value_for, values_of}
+use Rattle.ss_names_laws.proofs.Common.{Attribute, count_by, CountedClass, counts, declarations, declares, DefinedOrder, Discipline, discipline, disciplines, entry_of_key, eqb-true, given_by, Global, is_text, IsMeant, IsValidTable, keys_of, layout, Meaning, MemberCount, Mode, NameBytes, numbered, OfAttribute, OfCount, OfVariable, ordered, Permanent, PlainClass, PlainLayout, ProgramTree, rank_key, rank_keys, ranked_by, RankedBy, RankKey, refusal_of_uses, resolved_layout, resolved_statistic, ResolvedLayout, ruled, same_name, same_Some, Set, set_layout, SetLayout, SetRule, slice_get, slice_get-map, Statistic, statistics, Subject, subject_of, Table, table, tie_keys, tied_by, TiedBy, value_for, values_of}
 use Rattle.std.specs.List.{AllZip, AllByRecursion as Every, filter}
 use Rattle.ss_base.specs.declared.layout.Mode.TheVariants.{Integer}
 use Rattle.ss_names_meaning.specs.Answers.{upto, where_holds}
