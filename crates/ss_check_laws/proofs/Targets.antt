@@ -1,5 +1,5 @@
 -- Targets, sets and subjects of a RESET whose uses break no rule resolve, and are well typed.
-use Rattle.std.proofs.Common.{◌≡◌, ℕ, true, false, Option, Some, None, refl, sym, ap, subst, ◌∙◌}
+use Rattle.std.proofs.Common.{◌≡◌, ℕ, true, false, Option, Some, None, refl, sym, ap, subst, ◌∙◌, rules}
 use Rattle.ss_check_laws.proofs.Common.{Designator, ExpressionRow, Global, goes, Integer, is_some, IsLinked, Line, Meaning, meaning_mode, MemberCount, Mode, none-some, not-false, owner_of_subject, place_breaks, place_in, row_length, Subject, subject_of, value_for}
 use Rattle.ss_check_rules.specs.Kinds.{has_value, is_set, takes_values}
 use Rattle.ss_names_meaning.specs.Expressions.{place_named, set_owner, place_of, set_number}
@@ -39,14 +39,10 @@ module _ (s : Scope) (g : Place) (k : IsLinked s g) where
 
   meant_place : (m : Meaning) (of : Option Expression) → IsHere s g k m → EntityFits s g m of → takes_values m ≡ true → HasPlace m of
   meant_place (meanings.Variable v mode) None i f h = (ToVariable v, mode, refl, refl, i)
-  meant_place (meanings.Variable v mode) (Some e) i f h = absurd f
   meant_place (meanings.Class class kind variable) None i f h = (ToVariable (Global variable), Integer, refl, refl, i.0)
-  meant_place (meanings.Class class kind variable) (Some e) i f h = absurd f
   meant_place (meanings.Count count) None i f h = (ToCount count, Integer, refl, refl, (refl, i.0))
-  meant_place (meanings.Count count) (Some e) i f h = absurd f
-  meant_place (meanings.Attribute class field mode) None i f h = absurd f
   meant_place (meanings.Attribute class field mode) (Some e) i f h = (ToAttribute class field e, mode, refl, refl, (i.0, f))
-  meant_place _ of i f h = absurd cc
+  meant_place _ _ i f h = absurd (search rules)
 
   -- ---- sets
 
