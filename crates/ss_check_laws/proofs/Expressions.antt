@@ -1,5 +1,5 @@
 -- Expressions whose uses break no rule resolve, and are well typed.
-use Rattle.std.proofs.Common.{◌≡◌, ℕ, Bool, true, false, List, Option, Some, None, refl, sym, ap, subst, ◌∙◌, arith}
+use Rattle.std.proofs.Common.{◌≡◌, ℕ, Bool, true, false, List, Option, Some, None, refl, sym, ap, subst, ◌∙◌, arith, rules}
 use Rattle.std.specs.Prelude.{◌==◌}
 use Rattle.ss_check_laws.proofs.Common.{Alpha, AreValid, Designator, eqb-true, false≢true, Global, goes, has_value, holds_unless, Integer, is_mean, IsLinked, Line, Meaning, meaning_mode, Mode, mode_of_meaning, mode_of_use, Multiply, none-some, One, place_use, row_length, Scope, Two, use_breaks}
 use Rattle.ss_names_meaning.specs.Expressions.{meaning_with_entity, subscript, expression, factors, one, resolved_operator, resolved_value, terms, two}
@@ -93,12 +93,8 @@ module _ (s : Scope) (g : Place) (k : IsLinked s g) where
   -- all but sets, routines and MEANs have a value
   pub meant_value : (m : Meaning) (of : Option Expression) → IsHere s g k m → EntityFits s g m of → has_value m ≡ true → is_mean m ≡ false → HasValue m of
   meant_value (meanings.Variable v mode) None i f h n = (Fetch v, mode, refl, refl, i.0)
-  meant_value (meanings.Variable v mode) (Some e) i f h n = absurd f
   meant_value (meanings.Class class kind variable) None i f h n = (Fetch (Global variable), Integer, refl, refl, i.0.0)
-  meant_value (meanings.Class class kind variable) (Some e) i f h n = absurd f
   meant_value (meanings.Count count) None i f h n = (Fetch (Global count.variable), Integer, refl, refl, i.1)
-  meant_value (meanings.Count count) (Some e) i f h n = absurd f
-  meant_value (meanings.Attribute class field mode) None i f h n = absurd f
   meant_value (meanings.Attribute class field mode) (Some e) i f h n = (Attribute class field e, mode, refl, refl, (i.0, f))
   meant_value (meanings.OfSet query set) None i f h n = (OfSystemSet query set, Integer, refl, refl, (refl, owner_fits s g k set i None f))
   meant_value (meanings.OfSet query set) (Some e) i f h n =
@@ -112,10 +108,8 @@ module _ (s : Scope) (g : Place) (k : IsLinked s g) where
       let p = named_statistic_fits s g k n i (Some e) f in
       (FigureOf fold n e, Integer, refl, refl, (refl, p.0, p.1))
   meant_value meanings.Clock None i f h n = (Clock, Integer, refl, refl, refl)
-  meant_value meanings.Clock (Some e) i f h n = absurd f
-  meant_value meanings.NoticeTime None i f h n = absurd f
   meant_value meanings.NoticeTime (Some e) i f h n = (TimeOf e, Integer, refl, refl, (refl, f))
-  meant_value _ of i f h n = absurd cc
+  meant_value _ _ i f h n = absurd (search rules)
 
   module _ (line : Line) where
     named_resolves : (b : Bool) (d : Designator) (es : ExpressionRow) → use_breaks s g.is_main (place_use line roles.Value b d (row_length es)) ≡ None → Numbers s g es → IsResolved s g b (named d es)

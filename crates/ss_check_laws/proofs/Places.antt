@@ -175,9 +175,8 @@ module _ (s : Scope) (g : Place) (k : IsLinked s g) where
     where
       by : (o : Owner) (of : Option Expression) → owner_in_program g.program set ≡ Some o → OwnerHas s g o of → IsTypedOwner g set (set_owner of)
       by owners.System None e f = e
-      by owners.System (Some x) e f = absurd f
-      by (owners.Class class) None e f = absurd f
       by (owners.Class class) (Some x) e f = ((class, e), f)
+      by _ _ e f = absurd f
 
   abbrev SubjectFits : Subject → Option Expression → Type 0
   SubjectFits p None = IsAlone g.program p
@@ -185,11 +184,10 @@ module _ (s : Scope) (g : Place) (k : IsLinked s g) where
 
   subject_fits : (p : Subject) (of : Option Expression) → IsSubjectHere s g k p → OwnerHas s g (owner_of_subject s.table (Some p)) of → SubjectFits p of
   subject_fits (subjects.OfVariable n) None i f = tt
-  subject_fits (subjects.OfVariable n) (Some e) i f = absurd f
-  subject_fits (subjects.OfAttribute class field) None i f = absurd f
   subject_fits (subjects.OfAttribute class field) (Some e) i f = (tt, f)
   subject_fits (subjects.OfCount set) None i f = owner_fits set i None f
   subject_fits (subjects.OfCount set) (Some e) i f = owner_fits set i (Some e) f
+  subject_fits _ _ i f = absurd f
 
   -- a statistic is that of one thing or, with an entity, of each
   pub statistic_fits : (n : ℕ) (x : Statistic) (of : Option Expression) → slice_get g.program.statistics n ≡ Some x → IsSubjectHere s g k x.subject →
