@@ -11,9 +11,8 @@ use Rattle.ss_check_laws.proofs.Items.{items_resolve}
 
 turned : {A B : Type 0} (Q : A → B → Type 0) (xs : List A) (ys : List B) → AllZip Q xs ys → AllZip (λ y x. Q x y) ys xs
 turned Q [] [] h = tt
-turned Q [] (y ∷ ys) h = absurd h
-turned Q (x ∷ xs) [] h = absurd h
 turned Q (x ∷ xs) (y ∷ ys) h = (h.0, turned Q xs ys h.1)
+turned Q _ _ h = absurd h
 
 fits : (s : Scope) (in_main : Bool) (line : Line) (b : Bool) → AreValid s in_main (uses.of_fit line b) → b ≡ true
 fits s in_main line true k = refl

@@ -9,7 +9,7 @@ use Rattle.ss_names_scopes.specs.Locals.{locals_of, Moded, defined, is_local_pla
 use Rattle.ss_tables_rules.specs.Rules.{broken_by, has_no_mode, is_real, lacks_mode, may_be_hidden, unmoded_in, unmoded_use}
 use Rattle.ss_tree.specs.declared.expression.Designator.{Designator}
 use Rattle.ss_tree.specs.declared.expression.Designator.TheVariants as designators
-use Rattle.ss_names_uses.specs.declared.used.Used.TheVariants.{Parameter, Local, Place}
+use Rattle.ss_names_uses.specs.declared.used.Used.TheVariants.{Place}
 use Rattle.ss_names_uses.specs.Uses as used
 use Rattle.ss_tables_rules.specs.declared.error.TableError.TheVariants as errors
 use Rattle.ss_names_scopes.specs.Scopes.{local_mode}
@@ -60,12 +60,9 @@ module _ (p : ProgramTree) where
       let meant : Option Meaning = value_for (table p).meanings n in
       let found = cond_some (is_local_place (table p) role n subscripts) n name h in
       subst IsHidable found.1 (nothing_hidden meant (and_parts (may_be_variable role && (subscripts == 0)) (is_none meant) found.0).1)
-  of_place role designators.TimeV subscripts name h = absurd cc
-  of_place role designators.TimeA subscripts name h = absurd cc
+  of_place role _ subscripts name h = absurd cc
 
   of_silent : (w : Used) → declares_local w ≡ false → (name : NameBytes) → local_of (table p) w ≡ Some name → IsHidable name
-  of_silent (Parameter n) h name g = absurd cc
-  of_silent (Local n mode) h name g = absurd cc
   of_silent (Place role place subscripts is_number) h name g = of_place role place subscripts name g
   of_silent _ h name g = absurd cc
 

@@ -10,9 +10,8 @@ got None f y e = absurd cc
 got (Some x) f y e = (x, refl, e)
 
 pub got_two : {A B C : Type 0} (o : Option A) (p : Option B) (f : A → B → C) (z : C) → of_two o p f ≡ Some z → (a : A) × (b : B) × (o ≡ Some a) × (p ≡ Some b) × (f a b ≡ z)
-got_two None p f z e = absurd cc
-got_two (Some a) None f z e = absurd cc
 got_two (Some a) (Some b) f z e = (a, b, refl, refl, same_Some (f a b) z e)
+got_two _ _ f z e = absurd cc
 
 -- ---- options
 
