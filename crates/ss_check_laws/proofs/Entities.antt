@@ -1,25 +1,23 @@
 -- Classes by what their names mean, and CREATE, DESTROY, FILE and REMOVE.
-use Rattle.std.proofs.Common.{◌≡◌, ℕ, true, false, List, [], ◌∷◌, ◌++◌, length, get_or, map, Option, Some, None, is_some, Contains, refl, sym, ap, subst, ◌∙◌}
+use Rattle.std.proofs.Common.{◌≡◌, ℕ, true, List, [], ◌∷◌, length, get_or, map, Option, Some, None, is_some, Contains, refl, sym, ap, subst, ◌∙◌}
 use Rattle.std.specs.List.{AllByRecursion as Every}
 use Rattle.ss_check_laws.proofs.Common.{AreValid, ClassKind, ClassNeed, CountedClass, got, Integer, is_kind, IsLinked, IsResolvedClass, Line, Meaning, NameBytes, NamedClass, same_Some, Scope, use_breaks, value_for, Variable}
 use Rattle.ss_names_meaning.specs.Classes.{class_named, variable_named, class_number, count_of, counted}
 use Rattle.ss_program.specs.Program.{Fetch, ToVariable, ByDiscipline, AsFirst, AsLast}
-use Rattle.ss_program.specs.WellTyped.{CanTakeMode, HasMode, IsTypedStatement, TypedScope as Place, IsTypedPosition, is_created_singly}
-use Rattle.ss_tree.specs.Tree.{ExpressionTree, file_statement, NamedTree, remove_end, remove_statement, PositionTree, by_discipline, at_first, at_last, before, after as after_member}
+use Rattle.ss_program.specs.WellTyped.{CanTakeMode, HasMode, TypedScope as Place, IsTypedPosition, is_created_singly}
+use Rattle.ss_tree.specs.Tree.{ExpressionTree, NamedTree, PositionTree, by_discipline, at_first, at_last, before, after as after_member}
 use Rattle.ss_base.specs.declared.layout.ClassKind.TheVariants as kinds
-use Rattle.ss_base.specs.declared.words.End.{End}
 use Rattle.ss_names_uses.specs.declared.used.ClassNeed.TheVariants as needs
 use Rattle.ss_names_uses.specs.declared.used.Role.TheVariants as roles
 use Rattle.ss_names_uses.specs.Uses as uses
 use Rattle.ss_names.specs.declared.meaning.Meaning.TheVariants as meanings
 use Rattle.ss_names.specs.Entries.{count_name}
 use Rattle.ss_names_meaning.specs.Answers.{◌>>=◌, each}
-use Rattle.ss_names_meaning.specs.Statements.{entity_called, new_place, position, simple_statement}
+use Rattle.ss_names_meaning.specs.Statements.{entity_called, new_place, position}
 use Rattle.ss_names_laws.proofs.Results.{held}
-use Rattle.ss_check_laws.proofs.Steps.{GoesWell, two_parts, three_parts, after, after_one, after_two}
+use Rattle.ss_check_laws.proofs.Steps.{GoesWell, after_one, after_two}
 use Rattle.ss_check_laws.proofs.Expressions.{number_kept}
 use Rattle.ss_check_laws.proofs.Classes.{classes_resolve, permanent_kind}
-use Rattle.ss_check_laws.proofs.Targets.{sets_resolve}
 use Rattle.ss_check_laws.proofs.Values.{takes_number}
 
 -- ---- kinds
@@ -85,31 +83,9 @@ module _ (s : Scope) (g : Place) (linked : IsLinked s g) (line : Line) where
 
   -- ---- FILE and REMOVE
 
-  position_resolves : (t : PositionTree) → AreValid s g.is_main (uses.in_position line t) → GoesWell (IsTypedPosition g) (position s t)
+  pub position_resolves : (t : PositionTree) → AreValid s g.is_main (uses.in_position line t) → GoesWell (IsTypedPosition g) (position s t)
   position_resolves by_discipline k = (ByDiscipline, refl, tt)
   position_resolves at_first k = (AsFirst, refl, tt)
   position_resolves at_last k = (AsLast, refl, tt)
   position_resolves (before e) k = after_one (IsTypedPosition g) _ _ (number_kept s g linked line e k) (λ x h. h)
   position_resolves (after_member e) k = after_one (IsTypedPosition g) _ _ (number_kept s g linked line e k) (λ x h. h)
-
-  pub file_resolves : (e : ExpressionTree) (t : PositionTree) (n : NamedTree) → AreValid s g.is_main (uses.in_expression line true e ++ uses.in_position line t ++ uses.in_named line roles.Set false n) →
-      GoesWell (IsTypedStatement g) (simple_statement s (file_statement line e t n))
-  unfolding simple_statement
-  file_resolves e t n k =
-      let p = three_parts s g.is_main (uses.in_expression line true e) (uses.in_position line t) (uses.in_named line roles.Set false n) k in
-      let x = number_kept s g linked line e p.0 in
-      after (IsTypedStatement g) _ _ x.0 x.1 (after_two (IsTypedStatement g) _ _ _ (position_resolves t p.1) (sets_resolve s g linked line n p.2) (λ u v h f. (x.2, h, f)))
-
-  pub remove_end_resolves : (end : End) (n set : NamedTree) → AreValid s g.is_main (uses.in_named line roles.Target true n ++ uses.in_named line roles.Set false set) →
-      GoesWell (IsTypedStatement g) (simple_statement s (remove_end line end n set))
-  unfolding simple_statement
-  remove_end_resolves end n set k =
-      let p = two_parts s g.is_main (uses.in_named line roles.Target true n) (uses.in_named line roles.Set false set) k in
-      after_two (IsTypedStatement g) _ _ _ (takes_number s g linked line n p.0) (sets_resolve s g linked line set p.1) (λ x v h f. (h, f))
-
-  pub remove_resolves : (e : ExpressionTree) (n : NamedTree) → AreValid s g.is_main (uses.in_expression line true e ++ uses.in_named line roles.Set false n) →
-      GoesWell (IsTypedStatement g) (simple_statement s (remove_statement line e n))
-  unfolding simple_statement
-  remove_resolves e n k =
-      let p = two_parts s g.is_main (uses.in_expression line true e) (uses.in_named line roles.Set false n) k in
-      after_two (IsTypedStatement g) _ _ _ (number_kept s g linked line e p.0) (sets_resolve s g linked line n p.1) (λ x v h f. (h, f))

@@ -1,7 +1,7 @@
 -- Values and targets of the modes that their places want: LET, ADD, SUBTRACT, READ and CALL.
 use Rattle.std.proofs.Common.{◌≡◌, ℕ, ◌+◌, ◌<◌, true, false, List, ◌++◌, length, take, drop, Option, Some, None, refl, sym, ap, subst, arith, ◌∙◌, length-drop, eq-eqb, eqb-true}
 use Rattle.std.specs.Prelude.{◌&&◌, ◌==◌, option_and_then, slice_get}
-use Rattle.ss_check_laws.proofs.Common.{AllZip, call_statement, CheckError, each_length, expression, ExpressionTree, goes, holds_unless, Integer, let_statement, Line, local_modes, Meaning, Mode, mode_of_use, Moded, NameBytes, NamedTree, option_map_or, RoutineSection, slice_get_within, target, unless, value_for, values_of}
+use Rattle.ss_check_laws.proofs.Common.{AllZip, call_statement, CheckError, each_length, expression, ExpressionTree, goes, holds_unless, Integer, Line, local_modes, Meaning, Mode, mode_of_use, Moded, NameBytes, NamedTree, option_map_or, RoutineSection, slice_get_within, target, unless, value_for, values_of}
 use Rattle.ss_check_laws.specs.Links.{AreValid, IsLinked, IsRoutineAt}
 use Rattle.ss_check_rules.specs.Kinds.{if_means, is_routine}
 use Rattle.ss_names_laws.proofs.Steps.{numbers_at, upto_length}
@@ -58,20 +58,12 @@ module _ (s : Scope) (g : Place) (linked : IsLinked s g) (line : Line) where
       let x = expressions_resolve s g linked line false e k.1 in
       (x.0, x.2, subst (HasMode g x.0) (agree (mode_of_use s (uses.expression_tree_mode e)) (mode_of_use s wanted) x.1 m (errors.Mode line) k.0 x.4 w) x.3)
 
-  takes_value : (wanted : ModeOf) (m : Mode) (n : NamedTree) → mode_of_use s wanted ≡ Some m → AreValid s g.is_main (uses.in_target line wanted n) → GoesWell (λ x. CanTakeMode g x m) (target s n)
+  pub takes_value : (wanted : ModeOf) (m : Mode) (n : NamedTree) → mode_of_use s wanted ≡ Some m → AreValid s g.is_main (uses.in_target line wanted n) → GoesWell (λ x. CanTakeMode g x m) (target s n)
   takes_value wanted m n w k =
       let x = targets_resolve s g linked line false n k.1 in
       (x.0, x.2, subst (CanTakeMode g x.0) (agree (mode_of_use s (uses.designated n.designator)) (mode_of_use s wanted) x.1 m (errors.Mode line) k.0 x.4 w) x.3)
 
   -- ---- statements
-
-  pub let_resolves : (n : NamedTree) (e : ExpressionTree) → AreValid s g.is_main (uses.in_target line (uses.expression_tree_mode e) n ++ uses.in_expression line false e) → GoesWell (IsTypedStatement g) (simple_statement s (let_statement line n e))
-  unfolding simple_statement
-  let_resolves n e k =
-      let p = two_parts s g.is_main (uses.in_target line (uses.expression_tree_mode e) n) (uses.in_expression line false e) k in
-      let y = expressions_resolve s g linked line false e p.1 in
-      let value : GoesWell (λ v. HasMode g v y.1) (expression s e) = (y.0, y.2, y.3) in
-      after_two (IsTypedStatement g) _ _ _ (takes_value (uses.expression_tree_mode e) y.1 n y.4 p.0) value (λ x v h f. (y.1, h, f))
 
   -- ADD and SUBTRACT
   pub change_resolves : (sign : Sign) (e : ExpressionTree) (n : NamedTree) → AreValid s g.is_main (uses.in_expression line true e ++ uses.in_named line roles.Target true n) →
