@@ -14,7 +14,6 @@ mod Entities
 mod Notices
 mod Printing
 mod Statements
-mod Bodies
 mod Within
 mod ExpressionSizes
 mod PartSizes
