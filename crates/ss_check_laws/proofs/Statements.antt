@@ -3,7 +3,7 @@ use Rattle.std.proofs.Common.{List, Some, refl, ap, is_some, ◌∙◌, false, t
 use Rattle.ss_check_laws.proofs.Conditions.{conditions_resolve}
 use Rattle.std.specs.List.{AllByRecursion as Every}
 use Rattle.ss_base.specs.declared.words.Sign.TheVariants.{Plus, Minus}
-use Rattle.ss_check_laws.proofs.Common.{and_statement, AreValid, BodiesResolve, expression, FindOutcome, guarded, holds_unless, IsLinked, IsResolvedForHead, IsResolvedHead, Line, LoopHeadTree, no_statement, Scope, statement_row, StatementRow}
+use Rattle.ss_check_laws.proofs.Common.{and_statement, AreValid, BodiesResolve, expression, FindOutcome, guarded, holds_unless, IsLinked, IsResolvedForHead, Line, no_statement, Scope, statement_row, StatementRow}
 use Rattle.ss_names_meaning.specs.Answers.{each, ◌>>=◌}
 use Rattle.ss_names_meaning.specs.Heads.{phrases_of, resolved_phrase, head}
 use Rattle.ss_program.specs.Program.{Done, Statement, Head, Phrase, Find, Return, Simulate, Stop, InputTarget, Restart, ScheduleNew, Schedule, Block, For}
@@ -38,21 +38,6 @@ module _ (s : Scope) (g : Place) where
       let ps : GoesWell (Every (IsTypedPhrase g)) (each (resolved_phrase s) (phrases_of over)) = (h.3, h.4, h.5) in
       after_two (IsTypedStatement g) _ _ f x ps good
 
-  -- ---- forms with statements in them
-
-  abbrev Resolved : StatementTree → Type 0
-  Resolved t = GoesWell (IsTypedStatement g) (statement s t)
-
-  abbrev RowResolved : StatementRow → Type 0
-  RowResolved row = GoesWell (IsTypedBlock g) (statements s row)
-
-  loop_made : (line : Line) (over : LoopHeadTree) (row : StatementRow) → IsResolvedHead s g over → RowResolved row → Resolved (loop_statement line over row)
-  unfolding statement
-  loop_made line (for_head over) row h b =
-      after (IsTypedStatement g) _ _ b.0 b.1 (over_head over (λ x ps. For line x ps b.0) h (λ x ps f k. (f, k, b.2)))
-  loop_made line (guarded guards) row h b =
-      after (IsTypedStatement g) _ _ b.0 b.1 (after_one (IsTypedStatement g) _ _ h (λ gs k. (k, b.2)))
-
   by_outcome : (outcome : FindOutcome) (line : Line) (over : HeadTree) (first second : Block) → IsResolvedForHead s g over → IsTypedBlock g first → IsTypedBlock g second → GoesWell (IsTypedStatement g) (find_by outcome line s over first second)
   by_outcome outcomes.Found line over first second h a b = over_head over (λ x ps. Find line x ps first second) h (λ x ps f k. (f, k, a, b))
   by_outcome outcomes.None line over first second h a b = over_head over (λ x ps. Find line x ps second first) h (λ x ps f k. (f, k, b, a))
@@ -61,13 +46,18 @@ module _ (s : Scope) (g : Place) (linked : IsLinked s g) where
   mutual
     unfolding statement statements simple_statement
 
-    statement_resolves : (t : StatementTree) → AreValid s g.is_main (uses.in_itself t) → AreValid s g.is_main (uses.in_inner t) → Resolved s g t
+    statement_resolves : (t : StatementTree) → AreValid s g.is_main (uses.in_itself t) → AreValid s g.is_main (uses.in_inner t) → GoesWell (IsTypedStatement g) (statement s t)
     statement_resolves (if_statement line test first second) k j =
         let p = two_parts s g.is_main (uses.in_row first) (uses.in_row second) j in
         let a = row_resolves first p.0 in
         let b = row_resolves second p.1 in
         after (IsTypedStatement g) _ _ a.0 a.1 (after (IsTypedStatement g) _ _ b.0 b.1 (after_one (IsTypedStatement g) _ _ (conditions_resolve s g linked line test k) (λ t h. (h, a.2, b.2))))
-    statement_resolves (loop_statement line over body) k j = loop_made s g line over body (heads_resolve s g linked line over k) (row_resolves body j)
+    statement_resolves (loop_statement line (for_head over) body) k j =
+        let b = row_resolves body j in
+        after (IsTypedStatement g) _ _ b.0 b.1 (over_head s g over (λ x ps. For line x ps b.0) (heads_resolve s g linked line (for_head over) k) (λ x ps h f. (h, f, b.2)))
+    statement_resolves (loop_statement line (guarded guards) body) k j =
+        let b = row_resolves body j in
+        after (IsTypedStatement g) _ _ b.0 b.1 (after_one (IsTypedStatement g) _ _ (heads_resolve s g linked line (guarded guards) k) (λ gs h. (h, b.2)))
     statement_resolves (find_if_statement line over outcome first second) k j =
         let p = two_parts s g.is_main (uses.in_row first) (uses.in_row second) j in
         let a = row_resolves first p.0 in
@@ -127,7 +117,7 @@ module _ (s : Scope) (g : Place) (linked : IsLinked s g) where
     statement_resolves (print_statement line items pictures) k j = after_one (IsTypedStatement g) _ _ (items_shown s g linked line items (uses.fields_of_pictures pictures) k) (λ xs h. h)
     statement_resolves (skip_statement line e) k j = after_one (IsTypedStatement g) _ _ (number_kept s g linked line e k) (λ x h. h)
 
-    row_resolves : (row : StatementRow) → AreValid s g.is_main (uses.in_row row) → RowResolved s g row
+    row_resolves : (row : StatementRow) → AreValid s g.is_main (uses.in_row row) → GoesWell (IsTypedBlock g) (statements s row)
     row_resolves no_statement k = (Done, refl, tt)
     row_resolves (and_statement t ts) k =
         let p = three_parts s g.is_main (uses.in_itself t) (uses.in_inner t) (uses.in_row ts) k in
