@@ -1,5 +1,5 @@
 -- Expressions whose uses break no rule resolve, and are well typed.
-use Rattle.std.proofs.Common.{◌≡◌, ℕ, Bool, true, false, List, Option, Some, None, refl, sym, ap, subst, ◌∙◌, arith, rules}
+use Rattle.std.proofs.Common.{◌≡◌, Bool, true, false, Option, Some, None, refl, sym, ap, subst, ◌∙◌, arith, rules}
 use Rattle.std.specs.Prelude.{◌==◌}
 use Rattle.ss_check_laws.proofs.Common.{Alpha, AreValid, Designator, eqb-true, false≢true, Global, goes, has_value, holds_unless, Integer, is_mean, IsLinked, Line, Meaning, meaning_mode, Mode, mode_of_meaning, mode_of_use, Multiply, none-some, One, place_use, row_length, Scope, Two, use_breaks}
 use Rattle.ss_names_meaning.specs.Expressions.{meaning_with_entity, subscript, expression, factors, one, resolved_operator, resolved_value, terms, two}
@@ -7,11 +7,9 @@ use Rattle.ss_program.specs.Program.{Expression, Fetch, Constant, Attribute, OfS
 use Rattle.ss_program.specs.WellTyped.{HasMode, TypedScope as Place}
 use Rattle.ss_tree.specs.Tree.{and_expression, and_term, ExpressionRow, ExpressionTree, named, no_expression, no_term, parenthesised, TermRow, number, text, call, product, signed, sum}
 use Rattle.ss_base.specs.declared.value.Value.TheVariants.{Whole, Text}
-use Rattle.ss_tree.specs.declared.expression.Function.{Function}
 use Rattle.ss_names_uses.specs.Uses as uses
 use Rattle.ss_names_uses.specs.declared.used.Role.TheVariants as roles
 use Rattle.ss_names.specs.declared.meaning.Meaning.TheVariants as meanings
-use Rattle.ss_check_rules.specs.Counts.{argument_count}
 use Rattle.ss_check_rules.specs.declared.error.CheckError.TheVariants as errors
 use Rattle.ss_names_meaning.specs.Answers.{◌>>=◌}
 use Rattle.ss_check_laws.specs.BodyLaws.{ExpressionsResolve, IsResolved}
@@ -29,11 +27,6 @@ module _ (s : Scope) (g : Place) where
   pub as_number : (e : ExpressionTree) → IsResolved s g true e → Number s g e
   as_number e r = (r.0, r.2, subst (HasMode g r.0) (r.5 refl) r.3)
 
-  text_resolves : (line : Line) (b : Bool) (t : List ℕ) → AreValid s g.is_main (uses.in_expression line b (text t)) → IsResolved s g b (text t)
-  unfolding expression
-  text_resolves line true t h = absurd (none-some (errors.Mode line) (sym h.0))
-  text_resolves line false t h = (Constant (Text t), Alpha, refl, refl, refl, λ f. absurd (false≢true f))
-
   -- ---- signs, products and sums
 
   abbrev IsWhole : Expression → Type 0
@@ -41,10 +34,6 @@ module _ (s : Scope) (g : Place) where
 
   abbrev IsNumber : Option Expression → Type 0
   IsNumber o = GoesWell IsWhole o
-
-  signed_number : (sign : _) (e : ExpressionTree) → Number s g e → Number s g (signed sign e)
-  unfolding expression
-  signed_number sign e n = after_one IsWhole _ _ n (λ x h. (refl, h))
 
   factors_number : (left : Expression) → HasMode g left Integer → (es : ExpressionRow) → Numbers s g es → IsNumber (factors s left es)
   unfolding factors
@@ -55,14 +44,6 @@ module _ (s : Scope) (g : Place) where
   unfolding terms
   terms_number left h no_term n = (left, refl, h)
   terms_number left h (and_term sign e es) n = after IsWhole _ _ n.0.0 n.0.1 (terms_number (Calculate (resolved_operator sign) left n.0.0) (refl, h, n.0.2) es n.1)
-
-  product_number : (e : ExpressionTree) (es : ExpressionRow) → Number s g e → Numbers s g es → Number s g (product e es)
-  unfolding expression
-  product_number e es n ns = after IsWhole _ _ n.0 n.1 (factors_number n.0 n.2 es ns)
-
-  sum_number : (e : ExpressionTree) (es : TermRow) → Number s g e → NumberTerms s g es → Number s g (sum e es)
-  unfolding expression
-  sum_number e es n ns = after IsWhole _ _ n.0 n.1 (terms_number n.0 n.2 es ns)
 
   -- ---- functions
 
@@ -78,11 +59,6 @@ module _ (s : Scope) (g : Place) where
   unfolding two
   two_arguments (and_expression e (and_expression f no_expression)) h n = after_two ArePair _ _ _ n.0 n.1.0 (λ x y i j. (i, j))
   two_arguments _ h n = absurd (omega (arith, h))
-
-  call_number : (f : Function) (es : ExpressionRow) → row_length es ≡ argument_count f → Numbers s g es → Number s g (call f es)
-  unfolding expression
-  call_number (One op) es h n = after_one IsWhole _ _ (one_argument es h n) (λ x i. (refl, i))
-  call_number (Two op) es h n = after_one IsWhole _ _ (two_arguments es h n) (λ p i. (refl, i.0, i.1))
 
 module _ (s : Scope) (g : Place) (k : IsLinked s g) where
   -- ---- what is named
@@ -135,19 +111,25 @@ module _ (s : Scope) (g : Place) (k : IsLinked s g) where
 
       pub resolves : (b : Bool) (e : ExpressionTree) → AreValid s g.is_main (uses.in_expression line b e) → IsResolved s g b e
       resolves b (number z) h = (Constant (Whole z), Integer, refl, refl, refl, λ t. refl)
-      resolves b (text t) h = text_resolves s g line b t h
+      resolves true (text t) h = absurd (none-some (errors.Mode line) (sym h.0))
+      resolves false (text t) h = (Constant (Text t), Alpha, refl, refl, refl, λ f. absurd (false≢true f))
       resolves b (named d es) h = named_resolves b d es h.0 (numbers es h.1)
-      resolves b (call f es) h =
-          from_number s g b (call f es)
-          (call_number s g f es (eqb-true (row_length es) (argument_count f) (holds_unless (row_length es == argument_count f) (errors.Arguments line) h.0)) (numbers es h.1)) refl
+      resolves b (call (One op) es) h =
+          let n = one_argument s g es (eqb-true (row_length es) 1 (holds_unless (row_length es == 1) (errors.Arguments line) h.0)) (numbers es h.1) in
+          from_number s g b (call (One op) es) (after_one (IsWhole s g) _ _ n (λ x i. (refl, i))) refl
+      resolves b (call (Two op) es) h =
+          let n = two_arguments s g es (eqb-true (row_length es) 2 (holds_unless (row_length es == 2) (errors.Arguments line) h.0)) (numbers es h.1) in
+          from_number s g b (call (Two op) es) (after_one (IsWhole s g) _ _ n (λ p i. (refl, i.0, i.1))) refl
       resolves b (parenthesised e) h = resolves b e h
       resolves b (product e es) h =
           let p = two_parts s g.is_main (uses.in_expression line true e) (uses.in_numbers line es) h in
-          from_number s g b (product e es) (product_number s g e es (as_number s g e (resolves true e p.0)) (numbers es p.1)) refl
-      resolves b (signed sign e) h = from_number s g b (signed sign e) (signed_number s g sign e (as_number s g e (resolves true e h))) refl
+          let n = as_number s g e (resolves true e p.0) in
+          from_number s g b (product e es) (after (IsWhole s g) _ _ n.0 n.1 (factors_number s g n.0 n.2 es (numbers es p.1))) refl
+      resolves b (signed sign e) h = from_number s g b (signed sign e) (after_one (IsWhole s g) _ _ (as_number s g e (resolves true e h)) (λ x i. (refl, i))) refl
       resolves b (sum e es) h =
           let p = two_parts s g.is_main (uses.in_expression line true e) (uses.in_terms line es) h in
-          from_number s g b (sum e es) (sum_number s g e es (as_number s g e (resolves true e p.0)) (number_terms es p.1)) refl
+          let n = as_number s g e (resolves true e p.0) in
+          from_number s g b (sum e es) (after (IsWhole s g) _ _ n.0 n.1 (terms_number s g n.0 n.2 es (number_terms es p.1))) refl
 
       pub numbers : (es : ExpressionRow) → AreValid s g.is_main (uses.in_numbers line es) → Numbers s g es
       numbers no_expression h = tt
