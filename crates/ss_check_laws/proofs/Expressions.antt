@@ -1,7 +1,7 @@
 -- Expressions whose uses break no rule resolve, and are well typed.
 use Rattle.std.proofs.Common.{◌≡◌, Bool, true, false, Option, Some, None, refl, sym, ap, subst, ◌∙◌, arith, rules}
 use Rattle.std.specs.Prelude.{◌==◌}
-use Rattle.ss_check_laws.proofs.Common.{Alpha, AreValid, Designator, eqb-true, false≢true, Global, goes, has_value, holds_unless, Integer, is_mean, IsLinked, Line, Meaning, meaning_mode, Mode, mode_of_meaning, mode_of_use, Multiply, none-some, One, place_use, row_length, Scope, Two, use_breaks}
+use Rattle.ss_check_laws.proofs.Common.{Alpha, AreValid, eqb-true, false≢true, Global, goes, has_value, holds_unless, Integer, is_mean, IsLinked, Line, Meaning, meaning_mode, Mode, mode_of_meaning, mode_of_use, Multiply, none-some, One, row_length, Scope, Two}
 use Rattle.ss_names_meaning.specs.Expressions.{meaning_with_entity, subscript, expression, factors, one, resolved_operator, resolved_value, terms, two}
 use Rattle.ss_program.specs.Program.{Expression, Fetch, Constant, Attribute, OfSystemSet, OfSet, OfMember, Clock, TimeOf, Figure, FigureOf, Calculate}
 use Rattle.ss_program.specs.WellTyped.{HasMode, TypedScope as Place}
@@ -32,22 +32,19 @@ module _ (s : Scope) (g : Place) where
   abbrev IsWhole : Expression → Type 0
   IsWhole x = HasMode g x Integer
 
-  abbrev IsNumber : Option Expression → Type 0
-  IsNumber o = GoesWell IsWhole o
-
-  factors_number : (left : Expression) → HasMode g left Integer → (es : ExpressionRow) → Numbers s g es → IsNumber (factors s left es)
+  factors_number : (left : Expression) → HasMode g left Integer → (es : ExpressionRow) → Numbers s g es → GoesWell IsWhole (factors s left es)
   unfolding factors
   factors_number left h no_expression n = (left, refl, h)
   factors_number left h (and_expression e es) n = after IsWhole _ _ n.0.0 n.0.1 (factors_number (Calculate Multiply left n.0.0) (refl, h, n.0.2) es n.1)
 
-  terms_number : (left : Expression) → HasMode g left Integer → (es : TermRow) → NumberTerms s g es → IsNumber (terms s left es)
+  terms_number : (left : Expression) → HasMode g left Integer → (es : TermRow) → NumberTerms s g es → GoesWell IsWhole (terms s left es)
   unfolding terms
   terms_number left h no_term n = (left, refl, h)
   terms_number left h (and_term sign e es) n = after IsWhole _ _ n.0.0 n.0.1 (terms_number (Calculate (resolved_operator sign) left n.0.0) (refl, h, n.0.2) es n.1)
 
   -- ---- functions
 
-  one_argument : (es : ExpressionRow) → row_length es ≡ 1 → Numbers s g es → IsNumber (one s es)
+  one_argument : (es : ExpressionRow) → row_length es ≡ 1 → Numbers s g es → GoesWell IsWhole (one s es)
   unfolding one
   one_argument (and_expression e no_expression) h n = n.0
   one_argument _ h n = absurd (omega (arith, h))
@@ -88,22 +85,6 @@ module _ (s : Scope) (g : Place) (k : IsLinked s g) where
   meant_value _ _ i f h n = absurd (search rules)
 
   module _ (line : Line) where
-    named_resolves : (b : Bool) (d : Designator) (es : ExpressionRow) → use_breaks s g.is_main (place_use line roles.Value b d (row_length es)) ≡ None → Numbers s g es → IsResolved s g b (named d es)
-    unfolding expression
-    named_resolves b d es h n =
-        let p = in_role s g k line roles.Value has_value d es b refl refl h n in
-        let of = p.5.1 in
-        let v = meant_value p.0 of p.3 p.5.4 p.2 p.4.value in
-        let q : Meaning × Option Expression = (p.0, of) in (
-          v.0,
-          v.1,
-          goes (subscript s es) (λ e. meaning_with_entity s d e >>= λ r. resolved_value r.0 r.1) p.5.0 v.0 p.5.2
-              (goes (meaning_with_entity s d p.5.0) (λ r. resolved_value r.0 r.1) q v.0 (named_with s g d p.5.0 p.0 of p.1 p.5.3) v.2),
-          v.4,
-          said_is s d ∙ ap meaning_mode p.1 ∙ v.3,
-          number_mode b p.0 v.1 v.3 p.4.mode,
-        )
-
     -- ---- expressions
 
     mutual
@@ -113,7 +94,19 @@ module _ (s : Scope) (g : Place) (k : IsLinked s g) where
       resolves b (number z) h = (Constant (Whole z), Integer, refl, refl, refl, λ t. refl)
       resolves true (text t) h = absurd (none-some (errors.Mode line) (sym h.0))
       resolves false (text t) h = (Constant (Text t), Alpha, refl, refl, refl, λ f. absurd (false≢true f))
-      resolves b (named d es) h = named_resolves b d es h.0 (numbers es h.1)
+      resolves b (named d es) h =
+          let p = in_role s g k line roles.Value has_value d es b refl refl h.0 (numbers es h.1) in
+          let of = p.5.1 in
+          let v = meant_value p.0 of p.3 p.5.4 p.2 p.4.value in
+          let q : Meaning × Option Expression = (p.0, of) in (
+            v.0,
+            v.1,
+            goes (subscript s es) (λ e. meaning_with_entity s d e >>= λ r. resolved_value r.0 r.1) p.5.0 v.0 p.5.2
+                (goes (meaning_with_entity s d p.5.0) (λ r. resolved_value r.0 r.1) q v.0 (named_with s g d p.5.0 p.0 of p.1 p.5.3) v.2),
+            v.4,
+            said_is s d ∙ ap meaning_mode p.1 ∙ v.3,
+            number_mode b p.0 v.1 v.3 p.4.mode,
+          )
       resolves b (call (One op) es) h =
           let n = one_argument s g es (eqb-true (row_length es) 1 (holds_unless (row_length es == 1) (errors.Arguments line) h.0)) (numbers es h.1) in
           from_number s g b (call (One op) es) (after_one (IsWhole s g) _ _ n (λ x i. (refl, i))) refl
