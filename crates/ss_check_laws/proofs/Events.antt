@@ -1,6 +1,6 @@
 -- The event routines of a program that breaks no rule.
-use Rattle.std.proofs.Common.{◌≡◌, ◌≢◌, ℕ, zero, suc, ◌+◌, ◌<◌, ◌≤◌, Bool, true, false, List, [], ◌∷◌, length, get_or, take, map, flat_map, slice_get, option_map, Option, Some, None, is_some, IfSome, refl, sym, ap, subst, subst₂, ◌∙◌, nat_eq, nat_le, add-zero, take-append-drop, length-take, get_or-take, arith}
-use Rattle.ss_check_laws.proofs.Common.{at_item, at_place, attribute_mode, class_by, class_layout, ClassKind, CountedClass, declarations, Declared, Done, each_at, each_empty, each_made, Event, event_by, EventSection, every_first, from_places, get_or_from_slice_get, given_by, Global, hidden_by, holds_unless, in_parts, Integer, is_main, keys_of, known_mode, leb-true, Line, local_mode, Meaning, meaning_mode, Mode, mode_of_attribute, mode_of_use, NameBytes, none-some, numbers_at, option_and_then, option_map_or, place_in, PlainClass, PlainLayout, Program, ResolvedLayout, same_Some, Scope, scope_of, slice_get-get_or, slice_get_within, Table, table, tie_keys, Use, value_for}
+use Rattle.std.proofs.Common.{◌≡◌, ◌≢◌, ℕ, zero, suc, ◌+◌, ◌<◌, ◌≤◌, Bool, true, false, List, [], ◌∷◌, length, get_or, take, map, flat_map, slice_get, option_map, Option, Some, None, is_some, IfSome, refl, sym, ap, subst, subst₂, ◌∙◌, nat_eq, nat_le, take-append-drop, length-take, get_or-take, arith, ◌++◌}
+use Rattle.ss_check_laws.proofs.Common.{at_item, at_place, attribute_mode, class_by, class_layout, ClassKind, CountedClass, declarations, Declared, Done, each_at, each_empty, each_made, Event, event_by, EventSection, every_first, flat_map_from, from_places, get_or_from_slice_get, given_by, Global, hidden_by, holds_unless, in_parts, Integer, is_main, keys_of, known_mode, leb-true, Line, local_mode, Meaning, meaning_mode, Mode, mode_of_attribute, mode_of_use, NameBytes, none-some, numbers_at, option_and_then, option_map_or, place_in, PlainClass, PlainLayout, Program, ResolvedLayout, same_Some, Scope, scope_of, slice_get-get_or, slice_get_within, Table, table, tie_keys, Use, value_for}
 use Rattle.std.specs.List.{AllByRecursion as Every, list_any}
 use Rattle.std.proofs.lemmas.List.{length-take-le}
 use Rattle.std.proofs.lemmas.Map.Entries.{length-keys_of}
@@ -22,6 +22,7 @@ use Rattle.ss_check_rules.specs.Counts.{suits_count}
 use Rattle.ss_check_rules.specs.declared.error.CheckError.TheVariants as errors
 use Rattle.ss_names_laws.specs.ValidTables.{IsNamedClass, parameters_of}
 use Rattle.ss_names_laws.proofs.Parts.{class_parts, numbers_length, parts_of}
+use Rattle.ss_names_laws.proofs.Each.{at_number}
 use Rattle.ss_names_laws.proofs.Sources.{DeclaresClass, every_made, IsEventSection, IsMade}
 use Rattle.ss_names_laws.proofs.Steps.{none_listed, some_there}
 use Rattle.ss_check_laws.proofs.Steps.{agree}
@@ -40,13 +41,9 @@ equal_takes (suc n) (x ∷ xs) (y ∷ ys) h =
     let rest = equal_takes n xs ys (λ i lt. h (suc i) (omega arith)) in
     λ j. first j ∷ rest j
 
-places_at : {A : Type 0} (P : Use → Type 0) (f : ℕ → A → List Use) (n : ℕ) (xs : List A) (i : ℕ) (x : A) → Every P (uses.in_places f n xs) → slice_get xs i ≡ Some x → Every P (f (n + i) x)
-places_at P f n [] i x h e = absurd (none-some x e)
-places_at P f n (y ∷ xs) zero x h e =
-    subst₂ (λ j z. Every P (f j z)) (sym (add-zero n)) (same_Some y x e) (in_parts P (f n y) (uses.in_places f (n + 1) xs) h).0
-places_at P f n (y ∷ xs) (suc i) x h e =
-    let next : n + 1 + i ≡ n + suc i = omega arith in
-    subst (λ j. Every P (f j x)) next (places_at P f (n + 1) xs i x (in_parts P (f n y) (uses.in_places f (n + 1) xs) h).1 e)
+as_numbered : {A : Type 0} (f : ℕ → A → List Use) (n : ℕ) (xs : List A) → uses.in_places f n xs ≡ flat_map_from f n xs
+as_numbered f n [] = refl
+as_numbered f n (x ∷ xs) = ap (λ l. f n x ++ l) (as_numbered f (n + 1) xs)
 
 event_is : (t : Table) (section : ℕ → Option Parts) (class : ℕ) (name : NameBytes) (known : EventSection) (keys : List RankKey) (variable : Option ℕ) (parts : Parts) →
     slice_get (keys_of t.classes) class ≡ Some name → value_for t.events name ≡ Some known → nat_le known.given (length (get_or t.fields class [])) ≡ true →
@@ -174,9 +171,8 @@ module _ (p : tree.ProgramTree) (x : ResolvedLayout) (k : IsUnbroken p x) where
         let a = there (get_or t.fields class []) i (omega (arith, leb-true (length given) (length (get_or t.fields class [])) limit)) in
         let field = each_at (mode_of_attribute t) (get_or t.fields class []) n.laid.fields i a.0 n.named.fields a.1 in
         let attribute : mode_of_use sc (modes.Attribute name i) ≡ Some field.0 = ap (λ o. attribute_mode t o i) placed ∙ ap (option_and_then (mode_of_attribute t)) a.1 ∙ field.2 in
-        let same_place : 0 + i ≡ i = omega arith in
         let places = in_parts holds (map (uses.parameter_use s.line) given) (uses.in_places (uses.as_attribute s.line name) 0 given) head.1.1 in
-        let used = subst (λ j. Every holds (uses.as_attribute s.line name j g.0)) same_place (places_at holds (uses.as_attribute s.line name) 0 given i g.0 places.1 g.1) in
+        let used = at_number (uses.as_attribute s.line name) (Every holds) (in_parts holds) given i g.0 (subst (Every holds) (as_numbered (uses.as_attribute s.line name) 0 given) places.1) g.1 in
         let same = agree (mode_of_use sc (modes.Named g.0)) (mode_of_use sc (modes.Attribute name i)) mode.0 field.0 (errors.Mode s.line) used.0 named attribute in
         (mode.0, mode.1, field.1 ∙ ap Some (sym same))
 
