@@ -58,7 +58,7 @@ pub use Rattle.ss_tree.specs.declared.expression.Designator.{Designator}
 pub use Rattle.ss_tree.specs.declared.expression.Designator.TheVariants.{Name}
 pub use Rattle.ss_tree.specs.declared.expression.Function.TheVariants.{One, Two}
 pub use Rattle.ss_tree.specs.declared.statement.FindOutcome.{FindOutcome}
-pub use Rattle.std.proofs.lemmas.Bool.{and_parts, both_ways, eqb-true, false≢true, leb-true, ltb-true, not-false, not-true}
+pub use Rattle.std.proofs.lemmas.Bool.{and_parts, both_ways, cond-true, eqb-true, false≢true, leb-true, ltb-true, not-false, not-true}
 pub use Rattle.std.proofs.lemmas.List.Sums.{sum_by-cons}
 pub use Rattle.std.proofs.lemmas.Option.{get_or_from_slice_get, none-some, same_Some, slice_get-get_or, slice_get-map, slice_get_within}
 pub use Rattle.std.specs.List.{AllZip}

@@ -14,7 +14,7 @@ use Rattle.ss_names.specs.declared.meaning.Meaning.TheVariants as meanings
 use Rattle.ss_names.specs.Entries.{count_name}
 use Rattle.ss_names_meaning.specs.Answers.{◌>>=◌, each}
 use Rattle.ss_names_meaning.specs.Statements.{entity_called, new_place, position}
-use Rattle.ss_names_laws.proofs.Results.{held}
+use Rattle.std.proofs.lemmas.Option.{cond_some}
 use Rattle.ss_check_laws.proofs.Steps.{GoesWell, after_one, after_two}
 use Rattle.ss_check_laws.proofs.Expressions.{number_kept}
 use Rattle.ss_check_laws.proofs.Classes.{classes_resolve, permanent_kind}
@@ -31,7 +31,7 @@ single_kind _ h = h
 
 class_meant : (need : ClassNeed) (o : Option Meaning) (n : ℕ) → class_number need o ≡ Some n → (kind : ClassKind) × (x : ℕ) × (o ≡ Some (meanings.Class n kind x)) × (is_kind need kind ≡ true)
 class_meant need (Some (meanings.Class class kind x)) n e =
-    let h = held (is_kind need kind) class n e in
+    let h = cond_some (is_kind need kind) class n e in
     (kind, x, ap (λ (c : ℕ). Some (meanings.Class c kind x)) h.1, h.0)
 class_meant need _ n e = absurd cc
 

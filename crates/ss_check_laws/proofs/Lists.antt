@@ -1,15 +1,9 @@
 -- Steps one after the other, and lists of which each item is such as its place wants.
-use Rattle.std.proofs.Common.{◌≡◌, ℕ, zero, suc, ◌+◌, ◌≤◌, Bool, true, false, List, [], ◌∷◌, length, take, drop, Option, Some, refl, ap, subst, arith, ◌∙◌}
+use Rattle.std.proofs.Common.{◌≡◌, ℕ, zero, suc, ◌+◌, ◌≤◌, Bool, List, [], ◌∷◌, length, take, drop, Option, Some, refl, ap, subst, arith, ◌∙◌}
 use Rattle.ss_check_laws.proofs.Common.{AllZip, AreValid, Scope, slice_get, Use}
-use Rattle.ss_names_meaning.specs.Answers.{where_holds, each}
+use Rattle.ss_names_meaning.specs.Answers.{each}
 use Rattle.ss_names_uses.specs.Uses.{in_places}
 use Rattle.ss_check_laws.proofs.Steps.{after_two, GoesWell, two_parts}
-
--- ---- steps
-
-pub holds : {A : Type 0} (b : Bool) (x : A) → b ≡ true → where_holds b x ≡ Some x
-holds true x h = refl
-holds false x h = absurd cc
 
 -- ---- places
 

@@ -1,6 +1,6 @@
 -- SCHEDULE, CANCEL and RESET.
 use Rattle.std.proofs.Common.{◌≡◌, ℕ, ◌<◌, ◌≤◌, Bool, true, List, length, get_or, take, Option, Some, None, nat_le, option_map, [], refl, sym, ap, subst, arith, ◌∙◌, le-leb, leb-true}
-use Rattle.ss_check_laws.proofs.Common.{AreValid, at_time, attribute_mode, ClassKind, each_at, each_length, expression, ExpressionTree, holds_unless, in_units, is_kind, IsLinked, IsResolvedClass, Line, Mode, mode_of_attribute, NameBytes, NamedClass, now, option_and_then, option_map_or, place_in, PlainClass, PlainLayout, Scope, slice_get, slice_get_within, Table, there, unless, WhenTree}
+use Rattle.ss_check_laws.proofs.Common.{AreValid, at_time, attribute_mode, ClassKind, cond-true, each_at, each_length, expression, ExpressionTree, holds_unless, in_units, is_kind, IsLinked, IsResolvedClass, Line, Mode, mode_of_attribute, NameBytes, NamedClass, now, option_and_then, option_map_or, place_in, PlainClass, PlainLayout, Scope, slice_get, slice_get_within, Table, there, unless, WhenTree}
 use Rattle.ss_names_meaning.specs.Answers.{each, where_holds, ◌>>=◌}
 use Rattle.ss_program.specs.Program.{Expression, Statement, Now, When}
 use Rattle.ss_program.specs.WellTyped.{HasMode, IsTypedStatement, TypedScope as Place, HaveModes, IsTypedWhen, AreTypedGiven}
@@ -13,7 +13,7 @@ use Rattle.ss_check_rules.specs.declared.error.CheckError.TheVariants as errors
 use Rattle.ss_names_meaning.specs.Statements.{when}
 use Rattle.ss_check_laws.proofs.Steps.{GoesWell, after, after_one}
 use Rattle.ss_check_laws.proofs.Expressions.{number_kept}
-use Rattle.ss_check_laws.proofs.Lists.{holds, in_order}
+use Rattle.ss_check_laws.proofs.Lists.{in_order}
 use Rattle.ss_check_laws.proofs.Values.{value_resolves}
 use Rattle.ss_check_laws.proofs.Entities.{class_is}
 
@@ -77,4 +77,4 @@ module _ (s : Scope) (g : Place) (linked : IsLinked s g) (line : Line) where
       let us = given_resolve name is_called c given k in
       let t = when_resolves time j in
       after (IsTypedStatement g) _ _ us.0 us.1 (after (IsTypedStatement g) _ _ t.0 t.1
-      (f us.0 t.0, holds (nat_le (length us.0) c.0.attributes) (f us.0 t.0) us.2.0, good us.0 t.0 us.2.1 t.2))
+      (f us.0 t.0, cond-true (nat_le (length us.0) c.0.attributes) (Some (f us.0 t.0)) None us.2.0, good us.0 t.0 us.2.1 t.2))

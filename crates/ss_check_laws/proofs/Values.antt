@@ -1,7 +1,7 @@
 -- Values and targets of the modes that their places want: LET, ADD, SUBTRACT, READ and CALL.
 use Rattle.std.proofs.Common.{◌≡◌, ℕ, ◌+◌, ◌<◌, true, false, List, ◌++◌, length, take, drop, Option, Some, None, refl, sym, ap, subst, arith, ◌∙◌, length-drop, eq-eqb, eqb-true}
 use Rattle.std.specs.Prelude.{◌&&◌, ◌==◌, option_and_then, slice_get}
-use Rattle.ss_check_laws.proofs.Common.{AllZip, call_statement, CheckError, each_length, expression, ExpressionTree, goes, holds_unless, Integer, Line, local_modes, Meaning, Mode, mode_of_use, Moded, NameBytes, NamedTree, option_map_or, RoutineSection, slice_get_within, target, unless, value_for, values_of}
+use Rattle.ss_check_laws.proofs.Common.{AllZip, call_statement, CheckError, cond-true, each_length, expression, ExpressionTree, goes, holds_unless, Integer, Line, local_modes, Meaning, Mode, mode_of_use, Moded, NameBytes, NamedTree, option_map_or, RoutineSection, slice_get_within, target, unless, value_for, values_of}
 use Rattle.ss_check_laws.specs.Links.{AreValid, IsLinked, IsRoutineAt}
 use Rattle.ss_check_rules.specs.Kinds.{if_means, is_routine}
 use Rattle.ss_names_laws.proofs.Steps.{numbers_at, upto_length}
@@ -19,7 +19,7 @@ use Rattle.ss_check_rules.specs.declared.error.CheckError.TheVariants as errors
 use Rattle.ss_names_meaning.specs.Statements.{reader, routine_number, simple_statement}
 use Rattle.ss_check_laws.proofs.Steps.{GoesWell, agree, two_parts, after, after_two}
 use Rattle.ss_check_laws.proofs.Expressions.{expressions_resolve, number_kept}
-use Rattle.ss_check_laws.proofs.Lists.{after_first, holds, in_order}
+use Rattle.ss_check_laws.proofs.Lists.{after_first, in_order}
 use Rattle.ss_check_laws.proofs.Targets.{targets_resolve}
 
 -- ---- routines
@@ -103,7 +103,7 @@ module _ (s : Scope) (g : Place) (linked : IsLinked s g) (line : Line) where
       (goes {B = ℕ × RoutineSection} (slice_get (values_of s.table.routines) meant.0) _ known (meant.0, known) entry.1 refl))
       (after (IsTypedStatement g) _ _ xs.0 xs.1 (after (IsTypedStatement g) _ _ ys.0 ys.1 (
         made,
-        holds ((length xs.0 == known.given) && (length ys.0 == known.yielding)) made
+        cond-true ((length xs.0 == known.given) && (length ys.0 == known.yielding)) (Some made) None
             (both_same (length xs.0) (length ys.0) known.given known.yielding (xs.2.0 ∙ some) (ys.2.0 ∙ more)),
         (
           r.routine,

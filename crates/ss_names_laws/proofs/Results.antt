@@ -1,16 +1,12 @@
 -- Steps that have results, and what holds of all of them.
-use Rattle.std.proofs.Common.{◌≡◌, ℕ, zero, suc, ◌<◌, Bool, true, false, List, [], ◌∷◌, Option, Some, refl, subst, arith}
+use Rattle.std.proofs.Common.{◌≡◌, ℕ, zero, suc, ◌<◌, List, [], ◌∷◌, Option, Some, refl, subst, arith}
 use Rattle.std.specs.List.{AllByRecursion as Every, AllZip}
-use Rattle.ss_names_meaning.specs.Answers.{◌>>=◌, each, upto, where_holds}
+use Rattle.ss_names_meaning.specs.Answers.{◌>>=◌, each, upto}
 use Rattle.ss_names_laws.proofs.Each.{joined}
 use Rattle.ss_names_laws.proofs.Steps.{got_two}
 
 pub goes : {A B : Type 0} (o : Option A) (f : A → Option B) (x : A) (y : B) → o ≡ Some x → f x ≡ Some y → (o >>= f) ≡ Some y
 goes o f x y e h = rw e h
-
-pub held : {A : Type 0} (b : Bool) (x y : A) → where_holds b x ≡ Some y → (b ≡ true) × (x ≡ y)
-held true x y e = (refl, cc)
-held false x y e = absurd cc
 
 -- ---- steps for each item
 

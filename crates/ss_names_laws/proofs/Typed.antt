@@ -1,6 +1,6 @@
 -- The layout of a program that breaks no rule is there with all of its parts, and is well typed.
 use Rattle.std.proofs.Common.{◌≡◌, ◌≢◌, ℕ, ◌==◌, Bool, false, List, length, Option, Some, None, option_map, option_and_then, refl, sym, ap, subst, ◌∙◌}
-use Rattle.ss_names_laws.proofs.Common.{Attribute, count_by, CountedClass, counts, declarations, declares, DefinedOrder, Discipline, discipline, disciplines, entry_of_key, eqb-true, given_by, Global, is_text, IsMeant, IsValidTable, keys_of, layout, Meaning, MemberCount, Mode, NameBytes, numbered, OfAttribute, OfCount, OfVariable, ordered, Permanent, PlainClass, PlainLayout, ProgramTree, rank_key, rank_keys, ranked_by, RankedBy, RankKey, refusal_of_uses, resolved_layout, resolved_statistic, ResolvedLayout, ruled, same_name, same_Some, Set, set_layout, SetLayout, SetRule, slice_get, slice_get-map, Statistic, statistics, Subject, subject_of, Table, table, tie_keys, tied_by, TiedBy, value_for, values_of}
+use Rattle.ss_names_laws.proofs.Common.{Attribute, cond_some, count_by, CountedClass, counts, declarations, declares, DefinedOrder, Discipline, discipline, disciplines, entry_of_key, eqb-true, given_by, Global, is_text, IsMeant, IsValidTable, keys_of, layout, Meaning, MemberCount, Mode, NameBytes, numbered, OfAttribute, OfCount, OfVariable, ordered, Permanent, PlainClass, PlainLayout, ProgramTree, rank_key, rank_keys, ranked_by, RankedBy, RankKey, refusal_of_uses, resolved_layout, resolved_statistic, ResolvedLayout, ruled, same_name, same_Some, Set, set_layout, SetLayout, SetRule, slice_get, slice_get-map, Statistic, statistics, Subject, subject_of, Table, table, tie_keys, tied_by, TiedBy, value_for, values_of}
 use Rattle.std.specs.List.{AllZip, AllByRecursion as Every, filter}
 use Rattle.ss_base.specs.declared.layout.Mode.TheVariants.{Integer}
 use Rattle.ss_names_meaning.specs.Answers.{upto, where_holds}
@@ -18,7 +18,7 @@ use Rattle.ss_names_laws.proofs.Known.{name_known}
 use Rattle.ss_names_laws.proofs.Layouts.{layouts_are_there}
 use Rattle.ss_names_laws.proofs.Meanings.{field_at, kind_at, tables_are_valid}
 use Rattle.ss_names_laws.proofs.Parts.{IsMadeOf, parts_of, set_parts, subject_kept}
-use Rattle.ss_names_laws.proofs.Results.{each_every, each_zip, held}
+use Rattle.ss_names_laws.proofs.Results.{each_every, each_zip}
 use Rattle.ss_names_laws.proofs.Statistics.{IsWatched, all_watched, statistics_there}
 use Rattle.ss_names_laws.proofs.Steps.{got, mapped}
 
@@ -55,7 +55,7 @@ module _ (p : ProgramTree) (laid : ResolvedLayout) (made : IsMadeOf (table p) la
   key_good class high name key e =
       let found = got (value_for (table p).attributes name) (λ (a : Attribute). where_holds (a.class == class) (record { field = a.field; high = high })) key e in
       let said : RankKey = record { field = found.0.field; high = high } in
-      let own = held (found.0.class == class) said key found.2 in (
+      let own = cond_some (found.0.class == class) said key found.2 in (
         found.0.mode,
         subst (λ (c : ℕ). typed.field_mode r c key.field ≡ Some found.0.mode) (eqb-true found.0.class class own.0)
             (subst (λ (k : RankKey). typed.field_mode r found.0.class k.field ≡ Some found.0.mode) own.1
