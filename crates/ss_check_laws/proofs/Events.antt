@@ -1,17 +1,16 @@
 -- The event routines of a program that breaks no rule.
 use Rattle.std.proofs.Common.{◌≡◌, ◌≢◌, ℕ, zero, suc, ◌+◌, ◌<◌, ◌≤◌, Bool, true, false, List, [], ◌∷◌, length, get_or, take, map, flat_map, slice_get, option_map, Option, Some, None, is_some, IfSome, refl, sym, ap, subst, subst₂, ◌∙◌, nat_eq, nat_le, take-append-drop, length-take, get_or-take, arith, ◌++◌}
-use Rattle.ss_check_laws.proofs.Common.{at_item, at_place, attribute_mode, class_by, class_layout, ClassKind, CountedClass, declarations, Declared, Done, each_at, each_empty, each_made, Event, event_by, EventSection, every_first, flat_map_from, from_places, get_or_from_slice_get, given_by, Global, hidden_by, holds_unless, in_parts, Integer, is_main, keys_of, known_mode, leb-true, Line, local_mode, Meaning, meaning_mode, Mode, mode_of_attribute, mode_of_use, NameBytes, none-some, numbers_at, option_and_then, option_map_or, place_in, PlainClass, PlainLayout, Program, ResolvedLayout, same_Some, Scope, scope_of, slice_get-get_or, slice_get_within, Table, table, tie_keys, Use, value_for}
+use Rattle.ss_check_laws.proofs.Common.{at_item, at_place, attribute_mode, class_by, class_layout, ClassKind, cond-true, CountedClass, declarations, Declared, Done, each_at, each_empty, each_made, Event, event_by, EventSection, every_first, flat_map_from, from_places, get_or_from_slice_get, given_by, Global, goes, hidden_by, holds_unless, in_parts, Integer, is_main, keys_of, known_mode, leb-true, Line, local_mode, Meaning, meaning_mode, Mode, mode_of_attribute, mode_of_use, NameBytes, none-some, numbers_at, option_and_then, option_map_or, place_in, PlainClass, PlainLayout, Program, ResolvedLayout, same_Some, Scope, scope_of, slice_get-get_or, slice_get_within, Table, table, Use, value_for}
 use Rattle.std.specs.List.{AllByRecursion as Every, list_any}
 use Rattle.std.proofs.lemmas.List.{length-take-le}
 use Rattle.std.proofs.lemmas.Map.Entries.{length-keys_of}
 use Rattle.ss_check_rules.specs.Refusal.{use_breaks, eventless, eventless_of, in_preamble}
 use Rattle.ss_names_declarations.proofs.Entries.{firsts_once, place_from, there, entry_of_key, key_at, place_of_value, value_at, value_from_place}
 use Rattle.ss_names_meaning.specs.Answers.{each, ◌>>=◌}
-use Rattle.ss_names_meaning.specs.Resolved.{event_from, local_modes, Parts, class_variable, event_of_class, saved}
+use Rattle.ss_names_meaning.specs.Resolved.{event_from, local_modes, class_variable, event_of_class, saved}
 use Rattle.ss_names_scopes.specs.Locals.{locals_of, defined, local_used, moded_in}
 use Rattle.ss_program.specs.WellTyped.{IsTypedBlock, IsTypedEvent, AreTypedKeys, IsPlain}
 use Rattle.ss_base.specs.declared.layout.ClassKind.TheVariants as kinds
-use Rattle.ss_base.specs.declared.layout.RankKey.{RankKey}
 use Rattle.ss_tree.specs.Tree as tree
 use Rattle.ss_names_declarations.specs.declared.declaration.Declared.TheVariants as d
 use Rattle.ss_names_uses.specs.Uses as uses
@@ -44,12 +43,6 @@ equal_takes (suc n) (x ∷ xs) (y ∷ ys) h =
 as_numbered : {A : Type 0} (f : ℕ → A → List Use) (n : ℕ) (xs : List A) → uses.in_places f n xs ≡ flat_map_from f n xs
 as_numbered f n [] = refl
 as_numbered f n (x ∷ xs) = ap (λ l. f n x ++ l) (as_numbered f (n + 1) xs)
-
-event_is : (t : Table) (section : ℕ → Option Parts) (class : ℕ) (name : NameBytes) (known : EventSection) (keys : List RankKey) (variable : Option ℕ) (parts : Parts) →
-    slice_get (keys_of t.classes) class ≡ Some name → value_for t.events name ≡ Some known → nat_le known.given (length (get_or t.fields class [])) ≡ true →
-    tie_keys t class name ≡ Some keys → saved t name known.saving ≡ Some variable → section known.section ≡ Some parts →
-    event_from t section class ≡ Some (event_of_class class keys known.given variable parts)
-event_is t section class name known keys variable parts a b c d e f = rw (a, b, c, d, e, f) refl
 
 module _ (p : tree.ProgramTree) (x : ResolvedLayout) (k : IsUnbroken p x) where
   abbrev t : Table
@@ -210,9 +203,11 @@ module _ (p : tree.ProgramTree) (x : ResolvedLayout) (k : IsUnbroken p x) where
         let cut : take n.known.given parts.0.modes ≡ take n.known.given n.laid.fields = (λ j. take (n.section.4 j) parts.0.modes) ∙ given_are.1 ∙ (λ j. take (sym n.section.4 j) n.laid.fields) in
         let short = given_are.0 in
         let same_count = n.section.4 in
-        let count : length (take n.known.given parts.0.modes) ≡ n.known.given = length-take-le n.known.given parts.0.modes (omega arith) in (
-          event_of_class class keys.0 n.known.given variable.0 parts.0,
-          event_is t (section p x k) class name n.known keys.0 variable.0 parts.0 n.named.there n.event most keys.1 variable.1 parts.1,
+        let count : length (take n.known.given parts.0.modes) ≡ n.known.given = length-take-le n.known.given parts.0.modes (omega arith) in
+        let event = event_of_class class keys.0 n.known.given variable.0 parts.0 in (
+          event,
+          goes _ _ name event n.named.there (goes _ _ n.known event n.event (goes _ _ n.known.given event (cond-true _ (Some n.known.given) None most)
+              (goes _ _ keys.0 event keys.1 (goes _ _ variable.0 event variable.1 (goes _ _ parts.0 event parts.1 refl))))),
           refl,
           λ q b.
               let laid : slice_get q.layout.classes class ≡ Some n.laid = ap (λ (l : PlainLayout). slice_get l.classes class) b.layout.layout ∙ n.there in
