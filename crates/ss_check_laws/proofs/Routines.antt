@@ -1,10 +1,10 @@
 -- What the sections of a program that breaks no rule resolve to, and its routines.
 use Rattle.std.proofs.Common.{◌≡◌, ℕ, ◌+◌, ◌≤◌, Bool, List, [], ◌++◌, length, map, take, drop, slice_get, option_map, flat_map, Option, Some, None, refl, sym, ap, subst, subst₂, ◌∙◌, take-append-drop, arith}
 use Rattle.std.specs.List.{AllByRecursion as Every}
-use Rattle.ss_check_laws.proofs.Common.{AreValid, at_place, Block, BodiesResolve, Done, each_at, each_empty, each_made, Event, from_places, in_parts, is_main, IsLinked, local_mode, locals_of, Mode, Moded, numbers_length, Program, ResolvedLayout, Routine, RoutineSection, same_Some, scope_of, slice_get-map, Table, table, Use, values_of}
+use Rattle.ss_check_laws.proofs.Common.{AreValid, at_place, Block, BodiesResolve, Done, each_at, each_empty, each_made, Event, from_places, goes, in_parts, is_main, IsLinked, local_mode, locals_of, Mode, Moded, numbers_length, Program, ResolvedLayout, Routine, RoutineSection, same_Some, scope_of, slice_get-map, Table, table, Use, values_of}
 use Rattle.ss_check_rules.specs.Refusal.{use_breaks, breaches, in_preamble, in_program, breaches_in_section}
 use Rattle.ss_names_meaning.specs.Answers.{each, ◌>>=◌}
-use Rattle.ss_names_meaning.specs.Resolved.{local_modes, Parts, parts_with_locals, routine_from, resolved_body, routine_of}
+use Rattle.ss_names_meaning.specs.Resolved.{local_modes, Parts, parts_with_locals, routine_from, routine_of}
 use Rattle.ss_program.specs.WellTyped.{IsTypedBlock, TypedScope as Place, IsTypedRoutine}
 use Rattle.ss_tree.specs.Tree as tree
 use Rattle.ss_names_uses.specs.Uses as uses
@@ -25,10 +25,6 @@ pub record IsUnbroken (p : tree.ProgramTree) (x : ResolvedLayout) : Type 0 where
   pub bodies : BodiesResolve
 
 -- ---- steps
-
-resolved_part : (t : Table) (all : List Moded) (sections : List tree.SectionTree) (n : ℕ) (s : tree.SectionTree) (locals : Moded) (modes : List Mode) (body : Block) → slice_get sections n ≡ Some s → slice_get all n ≡ Some locals →
-    local_modes locals ≡ Some modes → resolved_body t all locals s ≡ Some body → parts_with_locals t all sections n ≡ Some (record { line = s.line; modes = modes; body = body })
-resolved_part t all sections n s locals modes body e f g h = rw (e, f, g, h) refl
 
 -- a section without statements
 abbrev bare : tree.SectionTree → List Mode → Parts
@@ -163,9 +159,11 @@ module _ (p : tree.ProgramTree) (x : ResolvedLayout) (k : IsUnbroken p x) where
       let v = section_valid n s e in
       let place : Place = record { program = q; locals = v.modes; is_main = is_main s.kind } in
       let done = k.bodies (scope_of t p.sections s) place (linked section m q b s v (is_main s.kind)) s.body (uses_kept n s e).1 in
+      let parts : Parts = record { line = s.line; modes = v.modes; body = done.0 } in
+      let there = slice_get-map (locals_of t) p.sections n ∙ ap (option_map (locals_of t)) e in
       record {
-        parts = record { line = s.line; modes = v.modes; body = done.0 };
-        resolved = resolved_part t all p.sections n s (locals_of t s) v.modes done.0 e (slice_get-map (locals_of t) p.sections n ∙ ap (option_map (locals_of t)) e) v.moded done.1;
+        parts = parts;
+        resolved = goes _ _ s parts e (goes _ _ (locals_of t s) parts there (goes _ _ v.modes parts v.moded (goes _ _ done.0 parts done.1 refl)));
         modes = v.moded;
         body = done.2;
       }
@@ -175,11 +173,8 @@ module _ (p : tree.ProgramTree) (x : ResolvedLayout) (k : IsUnbroken p x) where
   abbrev sketch : ℕ → Option Parts
   sketch n = slice_get p.sections n >>= λ s. local_modes (locals_of t s) >>= λ modes. Some (bare s modes)
 
-  sketched : (n : ℕ) (s : tree.SectionTree) (modes : List Mode) → slice_get p.sections n ≡ Some s → local_modes (locals_of t s) ≡ Some modes → sketch n ≡ Some (bare s modes)
-  sketched n s modes e f = rw (e, f) refl
-
   sketch_modes : HasModes sketch
-  sketch_modes n s e = let v = section_valid n s e in (bare s v.modes, sketched n s v.modes e v.moded, v.moded)
+  sketch_modes n s e = let v = section_valid n s e in (bare s v.modes, goes _ _ s (bare s v.modes) e (goes _ _ v.modes (bare s v.modes) v.moded refl), v.moded)
 
   abbrev pub program_with : List Routine → List Event → List Mode → Block → Program
   program_with routines events locals main = record {

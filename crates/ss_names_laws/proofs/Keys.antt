@@ -73,9 +73,6 @@ same_sets line other sets more order keys o e f =
     let same : define_sets line sets order ≡ define_sets other more (ranked keys) = same_Some (define_sets line sets order) (define_sets other more (ranked keys)) (sym e ∙ f) in
     cc
 
-ranked_step : (t : Table) (member : Option ℕ) (class statement : ℕ) (keys : List RankKey) → member ≡ Some class → rank_keys t class statement ≡ Some keys → ruled t member statement rules.Ranked ≡ Some (disciplines_of.Ranked keys)
-ranked_step t member class statement keys e h = rw (e, h) refl
-
 module _ (p : ProgramTree) (kept : refusal_of_declarations p ≡ None) where
   -- ---- disciplines
 
@@ -108,7 +105,7 @@ module _ (p : ProgramTree) (kept : refusal_of_declarations p ≡ None) where
   by_rule name set o made rules.Lifo = (disciplines_of.Lifo, refl)
   by_rule name set o made rules.Ranked =
       let keys = keys_there name set o made in
-      (disciplines_of.Ranked keys.0, ranked_step (table p) (set_of (classes (declarations p)) (declarations p) name).member set.member o.statement keys.0 set.filled keys.1)
+      (disciplines_of.Ranked keys.0, goes _ _ set.member (disciplines_of.Ranked keys.0) set.filled (goes _ _ keys.0 (disciplines_of.Ranked keys.0) keys.1 refl))
 
   discipline_there : (name : NameBytes) → IsOwned p name → (x : Discipline) × (discipline (table p) (set_of (classes (declarations p)) (declarations p) name) ≡ Some x) × Unit {0}
   discipline_there name set = by (value_for (given_by order_by (declarations p)) name) refl

@@ -1,6 +1,6 @@
 -- The layout of a program that breaks no rule is there with all of its parts, and is well typed.
 use Rattle.std.proofs.Common.{◌≡◌, ◌≢◌, ℕ, ◌==◌, Bool, false, List, length, Option, Some, None, option_map, option_and_then, refl, sym, ap, subst, ◌∙◌}
-use Rattle.ss_names_laws.proofs.Common.{Attribute, cond_some, count_by, CountedClass, counts, declarations, declares, DefinedOrder, Discipline, discipline, disciplines, entry_of_key, eqb-true, given_by, Global, is_text, IsMeant, IsValidTable, keys_of, layout, Meaning, MemberCount, Mode, NameBytes, numbered, OfAttribute, OfCount, OfVariable, ordered, Permanent, PlainClass, PlainLayout, ProgramTree, rank_key, rank_keys, ranked_by, RankedBy, RankKey, refusal_of_uses, resolved_layout, resolved_statistic, ResolvedLayout, ruled, same_name, same_Some, Set, set_layout, SetLayout, SetRule, slice_get, slice_get-map, Statistic, statistics, Subject, subject_of, Table, table, tie_keys, tied_by, TiedBy, value_for, values_of}
+use Rattle.ss_names_laws.proofs.Common.{Attribute, cond_some, count_by, CountedClass, counts, declarations, declares, DefinedOrder, Discipline, discipline, entry_of_key, eqb-true, given_by, Global, is_text, IsMeant, IsValidTable, keys_of, Meaning, MemberCount, Mode, NameBytes, numbered, OfAttribute, OfCount, OfVariable, ordered, Permanent, PlainClass, PlainLayout, ProgramTree, rank_key, rank_keys, ranked_by, RankedBy, RankKey, refusal_of_uses, resolved_statistic, ResolvedLayout, ruled, same_name, same_Some, Set, set_layout, SetLayout, SetRule, slice_get, slice_get-map, Statistic, Subject, subject_of, table, tie_keys, tied_by, TiedBy, value_for, values_of}
 use Rattle.std.specs.List.{AllZip, AllByRecursion as Every, filter}
 use Rattle.ss_base.specs.declared.layout.Mode.TheVariants.{Integer}
 use Rattle.ss_names_meaning.specs.Answers.{upto, where_holds}
@@ -18,23 +18,19 @@ use Rattle.ss_names_laws.proofs.Known.{name_known}
 use Rattle.ss_names_laws.proofs.Layouts.{layouts_are_there}
 use Rattle.ss_names_laws.proofs.Meanings.{field_at, kind_at, tables_are_valid}
 use Rattle.ss_names_laws.proofs.Parts.{IsMadeOf, parts_of, set_parts, subject_kept}
-use Rattle.ss_names_laws.proofs.Results.{each_every, each_zip}
+use Rattle.ss_names_laws.proofs.Results.{each_every, each_zip, goes}
 use Rattle.ss_names_laws.proofs.Statistics.{IsWatched, all_watched, statistics_there}
 use Rattle.ss_names_laws.proofs.Steps.{got, mapped}
 
 -- ---- it is there
-
-all_there : (t : Table) (l : PlainLayout) (orders : List Discipline) (kept : List Statistic) → layout t ≡ Some l → disciplines t ≡ Some orders → statistics t ≡ Some kept → (x : ResolvedLayout) × (resolved_layout t ≡ Some x)
-all_there t l orders kept e f g =
-    let made : ResolvedLayout = record { layout = l; disciplines = orders; globals = values_of t.variables; counts = counts t; statistics = kept } in
-    (made, rw (e, f, g) refl)
 
 pub tables_are_there : TablesAreThere
 tables_are_there p kept used =
     let laid = layouts_are_there p kept in
     let orders = disciplines_there p kept in
     let stats = statistics_there p used in
-    all_there (table p) laid.0 orders.0 stats.0 laid.1 orders.1 stats.1
+    let made : ResolvedLayout = record { layout = laid.0; disciplines = orders.0; globals = values_of (table p).variables; counts = counts (table p); statistics = stats.0 } in
+    (made, goes _ _ laid.0 made laid.1 (goes _ _ orders.0 made orders.1 (goes _ _ stats.0 made stats.1 refl)))
 
 -- ---- it is well typed
 
