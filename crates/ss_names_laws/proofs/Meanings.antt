@@ -77,9 +77,6 @@ module _ (p : ProgramTree) (kept : refusal_of_declarations p ≡ None) (x : Reso
   fits name (m.Routine k) h known = let r = value_by_place (routines (declarations p)) name k known in (r.0, value_at (routines (declarations p)) k name r.0 r.2)
   fits name _ h known = known
 
-  known_class : (name : NameBytes) (class : ℕ) (kind : ClassKind) (variable : ℕ) → value_for (table p).meanings name ≡ Some (m.Class class kind variable) → IsKnown (numbered (declarations p)) name (m.Class class kind variable)
-  known_class name class kind variable h = name_known (declarations p) name (m.Class class kind variable) h
-
   -- ---- the names of classes, and subjects
 
   class_named_so : (class : ℕ) (c : PlainClass) → slice_get x.layout.classes class ≡ Some c → IsNamedClass (table p) class c
@@ -119,9 +116,9 @@ module _ (p : ProgramTree) (kept : refusal_of_declarations p ≡ None) (x : Reso
     laid = is;
     meanings = λ name meaning h. fits name meaning h (name_known (declarations p) name meaning h);
     classes = class_named_so;
-    numbered = λ name class kind variable h. (known_class name class kind variable h).0;
+    numbered = λ name class kind variable h. (name_known (declarations p) name (m.Class class kind variable) h).0;
     counts = λ name class variable h.
-        let said = class_said (declarations p) name Permanent (known_class name class Permanent variable h).1 in
+        let said = class_said (declarations p) name Permanent (name_known (declarations p) name (m.Class class Permanent variable) h).1 in
         count_meant p kept said.0 name said.1;
     routines = λ name k h.
         let r = value_by_place (routines (declarations p)) name k (name_known (declarations p) name (m.Routine k) h) in

@@ -3,7 +3,7 @@ use Rattle.std.proofs.Common.{◌≡◌, ℕ, not, true, false, [], ◌++◌, Li
 use Rattle.std.specs.Prelude.{slice_get}
 use Rattle.std.specs.List.{AllByRecursion as Every, flat_map}
 use Rattle.std.proofs.lemmas.Bool.{not-true}
-use Rattle.ss_names_laws.proofs.Common.{declarations, Declared, Global, is_text, key_at, keys_of, Line, Local, Meaning, MemberCount, NameBytes, numbered, OfAttribute, OfCount, OfVariable, slice_get-map, Statistic, Subject, subject_of, Table, table, there, unless, upto, value_at, value_for, values_of}
+use Rattle.ss_names_laws.proofs.Common.{declarations, Declared, Global, is_text, key_at, keys_of, Line, Local, Meaning, MemberCount, NameBytes, numbered, OfAttribute, OfCount, OfVariable, slice_get-map, Statistic, Subject, subject_of, Table, table, there, unless, upto, value_at, value_for}
 use Rattle.ss_names.specs.Entries.{given_by, history_by}
 use Rattle.ss_names_meaning.specs.Layouts.{resolved_statistic, statistics as statistics_of}
 use Rattle.ss_tree.specs.Tree.{PreambleTree, ProgramTree, statistics}
@@ -18,7 +18,7 @@ use Rattle.ss_names_laws.proofs.Each.{at_place, each_empty, every_first}
 use Rattle.ss_names_laws.proofs.Items.{both_empty}
 use Rattle.ss_names_laws.proofs.Kept.{nothing_found}
 use Rattle.ss_names_laws.proofs.Known.{IsKnown, name_known}
-use Rattle.ss_names_laws.proofs.Results.{each_made, upto_every}
+use Rattle.ss_names_laws.proofs.Results.{each_made, goes, upto_every}
 use Rattle.ss_names_laws.proofs.Sources.{IsMade, every_made}
 use Rattle.ss_names_laws.proofs.Steps.{none_listed}
 use Rattle.ss_names_laws.proofs.Unbroken.{first_holds, holds_unless}
@@ -40,11 +40,6 @@ subject_there t name (m.Variable (Local k) mode) known h = absurd known
 subject_there t name (m.Attribute class field mode) known h = (OfAttribute class field, refl)
 subject_there t name (m.OfSet MemberCount set) known h = (OfCount set, refl)
 subject_there t name _ known h = absurd cc
-
-statistic_there : (t : Table) (n : ℕ) (weighting : Weighting) (subject : Subject) → slice_get (values_of t.histories) n ≡ Some weighting → slice_get t.subjects n ≡ Some (Some subject) → (s : Statistic) × (resolved_statistic t n ≡ Some s) × Unit {0}
-statistic_there t n weighting subject e f =
-    let made : Statistic = record { subject = subject; weighting = weighting } in
-    (made, rw (e, f) refl, tt)
 
 module _ (p : ProgramTree) (kept : refusal_of_uses p ≡ None) where
   -- the name means a whole number that may have a history
@@ -72,6 +67,7 @@ module _ (p : ProgramTree) (kept : refusal_of_uses p ≡ None) where
       let whole = at_place IsWatched t.histories n e.0 all_watched e.1 in
       let subject = subject_there (numbered (declarations p)) e.0.0 whole.0 (name_known (declarations p) e.0.0 whole.0 whole.1) whole.2 in
       let named : slice_get t.subjects n ≡ Some (of_name e.0.0) = slice_get-map of_name (keys_of t.histories) n ∙ ap (option_map of_name) (key_at t.histories n e.0.0 e.0.1 e.1) in
-      statistic_there t n e.0.1 subject.0 (value_at t.histories n e.0.0 e.0.1 e.1) (named ∙ ap Some (ap subject_of whole.1 ∙ subject.1))) in
+      let made : Statistic = record { subject = subject.0; weighting = e.0.1 } in
+      (made, goes _ _ e.0.1 made (value_at t.histories n e.0.0 e.0.1 e.1) (goes _ _ (Some subject.0) made (named ∙ ap Some (ap subject_of whole.1 ∙ subject.1)) refl), tt)) in
       let found = each_made (resolved_statistic t) (λ (s : Statistic). Unit {0}) (upto (length t.histories)) all in
       (found.0, found.1)
