@@ -1,6 +1,6 @@
 -- A program that breaks no rule on declarations has a layout.
 use Rattle.std.proofs.Common.{◌≡◌, ℕ, ◌<◌, ◌≤◌, ◌&&◌, nat_eq, nat_le, nat_lt, Bool, true, List, [], ◌∷◌, ◌++◌, length, get_or, Option, Some, None, option_map, inl, inr, refl, sym, ap, subst, arith}
-use Rattle.ss_names_laws.proofs.Common.{Attribute, attribute_after, attribute_classes, attributes, attributes_after, class_layout, classes, ClassKind, declarations, each, layout, Mode, mode_of_attribute, mode_of_name, NameBytes, Owner, PlainClass, PlainLayout, ProgramTree, refusal_of_declarations, Set, set_layout, set_names, set_of, SetLayout, slice_get, Table, table, there, upto, value_at, value_for, values_of}
+use Rattle.ss_names_laws.proofs.Common.{Attribute, attribute_after, attribute_classes, attributes, attributes_after, class_layout, classes, ClassKind, declarations, each, layout, Mode, mode_of_attribute, mode_of_name, NameBytes, PlainClass, PlainLayout, ProgramTree, refusal_of_declarations, Set, set_layout, set_names, set_of, SetLayout, slice_get, Table, table, there, upto, value_at, value_for, values_of}
 use Rattle.std.specs.List.{AllByRecursion as Every, filter, list_all}
 use Rattle.std.proofs.lemmas.Bool.{and_from, cond-true, le-leb}
 use Rattle.ss_base.specs.Layout.{is_layout, is_narrow, is_sound, names_classes, owns_among}
@@ -12,7 +12,7 @@ use Rattle.ss_names_laws.proofs.Items.{Among, at_item, each_item}
 use Rattle.ss_names_laws.proofs.Limits.{few_attributes, few_classes, few_sets}
 use Rattle.ss_names_laws.proofs.Owners.{IsOwned, all_owned}
 use Rattle.ss_names_laws.proofs.Parts.{each_length, numbers_length}
-use Rattle.ss_names_laws.proofs.Results.{each_made, upto_every}
+use Rattle.ss_names_laws.proofs.Results.{each_made, goes, upto_every}
 
 -- ---- attributes of a class
 
@@ -50,11 +50,6 @@ class_there t n kind class known few =
     let laid : PlainClass = record { kind = kind; fields = modes.0 } in
     (laid, rw (class, modes.1) refl, le-leb (length modes.0) 1048576 (omega (arith, each_length (mode_of_attribute t) (get_or t.fields n []) modes.0 modes.1, few)))
 
-set_there : (s : Set) (owner : Owner) (member classes : ℕ) → s.owner ≡ Some owner → s.member ≡ Some member → owns_among classes owner ≡ true → nat_lt member classes ≡ true → (y : SetLayout) × (set_layout s ≡ Some y) × (names_classes classes y ≡ true)
-set_there s owner member classes e f g h =
-    let laid : SetLayout = record { owner = owner; member = member } in
-    (laid, rw (e, f) refl, and_from (owns_among classes owner) (nat_lt member classes) g h)
-
 all_of : {A : Type 0} (test : A → Bool) (xs : List A) → Every (λ x. test x ≡ true) xs → list_all test xs ≡ true
 all_of test [] h = refl
 all_of test (x ∷ xs) h = rw (h.0, all_of test xs h.1) refl
@@ -81,7 +76,8 @@ layouts_are_there p kept =
     let count : length laid.0 ≡ length t.classes = numbers_length (class_layout t) (length t.classes) laid.0 laid.1 in
     let each_set = every_image (λ (s : Set). (y : SetLayout) × (set_layout s ≡ Some y) × (names_classes (length t.classes) y ≡ true)) (set_of (classes ds) ds) (set_names ds) (λ name a.
     let set = at_item (IsOwned p) (set_names ds) name (all_owned p kept) a in
-    set_there (set_of (classes ds) ds name) set.owner set.member (length t.classes) set.owned set.filled set.owner_below set.member_below) in
+    let made : SetLayout = record { owner = set.owner; member = set.member } in
+    (made, goes _ _ set.owner made set.owned (goes _ _ set.member made set.filled refl), and_from (owns_among (length t.classes) set.owner) (nat_lt set.member (length t.classes)) set.owner_below set.member_below)) in
     let laid_sets = each_made set_layout (λ (y : SetLayout). names_classes (length t.classes) y ≡ true) t.sets each_set in
     let few_cs : length laid.0 ≤ 64 = omega (arith, count, few_classes p kept) in
     let few_ss : length laid_sets.0 ≤ 64 = omega (arith, each_length set_layout t.sets laid_sets.0 laid_sets.1, few_sets p kept) in
