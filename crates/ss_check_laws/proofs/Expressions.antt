@@ -15,7 +15,7 @@ use Rattle.ss_names_meaning.specs.Answers.{◌>>=◌}
 use Rattle.ss_check_laws.specs.BodyLaws.{ExpressionsResolve, IsResolved}
 use Rattle.ss_check_laws.proofs.Steps.{after, after_one, after_two, GoesWell, two_parts}
 use Rattle.ss_check_laws.proofs.Linked.{IsHere}
-use Rattle.ss_check_laws.proofs.Places.{EntityFits, Number, Numbers, NumberTerms, OwnerHas, in_role, named_statistic_fits, named_with, number_mode, owner_fits, said_is}
+use Rattle.ss_check_laws.proofs.Places.{EntityFits, Number, Numbers, NumberTerms, OwnerHas, in_role, named_statistic_fits, number_mode, owner_fits, said_is}
 
 module _ (s : Scope) (g : Place) where
   -- ---- numbers
@@ -102,7 +102,7 @@ module _ (s : Scope) (g : Place) (k : IsLinked s g) where
             v.0,
             v.1,
             goes (subscript s es) (λ e. meaning_with_entity s d e >>= λ r. resolved_value r.0 r.1) p.5.0 v.0 p.5.2
-                (goes (meaning_with_entity s d p.5.0) (λ r. resolved_value r.0 r.1) q v.0 (named_with s g d p.5.0 p.0 of p.1 p.5.3) v.2),
+                (goes (meaning_with_entity s d p.5.0) (λ r. resolved_value r.0 r.1) q v.0 (goes _ _ p.0 q p.1 (goes _ _ of q p.5.3 refl)) v.2),
             v.4,
             said_is s d ∙ ap meaning_mode p.1 ∙ v.3,
             number_mode b p.0 v.1 v.3 p.4.mode,

@@ -86,11 +86,8 @@ module _ (s : Scope) (g : Place) where
   abbrev pub HasEntity : ExpressionRow → Meaning → Type 0
   HasEntity es m = (e : Option Expression) × (of : Option Expression) × (subscript s es ≡ Some e) × (entity_of s m e ≡ Some of) × EntityFits m of
 
-  pub named_with : (d : Designator) (e : Option Expression) (m : Meaning) (of : Option Expression) → meaning_of s d ≡ Some m → entity_of s m e ≡ Some of → meaning_with_entity s d e ≡ Some (m, of)
-  named_with d e m of h f = rw (h, f) refl
-
   pub placed : (d : Designator) (es : ExpressionRow) (m : Meaning) (p : HasEntity es m) → meaning_of s d ≡ Some m → place_named s d es ≡ Some (m, p.1)
-  placed d es m p h = goes (subscript s es) (λ e. meaning_with_entity s d e) p.0 (m, p.1) p.2 (named_with d p.0 m p.1 h p.3)
+  placed d es m p h = goes (subscript s es) (λ e. meaning_with_entity s d e) p.0 (m, p.1) p.2 (goes _ _ m (m, p.1) h (goes _ _ p.1 (m, p.1) p.3 refl))
 
   -- ---- rules
 
