@@ -1,15 +1,12 @@
 -- What expressions begin with, and what continues them.
 use Rattle.std.proofs.Common.{◌≡◌, ℕ, zero, suc, Bool, true, false, ◌||◌, List, refl, ap, ◌∙◌, inl, inr, ◌⊎◌}
+use Rattle.std.proofs.lemmas.Bool.{or_right}
 use Rattle.ss_parse_expressions.proofs.Common.{and_expression, and_term, begins, begins_sign, begins_sum, call, Designated, Designator, designator_of_word, ExpressionRow, ExpressionTree, factor_place, first_place, Function, function_of, Further_factors, Further_terms, is_some, named, no_expression, no_term, number, opening, parenthesised, product, Sign, Sign_is, signed, Spelled, star, sum, sum_place, term_place, TermRow, text, Token, word}
 use Rattle.ss_lex.specs.declared.word.Word.TheVariants as words
 use Rattle.ss_base.specs.declared.words.Sign.TheVariants as signs
 use Rattle.ss_tree.specs.declared.expression.Designator.TheVariants as designators
 use Rattle.ss_parse_expressions.specs.Shapes.{Shape, ◌▷◌, Word_for, nested_shape}
 use Rattle.ss_parse_expressions.proofs.Marks.{starts_otherwise}
-
-or_right : (a b : Bool) → b ≡ true → (a || b) ≡ true
-or_right true b e = refl
-or_right false b e = e
 
 pub designated_begins : (d : Designator) (ts rest : List Token) → Designated d ts rest → (begins_sum ts ≡ true) × (begins_sign ts ≡ false)
 designated_begins (designators.Name n) ts rest (span, line, e) = (rw e refl, rw e refl)
