@@ -90,10 +90,6 @@ expect_complete m ts rest u (span, line, e) = rw (e, is_itself m) refl
 pub token_less : (k : TokenKind) (ts rest : List Token) → Token_is k ts rest → suc (length rest) ≡ length ts
 token_less k ts rest (span, line, e) = rw e refl
 
-pub skip_less : (m : Mark) (ts : List Token) → length (skip m ts) ≤ length ts
-skip_less m [] = omega arith
-skip_less m (t ∷ ts) = elim (which (is m t.kind)) [ inl p ↦ rw p (omega arith) | inr p ↦ rw p (omega arith) ]
-
 pub skip_openers : (m : Mark) (ts : List Token) → openers (skip m ts) ≤ openers ts
 skip_openers m [] = omega arith
 skip_openers m (t ∷ ts) = elim (which (is m t.kind)) [ inl p ↦ rw p (omega arith) | inr p ↦ rw p (omega arith) ]

@@ -11,7 +11,7 @@ use Rattle.ss_parse_expressions.specs.ReadPlaces.{subscript_row, named_tree, sub
 use Rattle.ss_parse_expressions.proofs.Marks.{mark_begins, token_less, starts_otherwise, In_table, begins_table}
 use Rattle.ss_parse_expressions.proofs.ReaderLaws.{Reads, Item, continues_never, item_of, taken_reads, seq_reads, before_mark_reads, opened_reads, apply_reads, reshaped_reads, maybe_reads, too_deep_reads}
 use Rattle.ss_parse_expressions.proofs.Rows.{list_reads, Loop, loop_of, separated_item}
-use Rattle.ss_parse_expressions.proofs.Beginnings.{In, in_begins, sum_no_and, continues_sum, designated_begins}
+use Rattle.ss_parse_expressions.proofs.Beginnings.{In, in_begins, sum_no_and, continues_sum}
 use Rattle.ss_parse_expressions.proofs.Factors.{word_designates}
 use Rattle.ss_parse_expressions.proofs.Sums.{in_less, sum_in_reads}
 
@@ -107,13 +107,9 @@ In_target room t = nested_shape (λ l. Target_is l t) room
 pub target_in_reads : (n m : ℕ) → n ≤ m → Reads n (target_in n) (target_in m) (In_target n) continues_place
 target_in_reads n m le = place_in_reads designator_of Designated designated_to designated_from n m le
 
-pub target_begins : (n : ℕ) (ts : List Token) (t : NamedTree) (rest : List Token) → Target_is n t ts rest → (begins_target ts ≡ true) × (begins_sum ts ≡ true)
-target_begins n ts t rest s =
-    (begins_table designator_of ts s.0 t.designator (designated_from t.designator ts s.0 s.1), (designated_begins t.designator ts s.0 s.1).0)
-
 in_target_begins : (n : ℕ) (ts : List Token) (t : NamedTree) (rest : List Token) → In_target n t ts rest → begins_target ts ≡ true
 in_target_begins zero ts t rest s = absurd s
-in_target_begins (suc n) ts t rest s = (target_begins n ts t rest s).0
+in_target_begins (suc n) ts t rest s = begins_table designator_of ts s.0 t.designator (designated_from t.designator ts s.0 s.1)
 
 pub in_target_less : (n : ℕ) (ts : List Token) (t : NamedTree) (rest : List Token) → In_target n t ts rest → length rest < length ts
 in_target_less zero ts t rest s = absurd s

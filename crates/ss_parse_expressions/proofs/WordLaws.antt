@@ -156,9 +156,6 @@ name_less ts n rest s = omega (arith, token_less (kinds.Name n) ts rest s)
 pub name_no_and : (ts : List Token) → begins_name ts ≡ true → begins (word words.And) ts ≡ false
 name_no_and = starts_otherwise (word words.And) begins_name (λ span line ts. refl)
 
-abbrev pub continues_names : List Token → Bool
-continues_names ts = begins_more begins_name ts
-
 pub names_reads : (k : ℕ) → Reads k names names (separated_list Name_is) (λ ts. begins_more begins_name ts || (continues_never ts || continues_never ts))
 names_reads k = list_reads (name_reads k) begins_name name_begins name_no_and name_less (λ span line ts. refl) (λ span line ts. refl)
 
