@@ -52,53 +52,77 @@ taken_reads {A = A} k table = record {
     opening [] = tt
     opening (t ∷ ts) = go (table t.kind) (opens t.kind) ts
 
--- ---- one after another
+-- a reader that reads nothing
+pub done_reads : {A : Type 0} (k : ℕ) (x : A) → Reads k (done x) (done x) (λ y. provided (x ≡ y) nothing) continues_never
+done_reads {A = A} k x = record {
+  sound = λ ts y rest e. carry (λ (y : A) (r : List Token). (x ≡ y) × (ts ≡ r)) x y ts rest e (refl, refl);
+  complete = λ ts y rest s stop. λ i. Ok (s.0 i, s.1 i);
+  shorter = λ ts y rest s. omega (arith, ap length s.1);
+  under = λ ts. upto_same _;
+  opening = λ ts. omega arith;
+}
 
-module _ {A B : Type 0} {k : ℕ} {r r' : Reader A} {q q' : Reader B} {S : A → Shape} {T : B → Shape} {c d : List Token → Bool} (first : Reads k r r' S c) (second : Reads k q q' T d) (stops : (y : B) (ts rest : List Token) → T y ts rest → d rest ≡ false → c ts ≡ false) where
-  pub seq_reads : Reads k (seq r q) (seq r' q') (λ p. S p.0 ▷ T p.1) d
-  seq_reads = record {
-    sound = λ ts p rest e.
-        let x = bind_ok (r ts) _ _ e in
-        let y = bind_ok (q x.0.1) _ _ x.2 in
-        carry (λ (p : A × B) (z : List Token). (S p.0 ▷ T p.1) ts z) (x.0.0, y.0.0) p y.0.1 rest y.2 (x.0.1, first.sound ts x.0.0 x.0.1 x.1, second.sound x.0.1 y.0.0 y.0.1 y.1);
-    complete = λ ts p rest s stop.
-        let a : r ts ≡ Ok (p.0, s.0) = first.complete ts p.0 s.0 s.1 (stops p.1 s.0 rest s.2 stop) in
-        let b : q s.0 ≡ Ok (p.1, rest) = second.complete s.0 p.1 rest s.2 stop in
-        rw (a, b) refl;
-    shorter = λ ts p rest s. omega (arith, first.shorter ts p.0 s.0 s.1, second.shorter s.0 p.1 rest s.2);
-    under = λ ts. upto_bind _ _ _ _ (first.under ts) (λ x. upto_bind _ _ _ _ (second.under x.1) (λ y. upto_same _));
-    opening = λ ts. bounded_bind k (openers ts) (r ts) _ (first.opening ts) (λ x. bounded_bind k (openers x.1) (q x.1) _ (second.opening x.1) (λ y. omega arith));
-  }
+-- ---- a reader of a shape reads each equivalent shape
 
-module _ {A : Type 0} {k : ℕ} {r r' : Reader (Unit {0})} {q q' : Reader A} {P : Shape} {S : A → Shape} {c d : List Token → Bool} (first : Reads k r r' (λ u. P) c) (second : Reads k q q' S d) (stops : (x : A) (ts rest : List Token) → S x ts rest → d rest ≡ false → c ts ≡ false) where
-  pub following_reads : Reads k (after_dropped r q) (after_dropped r' q') (λ x. P ▷ S x) d
-  following_reads = record {
+pub reshaped_reads : {A : Type 0} {k : ℕ} {r r' : Reader A} {S : A → Shape} {c : List Token → Bool} → Reads k r r' S c → (T : A → Shape) → ((x : A) (ts rest : List Token) → S x ts rest → T x ts rest) → ((x : A) (ts rest : List Token) → T x ts rest → S x ts rest) → Reads k r r' T c
+reshaped_reads law T to from = record {
+  sound = λ ts x rest e. to x ts rest (law.sound ts x rest e);
+  complete = λ ts x rest s stop. law.complete ts x rest (from x ts rest s) stop;
+  shorter = λ ts x rest s. law.shorter ts x rest (from x ts rest s);
+  under = law.under;
+  opening = law.opening;
+}
+
+-- a law for more tokens that may follow holds for fewer
+pub fewer_reads : {A : Type 0} {k : ℕ} {r r' : Reader A} {S : A → Shape} {c : List Token → Bool} → Reads k r r' S c → (d : List Token → Bool) → ((ts : List Token) → d ts ≡ false → c ts ≡ false) → Reads k r r' S d
+fewer_reads law d fewer = record { sound = law.sound; complete = λ ts x rest s stop. law.complete ts x rest s (fewer rest stop); shorter = law.shorter; under = law.under; opening = law.opening }
+
+-- ---- a reader that depends on what was read before
+
+module _ {A B : Type 0} {k : ℕ} {r r' : Reader A} {q q' : A → Reader B} {S : A → Shape} {T : A → B → Shape} {c d : List Token → Bool} (first : Reads k r r' S c) (second : (x : A) → Reads k (q x) (q' x) (T x) d) (stops : (x : A) (y : B) (ts rest : List Token) → T x y ts rest → d rest ≡ false → c ts ≡ false) where
+  pub bind_reads : Reads k (λ ts. r ts >>= λ x. q x.0 x.1) (λ ts. r' ts >>= λ x. q' x.0 x.1) (λ y ts rest. (x : A) × (S x ▷ T x y) ts rest) d
+  bind_reads = record {
     sound = λ ts y rest e.
         let x = bind_ok (r ts) _ _ e in
-        (x.0.1, first.sound ts x.0.0 x.0.1 x.1, second.sound x.0.1 y rest x.2);
+        (x.0.0, (x.0.1, first.sound ts x.0.0 x.0.1 x.1, (second x.0.0).sound x.0.1 y rest x.2));
     complete = λ ts y rest s stop.
-        let a : r ts ≡ Ok (tt, s.0) = first.complete ts tt s.0 s.1 (stops y s.0 rest s.2 stop) in
-        rw a (second.complete s.0 y rest s.2 stop);
-    shorter = λ ts y rest s. omega (arith, first.shorter ts tt s.0 s.1, second.shorter s.0 y rest s.2);
-    under = λ ts. upto_bind _ _ _ _ (first.under ts) (λ x. second.under x.1);
-    opening = λ ts. bounded_bind k (openers ts) (r ts) _ (first.opening ts) (λ x. second.opening x.1);
+        let a : r ts ≡ Ok (s.0, s.1.0) = first.complete ts s.0 s.1.0 s.1.1 (stops s.0 y s.1.0 rest s.1.2 stop) in
+        rw a ((second s.0).complete s.1.0 y rest s.1.2 stop);
+    shorter = λ ts y rest s. omega (arith, first.shorter ts s.0 s.1.0 s.1.1, (second s.0).shorter s.1.0 y rest s.1.2);
+    under = λ ts. upto_bind _ _ _ _ (first.under ts) (λ x. (second x.0).under x.1);
+    opening = λ ts. bounded_bind k (openers ts) (r ts) _ (first.opening ts) (λ x. (second x.0).opening x.1);
   }
 
-module _ {A : Type 0} {k : ℕ} {r r' : Reader A} {q q' : Reader (Unit {0})} {S : A → Shape} {P : Shape} {c d : List Token → Bool} (first : Reads k r r' S c) (second : Reads k q q' (λ u. P) d) (stops : (ts rest : List Token) → P ts rest → d rest ≡ false → c ts ≡ false) where
-  pub closed_reads : Reads k (closed r q) (closed r' q') (λ x. S x ▷ P) d
-  closed_reads = record {
-    sound = λ ts z rest e.
-        let x = bind_ok (r ts) _ _ e in
-        let y = bind_ok (q x.0.1) _ _ x.2 in
-        carry (λ (z : A) (u : List Token). (S z ▷ P) ts u) x.0.0 z y.0.1 rest y.2 (x.0.1, first.sound ts x.0.0 x.0.1 x.1, second.sound x.0.1 y.0.0 y.0.1 y.1);
-    complete = λ ts z rest s stop.
-        let a : r ts ≡ Ok (z, s.0) = first.complete ts z s.0 s.1 (stops s.0 rest s.2 stop) in
-        let b : q s.0 ≡ Ok (tt, rest) = second.complete s.0 tt rest s.2 stop in
-        rw (a, b) refl;
-    shorter = λ ts z rest s. omega (arith, first.shorter ts z s.0 s.1, second.shorter s.0 tt rest s.2);
-    under = λ ts. upto_bind _ _ _ _ (first.under ts) (λ x. upto_bind _ _ _ _ (second.under x.1) (λ y. upto_same _));
-    opening = λ ts. bounded_bind k (openers ts) (r ts) _ (first.opening ts) (λ x. bounded_bind k (openers x.1) (q x.1) _ (second.opening x.1) (λ y. omega arith));
-  }
+-- ---- a function of what was read
+
+pub apply_reads : {A B : Type 0} {k : ℕ} {r r' : Reader A} {S : A → Shape} {c : List Token → Bool} → Reads k r r' S c → (f : A → B) (T : B → Shape) → ((x : A) (ts rest : List Token) → S x ts rest → T (f x) ts rest) → ((y : B) (ts rest : List Token) → T y ts rest → (x : A) × (f x ≡ y) × S x ts rest) → Reads k (apply f r) (apply f r') T c
+apply_reads {B = B} {k = k} {c = c} law f T to from =
+    reshaped_reads (bind_reads law (λ x. fewer_reads (done_reads k (f x)) c (λ ts stop. refl)) (λ x y ts rest s stop. ap c s.1 ∙ stop)) T
+    (λ y ts rest s. subst (λ (y : B). T y ts rest) s.1.2.0 (subst (λ (r : List Token). T (f s.0) ts r) s.1.2.1 (to s.0 ts s.1.0 s.1.1)))
+    (λ y ts rest s. let x = from y ts rest s in (x.0, (rest, x.2, (x.1, refl))))
+
+-- a value that f makes of one with this shape
+abbrev pub Made : {A B : Type 0} → (A → B) → (A → Shape) → B → Shape
+Made make P y ts rest = (x : _) × (make x ≡ y) × P x ts rest
+
+pub made_reads : {A B : Type 0} {k : ℕ} {r r' : Reader A} {S : A → Shape} {c : List Token → Bool} → Reads k r r' S c → (f : A → B) → Reads k (apply f r) (apply f r') (Made f S) c
+made_reads {S = S} law f = apply_reads law f (Made f S) (λ x ts rest s. (x, refl, s)) (λ y ts rest s. s)
+
+-- ---- one after another
+
+pub seq_reads : {A B : Type 0} {k : ℕ} {r r' : Reader A} {q q' : Reader B} {S : A → Shape} {T : B → Shape} {c d : List Token → Bool} → Reads k r r' S c → Reads k q q' T d → ((y : B) (ts rest : List Token) → T y ts rest → d rest ≡ false → c ts ≡ false) → Reads k (seq r q) (seq r' q') (λ p. S p.0 ▷ T p.1) d
+seq_reads {A = A} {B = B} {S = S} {T = T} first second stops =
+    reshaped_reads (bind_reads first (λ x. made_reads {B = A × B} second (λ y. (x, y))) (λ x p ts rest s stop. stops s.0 ts rest s.2 stop)) (λ p. S p.0 ▷ T p.1)
+    (λ p ts rest s. subst (λ (p : A × B). (S p.0 ▷ T p.1) ts rest) s.1.2.1 (s.1.0, s.1.1, s.1.2.2)) (λ p ts rest s. (p.0, (s.0, s.1, (p.1, refl, s.2))))
+
+pub following_reads : {A : Type 0} {k : ℕ} {r r' : Reader (Unit {0})} {q q' : Reader A} {P : Shape} {S : A → Shape} {c d : List Token → Bool} → Reads k r r' (λ u. P) c → Reads k q q' S d → ((x : A) (ts rest : List Token) → S x ts rest → d rest ≡ false → c ts ≡ false) → Reads k (after_dropped r q) (after_dropped r' q') (λ x. P ▷ S x) d
+following_reads {P = P} {S = S} first second stops =
+    reshaped_reads (bind_reads first (λ u. second) (λ u. stops)) (λ x. P ▷ S x) (λ x ts rest s. s.1) (λ x ts rest s. (tt, s))
+
+pub closed_reads : {A : Type 0} {k : ℕ} {r r' : Reader A} {q q' : Reader (Unit {0})} {S : A → Shape} {P : Shape} {c d : List Token → Bool} → Reads k r r' S c → Reads k q q' (λ u. P) d → ((ts rest : List Token) → P ts rest → d rest ≡ false → c ts ≡ false) → Reads k (closed r q) (closed r' q') (λ x. S x ▷ P) d
+closed_reads {A = A} {S = S} {P = P} first second stops =
+    reshaped_reads (bind_reads first (λ x. made_reads second (λ (u : Unit {0}). x)) (λ x z ts rest s stop. stops ts rest s.2 stop)) (λ x. S x ▷ P)
+    (λ z ts rest s. subst (λ (z : A). (S z ▷ P) ts rest) s.1.2.1 (s.1.0, s.1.1, s.1.2.2)) (λ z ts rest s. (z, (s.0, s.1, (tt, refl, s.2))))
 
 -- a mark, and then what the reader reads
 pub marked_reads : {A : Type 0} {k : ℕ} {q q' : Reader A} {S : A → Shape} {d : List Token → Bool} (m : Mark) → Reads k q q' S d → Reads k (after_dropped (expect m) q) (after_dropped (expect m) q') (λ x. Mark_is m ▷ S x) d
@@ -124,61 +148,6 @@ module _ {A : Type 0} {k : ℕ} {q q' : Reader A} {S : A → Shape} {d : List To
   opened_reads =
       let law = marked_reads m inside in
       record { sound = law.sound; complete = law.complete; shorter = law.shorter; under = law.under; opening = opened_bounded }
-
--- ---- a function of what was read
-
-module _ {A B : Type 0} {k : ℕ} {r r' : Reader A} {S : A → Shape} {c : List Token → Bool} (law : Reads k r r' S c) (f : A → B) (T : B → Shape) where
-  pub apply_reads : ((x : A) (ts rest : List Token) → S x ts rest → T (f x) ts rest) → ((y : B) (ts rest : List Token) → T y ts rest → (x : A) × (f x ≡ y) × S x ts rest) → Reads k (apply f r) (apply f r') T c
-  apply_reads to from = record {
-    sound = λ ts y rest e.
-        let x = bind_ok (r ts) _ _ e in
-        carry (λ (y : B) (z : List Token). T y ts z) (f x.0.0) y x.0.1 rest x.2 (to x.0.0 ts x.0.1 (law.sound ts x.0.0 x.0.1 x.1));
-    complete = λ ts y rest s stop.
-        let x = from y ts rest s in
-        let a : r ts ≡ Ok (x.0, rest) = law.complete ts x.0 rest x.2 stop in
-        rw a (ap (λ (z : B). Ok (z, rest)) x.1);
-    shorter = λ ts y rest s. let x = from y ts rest s in law.shorter ts x.0 rest x.2;
-    under = λ ts. upto_bind _ _ _ _ (law.under ts) (λ x. upto_same _);
-    opening = λ ts. bounded_bind k (openers ts) (r ts) _ (law.opening ts) (λ x. omega arith);
-  }
-
--- a value that f makes of one with this shape
-abbrev pub Made : {A B : Type 0} → (A → B) → (A → Shape) → B → Shape
-Made make P y ts rest = (x : _) × (make x ≡ y) × P x ts rest
-
-pub made_reads : {A B : Type 0} {k : ℕ} {r r' : Reader A} {S : A → Shape} {c : List Token → Bool} → Reads k r r' S c → (f : A → B) → Reads k (apply f r) (apply f r') (Made f S) c
-made_reads {S = S} law f = apply_reads law f (Made f S) (λ x ts rest s. (x, refl, s)) (λ y ts rest s. s)
-
--- ---- a reader that depends on what was read before
-
-module _ {A B : Type 0} {k : ℕ} {r r' : Reader A} {q q' : A → Reader B} {S : A → Shape} {T : A → B → Shape} {c d : List Token → Bool} (first : Reads k r r' S c) (second : (x : A) → Reads k (q x) (q' x) (T x) d) (stops : (x : A) (y : B) (ts rest : List Token) → T x y ts rest → d rest ≡ false → c ts ≡ false) where
-  pub bind_reads : Reads k (λ ts. r ts >>= λ x. q x.0 x.1) (λ ts. r' ts >>= λ x. q' x.0 x.1) (λ y ts rest. (x : A) × (S x ▷ T x y) ts rest) d
-  bind_reads = record {
-    sound = λ ts y rest e.
-        let x = bind_ok (r ts) _ _ e in
-        (x.0.0, (x.0.1, first.sound ts x.0.0 x.0.1 x.1, (second x.0.0).sound x.0.1 y rest x.2));
-    complete = λ ts y rest s stop.
-        let a : r ts ≡ Ok (s.0, s.1.0) = first.complete ts s.0 s.1.0 s.1.1 (stops s.0 y s.1.0 rest s.1.2 stop) in
-        rw a ((second s.0).complete s.1.0 y rest s.1.2 stop);
-    shorter = λ ts y rest s. omega (arith, first.shorter ts s.0 s.1.0 s.1.1, (second s.0).shorter s.1.0 y rest s.1.2);
-    under = λ ts. upto_bind _ _ _ _ (first.under ts) (λ x. (second x.0).under x.1);
-    opening = λ ts. bounded_bind k (openers ts) (r ts) _ (first.opening ts) (λ x. (second x.0).opening x.1);
-  }
-
--- ---- a reader of a shape reads each equivalent shape
-
-pub reshaped_reads : {A : Type 0} {k : ℕ} {r r' : Reader A} {S : A → Shape} {c : List Token → Bool} → Reads k r r' S c → (T : A → Shape) → ((x : A) (ts rest : List Token) → S x ts rest → T x ts rest) → ((x : A) (ts rest : List Token) → T x ts rest → S x ts rest) → Reads k r r' T c
-reshaped_reads law T to from = record {
-  sound = λ ts x rest e. to x ts rest (law.sound ts x rest e);
-  complete = λ ts x rest s stop. law.complete ts x rest (from x ts rest s) stop;
-  shorter = λ ts x rest s. law.shorter ts x rest (from x ts rest s);
-  under = law.under;
-  opening = law.opening;
-}
-
--- a law for more tokens that may follow holds for fewer
-pub fewer_reads : {A : Type 0} {k : ℕ} {r r' : Reader A} {S : A → Shape} {c : List Token → Bool} → Reads k r r' S c → (d : List Token → Bool) → ((ts : List Token) → d ts ≡ false → c ts ≡ false) → Reads k r r' S d
-fewer_reads law d fewer = record { sound = law.sound; complete = λ ts x rest s stop. law.complete ts x rest s (fewer rest stop); shorter = law.shorter; under = law.under; opening = law.opening }
 
 -- ---- words in front that may be left out
 
@@ -274,16 +243,6 @@ module _ {A B : Type 0} {k : ℕ} {starts : List Token → Bool} {r r' : Reader 
     under = λ ts. upto_bind _ _ _ _ (law.under ts) (λ x. upto_same _);
     opening = λ ts. bounded_bind k (openers ts) (r ts) _ (law.opening ts) (λ x. omega arith);
   }
-
--- a reader that reads nothing
-pub done_reads : {A : Type 0} (k : ℕ) (x : A) → Reads k (done x) (done x) (λ y. provided (x ≡ y) nothing) continues_never
-done_reads {A = A} k x = record {
-  sound = λ ts y rest e. carry (λ (y : A) (r : List Token). (x ≡ y) × (ts ≡ r)) x y ts rest e (refl, refl);
-  complete = λ ts y rest s stop. λ i. Ok (s.0 i, s.1 i);
-  shorter = λ ts y rest s. omega (arith, ap length s.1);
-  under = λ ts. upto_same _;
-  opening = λ ts. omega arith;
-}
 
 -- ---- one of two readers, the second of which may read nothing
 
