@@ -1,5 +1,6 @@
 -- Rows of what a reader reads.
 use Rattle.std.proofs.Common.{◌≡◌, ℕ, zero, suc, ◌<◌, ◌≤◌, Bool, true, false, ◌||◌, List, [], ◌∷◌, ◌++◌, length, map, drop, Result, Ok, Err, refl, sym, ap, subst, ◌∙◌, append_assoc, arith, inl, inr}
+use Rattle.std.proofs.lemmas.Bool.{or_from}
 use Rattle.std.proofs.lemmas.List.{append-nil, map_push}
 use Rattle.std.specs.Global.{Vec}
 use Rattle.ss_parse_expressions.proofs.Common.{Line, openers, ParseFault, Span, Token}
@@ -13,7 +14,7 @@ use Rattle.ss_parse_expressions.specs.Shapes.{Shape, ◌▷◌, nothing, never, 
 use Rattle.ss_parse_expressions.proofs.Tools.{bind_ok, which, chosen, carry, or_false, and_true, ok_or_err}
 use Rattle.ss_parse_expressions.proofs.Marks.{token, Mark_is, begins_mark, no_skip, skip_openers, token_less}
 use Rattle.ss_parse_expressions.proofs.Depth.{Upto, upto_same, upto_bind, upto_if, Bounded, bounded_more, bounded_bind, bounded_if}
-use Rattle.ss_parse_expressions.proofs.ReaderLaws.{Reads, Item}
+use Rattle.ss_parse_expressions.proofs.ReaderLaws.{Reads, Item, Made, bind_reads, made_reads, reshaped_reads, fewer_reads}
 
 -- a shape of lists that is item after item, each in the state that the ones before it leave
 pub record Is_row {A G : Type 0} (S : G → A → Shape) (next : G → A → G) (T : G → List A → Shape) : Type 0 where
@@ -91,54 +92,35 @@ pub rows_reads : {A : Type 0} {k : ℕ} {starts : List Token → Bool} {item ite
 unfolding rows
 rows_reads {S = S} law stops = row_reads (λ (u : Unit {0}). law) (in_turn S) (λ u. stops) tt
 
+-- a token that can't continue the rest and begins no item doesn't begin the row
+pub each_first : {A : Type 0} {S : A → Shape} (c : List Token → Bool) → ((ts : List Token) (x : A) (rest : List Token) → S x ts rest → c ts ≡ false) → (xs : List A) (ts rest : List Token) → each_in_turn S xs ts rest → c rest ≡ false → c ts ≡ false
+each_first c stops [] ts rest e stop = ap c e ∙ stop
+each_first c stops (x ∷ xs) ts rest (m, one, more) stop = stops ts x m one
+
 -- ---- an item and further ones
 
 module _ {A : Type 0} {k : ℕ} {r r' : Reader A} {S : A → Shape} {starts : List Token → Bool} {item item' : Reader A} {T : A → Shape} {c d : List Token → Bool} (first : Reads k r r' S c) (further : Item k starts item item' T d) (stops : (ts : List Token) (x : A) (rest : List Token) → T x ts rest → (c ts ≡ false) × (d ts ≡ false)) (less : (ts : List Token) (x : A) (rest : List Token) → S x ts rest → length rest < length ts) where
   others : Reads k (rows starts item) (rows starts item') (each_in_turn T) (λ ts. starts ts || d ts)
   others = rows_reads further (λ ts x rest s. (stops ts x rest s).1)
 
-  first_stops : (xs : List A) (ts rest : List Token) → each_in_turn T xs ts rest → c rest ≡ false → c ts ≡ false
-  first_stops [] ts rest e stop = ap c e ∙ stop
-  first_stops (x ∷ xs) ts rest (m, one, more) stop = (stops ts x m one).0
-
-  first_sound : (ts : List Token) (xs : List A) (rest : List Token) → first_and r starts item ts ≡ Ok (xs, rest) → shapes.first_and_each S T xs ts rest
-  first_sound ts xs rest e =
-      let x = bind_ok (r ts) _ _ e in
-      let more = bind_ok (rows starts item x.0.1) _ _ x.2 in
-      carry (λ (y : List A) (z : List Token). shapes.first_and_each S T y ts z) (x.0.0 ∷ more.0.0) xs more.0.1 rest more.2
-      (x.0.1, first.sound ts x.0.0 x.0.1 x.1, others.sound x.0.1 more.0.0 more.0.1 more.1)
-
-  first_complete : (ts : List Token) (xs : List A) (rest : List Token) → shapes.first_and_each S T xs ts rest → (starts rest || (c rest || d rest)) ≡ false → first_and r starts item ts ≡ Ok (xs, rest)
-  first_complete ts [] rest s stop = absurd s
-  first_complete ts (x ∷ xs) rest (m, one, more) stop =
-      let both = or_false (starts rest) (c rest || d rest) stop in
-      let last = or_false (c rest) (d rest) both.1 in
-      let over : starts rest ≡ false = both.0 in
-      let over' : d rest ≡ false = last.1 in
-      let read : r ts ≡ Ok (x, m) = first.complete ts x m one (first_stops xs m rest more last.0) in
-      let read' : rows starts item m ≡ Ok (xs, rest) = others.complete m xs rest more (rw (over, over') refl) in
-      rw (read, read') refl
-
   pub first_less : (ts : List Token) (xs : List A) (rest : List Token) → shapes.first_and_each S T xs ts rest → length rest < length ts
   first_less ts [] rest s = absurd s
   first_less ts (x ∷ xs) rest (m, one, more) = omega (arith, less ts x m one, others.shorter m xs rest more)
 
-  first_shorter : (ts : List Token) (xs : List A) (rest : List Token) → shapes.first_and_each S T xs ts rest → length rest ≤ length ts
-  first_shorter ts xs rest s = omega (arith, first_less ts xs rest s)
-
   pub first_and_reads : Reads k (first_and r starts item) (first_and r' starts item') (shapes.first_and_each S T) (λ ts. starts ts || (c ts || d ts))
-  first_and_reads = record {
-    sound = first_sound;
-    complete = first_complete;
-    shorter = first_shorter;
-    under = λ ts. upto_bind _ _ _ _ (first.under ts) (λ x. upto_bind _ _ _ _ (others.under x.1) (λ xs. upto_same _));
-    opening = λ ts. bounded_bind k (openers ts) (r ts) _ (first.opening ts) (λ x. bounded_bind k (openers x.1) (rows starts item x.1) _ (others.opening x.1) (λ xs. omega arith));
-  }
+  first_and_reads =
+      reshaped_reads (bind_reads first (λ x. fewer_reads (made_reads others (λ (xs : List A). x ∷ xs)) (λ ts. starts ts || (c ts || d ts)) fewer) continued) (shapes.first_and_each S T)
+      (λ ys ts rest s. subst (λ (ys : List A). shapes.first_and_each S T ys ts rest) s.1.2.1 (s.1.0, s.1.1, s.1.2.2)) from
+    where
+      fewer : (ts : List Token) → (starts ts || (c ts || d ts)) ≡ false → (starts ts || d ts) ≡ false
+      fewer ts stop = let both = or_false (starts ts) (c ts || d ts) stop in or_from (starts ts) (d ts) both.0 (or_false (c ts) (d ts) both.1).1
 
--- a token that can't continue the rest and begins no item doesn't begin the row
-pub each_first : {A : Type 0} {S : A → Shape} (c : List Token → Bool) → ((ts : List Token) (x : A) (rest : List Token) → S x ts rest → c ts ≡ false) → (xs : List A) (ts rest : List Token) → each_in_turn S xs ts rest → c rest ≡ false → c ts ≡ false
-each_first c stops [] ts rest e stop = ap c e ∙ stop
-each_first c stops (x ∷ xs) ts rest (m, one, more) stop = stops ts x m one
+      continued : (x : A) (ys : List A) (ts rest : List Token) → Made (λ (xs : List A). x ∷ xs) (each_in_turn T) ys ts rest → (starts rest || (c rest || d rest)) ≡ false → c ts ≡ false
+      continued x ys ts rest s stop = each_first c (λ ts x rest s. (stops ts x rest s).0) s.0 ts rest s.2 (or_false (c rest) (d rest) (or_false (starts rest) (c rest || d rest) stop).1).0
+
+      from : (ys : List A) (ts rest : List Token) → shapes.first_and_each S T ys ts rest → (x : A) × (S x ▷ Made (λ (xs : List A). x ∷ xs) (each_in_turn T) ys) ts rest
+      from [] ts rest s = absurd s
+      from (x ∷ xs) ts rest (m, one, more) = (x, (m, one, (xs, refl, more)))
 
 -- ---- separators
 
