@@ -22,7 +22,8 @@ use Rattle.ss_parse_expressions.proofs.Rows.{first_and_reads, first_less, Loop, 
 use Rattle.ss_parse_expressions.proofs.WordLaws.{word_in_reads, present_reads, fail_reads}
 use Rattle.ss_parse_expressions.proofs.Beginnings.{in_begins, continues_sum}
 use Rattle.ss_parse_expressions.proofs.Sums.{in_less, sum_in_reads}
-use Rattle.ss_parse_expressions.proofs.PlaceLaws.{reference_in_reads, continues_place}
+use Rattle.ss_parse_expressions.specs.ReadPlaces.{plain_of}
+use Rattle.ss_parse_expressions.proofs.PlaceLaws.{plain_from, reference_in_reads, continues_place}
 
 -- ---- words
 
@@ -148,12 +149,9 @@ abbrev Verb_symbol : Verb → Shape
 Verb_symbol = Made verbs.Compares (In_table relation_symbol)
 
 symbol_to : (v : Verb) (ts rest : List Token) → Verb_symbol v ts rest → Verb_is v ts rest
-symbol_to v ts rest (r, makes, (k, takes, at)) = subst (λ v. Verb_is v ts rest) makes (go k takes at)
-  where
-    go : (k : TokenKind) → relation_symbol k ≡ Some r → Token_is k ts rest → Relation_is r ts rest
-    go (kinds.Symbol Equals) e at = let same : r ≡ relations.Equal = cc in inl (same, at)
-    go (kinds.Word w) e at = inr (inl (w, e, at))
-    go _ e at = absurd cc
+symbol_to v ts rest (r, makes, (kinds.Symbol Equals, e, at)) = let same : r ≡ relations.Equal = cc in subst (λ v. Verb_is v ts rest) makes (inl (same, at))
+symbol_to v ts rest (r, makes, (kinds.Word w, e, at)) = subst (λ v. Verb_is v ts rest) makes (inr (inl (w, e, at)))
+symbol_to v ts rest (r, makes, (_, e, at)) = absurd cc
 
 verb_from : (v : Verb) (ts rest : List Token) → Verb_is v ts rest → Verb_symbol v ts rest ⊎ Worded v ts rest
 verb_from (verbs.Compares r) ts rest (inl (same, at)) = inl (r, refl, (kinds.Symbol Equals, ap Some (sym same), at))
@@ -192,9 +190,6 @@ reference_to zero (named (designators.Name v) (and_expression x no_expression)) 
 reference_to (suc n) (named (designators.Name v) (and_expression x no_expression)) set ts rest e (a, at, (b, opened, (c, inner, closed))) =
     let same : record { designator = designators.Name v; subscripts = and_expression x no_expression } ≡ set = cc in
     subst (λ set. Reference_is (suc n) set ts rest) same (a, at, (b, opened, (c, subst (λ r. Spelled x sum_place n b r) inner.2 inner.1, closed)))
-reference_to n (named (designators.Name v) (and_expression x (and_expression y ys))) set ts rest e s = absurd cc
-reference_to n (named designators.TimeV row) set ts rest e s = absurd cc
-reference_to n (named designators.TimeA row) set ts rest e s = absurd cc
 reference_to n _ set ts rest e s = absurd cc
 
 -- the expression that names the set
@@ -206,18 +201,12 @@ reference_from n (designators.Name v) no_expression ts a rest at e = (subst (λ 
 reference_from zero (designators.Name v) (and_expression x no_expression) ts a rest at (b, opened, (c, inner, closed)) = absurd inner
 reference_from (suc n) (designators.Name v) (and_expression x no_expression) ts a rest at (b, opened, (c, inner, closed)) = ((a, at, (b, opened, (c, (c, inner, refl), closed))), refl)
 reference_from n (designators.Name v) (and_expression x (and_expression y ys)) ts a rest at s = absurd s
-reference_from n designators.TimeV row ts a rest at s = absurd at
-reference_from n designators.TimeA row ts a rest at s = absurd at
+reference_from n _ row ts a rest at s = absurd at
 
 -- ---- tests
 
 no_the : (n : ℕ) (set : NamedTree) (ts rest : List Token) → Reference_is n set ts rest → begins (word words.The) ts ≡ false
-no_the n set ts rest (a, at, s) = go set.designator at
-  where
-    go : (d : Designator) → Plain_name d ts a → begins (word words.The) ts ≡ false
-    go (designators.Name v) (span, line, e) = ap (begins (word words.The)) e
-    go designators.TimeV at = absurd at
-    go designators.TimeA at = absurd at
+no_the n set ts rest (a, at, s) = starts_otherwise (word words.The) (begins_by plain_of) (λ span line ts. refl) ts (begins_table plain_of ts a set.designator (plain_from set.designator ts a at))
 
 pub stops_place : (ts : List Token) → continues_sum ts ≡ false → continues_place ts ≡ false
 stops_place ts stop =

@@ -1,10 +1,10 @@
 -- Targets, references and lists of expressions: what is read is spelled, and what is spelled is read.
-use Rattle.std.proofs.Common.{◌≡◌, ℕ, zero, suc, ◌<◌, ◌≤◌, Bool, true, false, ◌||◌, List, length, Option, Some, None, refl, sym, subst, arith}
+use Rattle.std.proofs.Common.{◌≡◌, ℕ, zero, suc, ◌<◌, ◌≤◌, Bool, true, false, ◌||◌, List, length, Option, Some, None, refl, subst, arith}
 use Rattle.ss_parse_expressions.proofs.Common.{and_expression, apply, begins, begins_more, CloseParenthesis, Designator, ExpressionRow, ExpressionTree, maybe, NamedTree, no_expression, OpenParenthesis, seq, skip_separator, taken, Token, TokenKind, Word, word}
 use Rattle.ss_lex.specs.declared.word.Word.TheVariants as words
 use Rattle.ss_lex.specs.declared.token.TokenKind.TheVariants as kinds
 use Rattle.ss_tree.specs.declared.expression.Designator.TheVariants as designators
-use Rattle.ss_parse_expressions.specs.Shapes.{Shape, ◌▷◌, Token_is, Symbol_is, separated_list, perhaps, nested_shape}
+use Rattle.ss_parse_expressions.specs.Shapes.{Shape, ◌▷◌, Symbol_is, separated_list, perhaps, nested_shape}
 use Rattle.ss_parse_expressions.specs.SpelledExpressions.{Designated, Subscript, Target_is, Plain_name, Reference_is}
 use Rattle.ss_parse_expressions.specs.ReadExpressions.{opening, closing, designator_of, begins_sum, sum_in}
 use Rattle.ss_parse_expressions.specs.ReadPlaces.{subscript_row, named_tree, subscript_with, plain_of, named_place_in, target_in, reference_in, begins_target, targets_in, sums_in}
@@ -18,12 +18,9 @@ use Rattle.ss_parse_expressions.proofs.Sums.{in_less, sum_in_reads}
 -- ---- what is named
 
 pub designated_to : (d : Designator) (ts rest : List Token) → In_table designator_of d ts rest → Designated d ts rest
-designated_to d ts rest (k, takes, at) = go k takes at
-  where
-    go : (k : TokenKind) → designator_of k ≡ Some d → Token_is k ts rest → Designated d ts rest
-    go (kinds.Name n) e at = let is_name : designators.Name n ≡ d = cc in subst (λ d. Designated d ts rest) is_name at
-    go (kinds.Word w) e (span, line, at) = subst (λ (r : List Token). Designated d r rest) (sym at) (word_designates w d span line rest e)
-    go _ e at = absurd cc
+designated_to d ts rest (kinds.Name n, e, at) = let is_name : designators.Name n ≡ d = cc in subst (λ d. Designated d ts rest) is_name at
+designated_to d ts rest (kinds.Word w, e, at) = word_designates w d ts rest e at
+designated_to d ts rest (_, e, at) = absurd cc
 
 designated_from : (d : Designator) (ts rest : List Token) → Designated d ts rest → In_table designator_of d ts rest
 designated_from (designators.Name n) ts rest at = (kinds.Name n, refl, at)
@@ -31,16 +28,12 @@ designated_from designators.TimeV ts rest at = (kinds.Word words.TimeV, refl, at
 designated_from designators.TimeA ts rest at = (kinds.Word words.TimeA, refl, at)
 
 plain_to : (d : Designator) (ts rest : List Token) → In_table plain_of d ts rest → Plain_name d ts rest
-plain_to d ts rest (k, takes, at) = go k takes at
-  where
-    go : (k : TokenKind) → plain_of k ≡ Some d → Token_is k ts rest → Plain_name d ts rest
-    go (kinds.Name n) e at = let is_name : designators.Name n ≡ d = cc in subst (λ d. Plain_name d ts rest) is_name at
-    go _ e at = absurd cc
+plain_to d ts rest (kinds.Name n, e, at) = let is_name : designators.Name n ≡ d = cc in subst (λ d. Plain_name d ts rest) is_name at
+plain_to d ts rest (_, e, at) = absurd cc
 
-plain_from : (d : Designator) (ts rest : List Token) → Plain_name d ts rest → In_table plain_of d ts rest
+pub plain_from : (d : Designator) (ts rest : List Token) → Plain_name d ts rest → In_table plain_of d ts rest
 plain_from (designators.Name n) ts rest at = (kinds.Name n, refl, at)
-plain_from designators.TimeV ts rest at = absurd at
-plain_from designators.TimeA ts rest at = absurd at
+plain_from _ ts rest at = absurd at
 
 abbrev pub continues_place : List Token → Bool
 continues_place ts = begins opening ts || continues_never ts
