@@ -151,33 +151,41 @@ module _ {A : Type 0} {k : ℕ} {q q' : Reader A} {S : A → Shape} {d : List To
 
 -- ---- words in front that may be left out
 
--- A word that may be left out, and that what follows doesn't begin with.
-module _ {A : Type 0} {k : ℕ} {q q' : Reader A} {S : A → Shape} {d : List Token → Bool} (law : Reads k q q' S d) (starts : List Token → Bool) (past : List Token → List Token) (P : Shape) (found : (ts : List Token) → starts ts ≡ true → P ts (past ts)) (kept : (ts : List Token) → starts ts ≡ false → past ts ≡ ts) (skips : (ts a : List Token) → P ts a → past ts ≡ a) (takes : (ts a : List Token) → P ts a → suc (length a) ≡ length ts) (opened : (ts : List Token) → openers (past ts) ≤ openers ts) where
-  pub skipped_reads : ((x : A) (ts rest : List Token) → S x ts rest → starts ts ≡ false) → Reads k (λ ts. q (past ts)) (λ ts. q' (past ts)) (λ x. optional P ▷ S x) d
-  skipped_reads first = record {
-    sound = λ ts x rest e. (past ts, front ts, law.sound (past ts) x rest e);
-    complete = λ ts x rest s stop. ap q (leads x ts rest s) ∙ law.complete s.0 x rest s.2 stop;
-    shorter = λ ts x rest s. omega (arith, less ts s.0 s.1, law.shorter s.0 x rest s.2);
+-- Words that may be left out: `starts` says whether they are there, and `past` gives the tokens after them.
+pub record Front (starts : List Token → Bool) (past : List Token → List Token) (P : Shape) : Type 0 where
+  pub found : (ts : List Token) → starts ts ≡ true → P ts (past ts)
+  pub kept : (ts : List Token) → starts ts ≡ false → past ts ≡ ts
+  pub skips : (ts a : List Token) → P ts a → past ts ≡ a
+  pub takes : (ts a : List Token) → P ts a → suc (length a) ≡ length ts
+  pub opened : (ts : List Token) → openers (past ts) ≤ openers ts
+
+pub mark_front : (m : Mark) → Front (begins m) (skip m) (Mark_is m)
+mark_front m = record { found = begins_mark m; kept = no_skip m; skips = mark_skips m; takes = token_less (kind_of_mark m); opened = skip_openers m }
+
+module _ {starts : List Token → Bool} {past : List Token → List Token} {P : Shape} (front : Front starts past P) where
+  pub past_optional : (ts a : List Token) → optional P ts a → starts a ≡ false → past ts ≡ a
+  past_optional ts a (inl e) none_there = ap past e ∙ front.kept a none_there
+  past_optional ts a (inr w) none_there = front.skips ts a w
+
+  pub optional_less : (ts a : List Token) → optional P ts a → length a ≤ length ts
+  optional_less ts a (inl e) = omega (arith, ap length e)
+  optional_less ts a (inr w) = omega (arith, front.takes ts a w)
+
+  -- what follows doesn't begin with such words
+  pub skipped_reads : {A : Type 0} {k : ℕ} {q q' : Reader A} {S : A → Shape} {d : List Token → Bool} → Reads k q q' S d → ((x : A) (ts rest : List Token) → S x ts rest → starts ts ≡ false) → Reads k (λ ts. q (past ts)) (λ ts. q' (past ts)) (λ x. optional P ▷ S x) d
+  skipped_reads {k = k} {q = q} law first = record {
+    sound = λ ts x rest e. (past ts, there ts, law.sound (past ts) x rest e);
+    complete = λ ts x rest s stop. ap q (past_optional ts s.0 s.1 (first x s.0 rest s.2)) ∙ law.complete s.0 x rest s.2 stop;
+    shorter = λ ts x rest s. omega (arith, optional_less ts s.0 s.1, law.shorter s.0 x rest s.2);
     under = λ ts. law.under (past ts);
-    opening = λ ts. bounded_more k (openers (past ts)) (openers ts) (q (past ts)) (opened ts) (law.opening (past ts));
+    opening = λ ts. bounded_more k (openers (past ts)) (openers ts) (q (past ts)) (front.opened ts) (law.opening (past ts));
   }
     where
-      front : (ts : List Token) → optional P ts (past ts)
-      front ts = elim (which (starts ts)) [ inl p ↦ inr (found ts p) | inr p ↦ inl (sym (kept ts p)) ]
-
-      leads_to : (ts a : List Token) → optional P ts a → starts a ≡ false → past ts ≡ a
-      leads_to ts a (inl e) none_there = ap past e ∙ kept a none_there
-      leads_to ts a (inr w) none_there = skips ts a w
-
-      leads : (x : A) (ts rest : List Token) (s : (optional P ▷ S x) ts rest) → past ts ≡ s.0
-      leads x ts rest s = leads_to ts s.0 s.1 (first x s.0 rest s.2)
-
-      less : (ts a : List Token) → optional P ts a → length a ≤ length ts
-      less ts a (inl e) = omega (arith, ap length e)
-      less ts a (inr w) = omega (arith, takes ts a w)
+      there : (ts : List Token) → optional P ts (past ts)
+      there ts = elim (which (starts ts)) [ inl p ↦ inr (front.found ts p) | inr p ↦ inl (sym (front.kept ts p)) ]
 
 pub optional_reads : {A : Type 0} {k : ℕ} {q q' : Reader A} {S : A → Shape} {d : List Token → Bool} → Reads k q q' S d → (m : Mark) → ((x : A) (ts rest : List Token) → S x ts rest → begins m ts ≡ false) → Reads k (λ ts. q (skip m ts)) (λ ts. q' (skip m ts)) (λ x. optional (Mark_is m) ▷ S x) d
-optional_reads law m = skipped_reads law (begins m) (skip m) (Mark_is m) (begins_mark m) (no_skip m) (mark_skips m) (token_less (kind_of_mark m)) (skip_openers m)
+optional_reads law m first = skipped_reads (mark_front m) law first
 
 -- ---- optional parts
 
@@ -201,21 +209,10 @@ item_marked {S = S} m second =
 
 -- an item that may have a comma before it
 module _ {A : Type 0} {k : ℕ} {q q' : Reader A} {S : A → Shape} {d : List Token → Bool} (law : Reads k q q' S d) (starts : List Token → Bool) (first : (ts : List Token) (x : A) (rest : List Token) → S x ts rest → starts ts ≡ true) (no_comma : (ts : List Token) → starts ts ≡ true → begins comma ts ≡ false) (less : (ts : List Token) (x : A) (rest : List Token) → S x ts rest → length rest < length ts) where
-  noisy_reads : Reads k (λ ts. q (skip_comma ts)) (λ ts. q' (skip_comma ts)) (λ x. noise ▷ S x) d
-  noisy_reads = optional_reads law comma (λ x ts rest s. no_comma ts (first ts x rest s))
-
-  noisy_skips : (ts a : List Token) → noise ts a → starts a ≡ true → skip_comma ts ≡ a
-  noisy_skips ts a (inl e) started = ap skip_comma e ∙ no_skip comma a (no_comma a started)
-  noisy_skips ts a (inr w) started = mark_skips comma ts a w
-
-  noisy_less : (ts a : List Token) → noise ts a → length a ≤ length ts
-  noisy_less ts a (inl e) = omega (arith, ap length e)
-  noisy_less ts a (inr w) = omega (arith, token_less (kind_of_mark comma) ts a w)
-
   pub noisy_item : Item k (λ ts. starts (skip_comma ts)) (λ ts. q (skip_comma ts)) (λ ts. q' (skip_comma ts)) (λ x. noise ▷ S x) d
-  noisy_item = item_of (λ ts. starts (skip_comma ts)) noisy_reads
-      (λ ts x rest s. ap starts (noisy_skips ts s.0 s.1 (first s.0 x rest s.2)) ∙ first s.0 x rest s.2)
-      (λ ts x rest s. omega (arith, noisy_less ts s.0 s.1, less s.0 x rest s.2))
+  noisy_item = item_of (λ ts. starts (skip_comma ts)) (optional_reads law comma (λ x ts rest s. no_comma ts (first ts x rest s)))
+      (λ ts x rest s. ap starts (past_optional (mark_front comma) ts s.0 s.1 (no_comma s.0 (first s.0 x rest s.2))) ∙ first s.0 x rest s.2)
+      (λ ts x rest s. omega (arith, optional_less (mark_front comma) ts s.0 s.1, less s.0 x rest s.2))
 
 -- an item whose mark is skipped before the reader is called
 pub item_skipped : {A : Type 0} {k : ℕ} {q q' : Reader A} {S : A → Shape} {d : List Token → Bool} (m : Mark) → Reads k q q' S d → Item k (begins m) (λ r. q (skip m r)) (λ r. q' (skip m r)) (λ x. Mark_is m ▷ S x) d

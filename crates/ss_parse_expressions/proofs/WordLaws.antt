@@ -11,7 +11,7 @@ use Rattle.ss_parse_expressions.specs.ReadWords.{in_class, begins_class, skip_cl
 use Rattle.ss_parse_expressions.proofs.Tools.{which, chosen, carry}
 use Rattle.ss_parse_expressions.proofs.Marks.{token, Mark_is, is_true, token_of, mark_begins, mark_skips, begins_mark, no_skip, token_less, skip_openers, starts_otherwise, begins_table}
 use Rattle.ss_parse_expressions.proofs.Depth.{upto_same, Bounded}
-use Rattle.ss_parse_expressions.proofs.ReaderLaws.{Reads, Item, continues_never, Made, item_of, made_reads, marked_reads, expect_reads, taken_reads, reshaped_reads, skipped_reads, optional_reads, maybe_list_reads}
+use Rattle.ss_parse_expressions.proofs.ReaderLaws.{Reads, Item, continues_never, Made, expect_reads, taken_reads, reshaped_reads, Front, mark_front, past_optional, optional_less, skipped_reads, optional_reads, item_marked, item_apply, maybe_list_reads}
 use Rattle.ss_parse_expressions.proofs.Rows.{list_reads, Loop, loop_of, separated_item}
 
 -- ---- words of a table
@@ -77,9 +77,12 @@ expect_class_reads k c = record {
     opening [] = tt
     opening (t ∷ ts) = elim (which (in_class c t.kind)) [ inl p ↦ rw p (omega arith) | inr p ↦ rw p tt ]
 
+pub class_front : (c : WordClass) → Front (begins_class c) (skip_class c) (One_of c)
+class_front c = record { found = begins_one c; kept = no_skip_class c; skips = one_skips c; takes = one_less c; opened = skip_class_openers c }
+
 -- a word of the class that may be left out
 pub optional_class_reads : {A : Type 0} {k : ℕ} {q q' : Reader A} {S : A → Shape} {d : List Token → Bool} → Reads k q q' S d → (c : WordClass) → ((x : A) (ts rest : List Token) → S x ts rest → begins_class c ts ≡ false) → Reads k (λ ts. q (skip_class c ts)) (λ ts. q' (skip_class c ts)) (λ x. optional (One_of c) ▷ S x) d
-optional_class_reads law c = skipped_reads law (begins_class c) (skip_class c) (One_of c) (begins_one c) (no_skip_class c) (one_skips c) (one_less c) (skip_class_openers c)
+optional_class_reads law c first = skipped_reads (class_front c) law first
 
 -- ---- readers that always fail, and that look for a mark
 
@@ -124,14 +127,10 @@ pub noisy_mark_reads : (k : ℕ) (m : Mark) → is comma (kind_of_mark m) ≡ fa
 noisy_mark_reads k m other = optional_reads (expect_reads k m) comma (λ u ts rest s. ap (begins comma) s.2 ∙ other)
 
 pub noisy_begins : (m : Mark) → is comma (kind_of_mark m) ≡ false → (ts rest : List Token) → (noise ▷ Mark_is m) ts rest → begins_noisy m ts ≡ true
-noisy_begins m other ts rest (a, inl e, s) =
-    let none : begins comma a ≡ false = ap (begins comma) s.2 ∙ other in
-    ap (begins_noisy m) e ∙ ap (begins m) (no_skip comma a none) ∙ mark_begins m a rest s
-noisy_begins m other ts rest (a, inr w, s) = ap (begins m) (mark_skips comma ts a w) ∙ mark_begins m a rest s
+noisy_begins m other ts rest (a, noisy, s) = ap (begins m) (past_optional (mark_front comma) ts a noisy (ap (begins comma) s.2 ∙ other)) ∙ mark_begins m a rest s
 
 pub noisy_less : (m : Mark) (ts rest : List Token) → (noise ▷ Mark_is m) ts rest → length rest < length ts
-noisy_less m ts rest (a, inl e, s) = omega (arith, ap length e, token_less (kind_of_mark m) a rest s)
-noisy_less m ts rest (a, inr w, s) = omega (arith, token_less (kind_of_mark comma) ts a w, token_less (kind_of_mark m) a rest s)
+noisy_less m ts rest (a, noisy, s) = omega (arith, optional_less (mark_front comma) ts a noisy, token_less (kind_of_mark m) a rest s)
 
 -- what begins with neither the mark nor a comma before it
 pub noisy_stops : (c : List Token → Bool) (m : Mark) → ((span : Span) (line : Line) (ts : List Token) → c (token (kind_of_mark m) span line ∷ ts) ≡ false) → ((span span' : Span) (line line' : Line) (ts : List Token) → c (token (kind_of_mark comma) span line ∷ token (kind_of_mark m) span' line' ∷ ts) ≡ false) → (ts rest : List Token) → (noise ▷ Mark_is m) ts rest → c ts ≡ false
@@ -171,12 +170,10 @@ pub item_reads : (k : ℕ) → Reads k articled_name articled_name Item_is conti
 item_reads k = optional_class_reads (name_reads k) classes.Article name_no_article
 
 pub item_begins : (ts : List Token) (n : List ℕ) (rest : List Token) → Item_is n ts rest → begins_item ts ≡ true
-item_begins ts n rest (a, inl e, s) = ap begins_item e ∙ ap begins_name (no_skip_class classes.Article a (name_no_article n a rest s)) ∙ name_begins a n rest s
-item_begins ts n rest (a, inr w, s) = ap begins_name (one_skips classes.Article ts a w) ∙ name_begins a n rest s
+item_begins ts n rest (a, article, s) = ap begins_name (past_optional (class_front classes.Article) ts a article (name_no_article n a rest s)) ∙ name_begins a n rest s
 
 pub item_less : (ts : List Token) (n : List ℕ) (rest : List Token) → Item_is n ts rest → length rest < length ts
-item_less ts n rest (a, inl e, s) = omega (arith, ap length e, name_less a n rest s)
-item_less ts n rest (a, inr w, s) = omega (arith, one_less classes.Article ts a w, name_less a n rest s)
+item_less ts n rest (a, article, s) = omega (arith, optional_less (class_front classes.Article) ts a article, name_less a n rest s)
 
 pub item_no_and : (ts : List Token) → begins_item ts ≡ true → begins (word words.And) ts ≡ false
 item_no_and = starts_otherwise (word words.And) begins_item (λ span line ts. refl)
@@ -224,6 +221,4 @@ no_class p c held (t ∷ ts) e =
 
 -- an item that is made of what begins with a mark
 pub item_made : {A B : Type 0} {k : ℕ} {q q' : Reader A} {S : A → Shape} {d : List Token → Bool} (m : Mark) (law : Reads k q q' S d) (f : A → B) → Item k (begins m) (apply f (after_dropped (expect m) q)) (apply f (after_dropped (expect m) q')) (Made f (λ x. Mark_is m ▷ S x)) d
-item_made m law f =
-    item_of (begins m) (made_reads (marked_reads m law) f) (λ ts y rest s. mark_begins m ts s.2.0 s.2.1)
-    (λ ts y rest s. omega (arith, token_less (kind_of_mark m) ts s.2.0 s.2.1, law.shorter s.2.0 s.0 rest s.2.2))
+item_made m law f = item_apply (item_marked m law) f
