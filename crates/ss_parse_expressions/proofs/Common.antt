@@ -28,4 +28,3 @@ unfoldable pub use Rattle.ss_tree.specs.View.{view_expression_tree}
 pub use Rattle.ss_tree.specs.Views.{view_named_made}
 pub use Rattle.ss_tree.specs.declared.expression.Designator.{Designator}
 pub use Rattle.ss_tree.specs.declared.expression.Function.{Function}
-pub use Rattle.std.proofs.lemmas.Result.{err_from_is_err_and}

@@ -3,6 +3,7 @@ use Rattle.std.proofs.Common.{◌≡◌, ℕ, zero, suc, ◌<◌, ◌≤◌, Boo
 use Rattle.std.proofs.lemmas.Bool.{or_from}
 use Rattle.std.proofs.lemmas.List.{append-nil, map_push}
 use Rattle.std.specs.Global.{Vec}
+use Rattle.std.specs.Prelude.{IsErrAnd}
 use Rattle.ss_parse_expressions.proofs.Common.{Line, openers, ParseFault, Span, Token}
 use Rattle.ss_parse_expressions.specs.declared.failure.ParseFailure.{ParseFailure}
 use Rattle.ss_parse_expressions.specs.declared.failure.ParseFailure.TheVariants as failures
@@ -268,6 +269,11 @@ module _ {A V : Type 0} (view : V → A) {starts : List Token → Bool} {item : 
 -- what was read next
 pub next_read : {X Y : Type 0} (view : X → Y) (r : Result X ParseFailure) (read : Result Y ParseFault) (x : X) → HasGivenReading view r read → r ≡ Ok x → read ≡ Ok (view x)
 next_read view r read x h is = subst (λ z. HasGivenReading view z read) is h
+
+-- the exit of a `?`
+pub failed : {X Y : Type 0} (view : X → Y) (r : Result X ParseFailure) (e : ParseFailure) (read : Result Y ParseFault) → IsErrAnd r (λ f. f ≡ e) → HasFailedReading e read → HasGivenReading view r read
+failed view (Ok x) e read is h = absurd is
+failed view (Err f) e read is h = subst (λ z. HasFailedReading z read) (sym is) h
 
 -- what was to be read next failed
 pub next_fails : {A B Y : Type 0} (view : A × B → Y) (before : Vec A) (r : Result (A × B) ParseFailure) (read : Result Y ParseFault) (e : ParseFailure) → HasGivenReading view r read → AreJoined before r (Err e) → HasFailedReading e read

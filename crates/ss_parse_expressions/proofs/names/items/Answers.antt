@@ -1,8 +1,8 @@
 use Rattle.std.proofs.Common.{sym, ap, subst, ◌∙◌}
-use Rattle.ss_parse_expressions.proofs.Common.{err_from_is_err_and, HasFailedReading, name_in_token, skip_class, taken}
+use Rattle.ss_parse_expressions.proofs.Common.{HasFailedReading, name_in_token, skip_class, taken}
 use Rattle.ss_parse_expressions.specs.declared.classes.WordClass.TheVariants as classes
 use Rattle.ss_parse_expressions.proofs.WordLaws.{items_loop}
-use Rattle.ss_parse_expressions.proofs.Rows.{first_taken, grows_plain, breaks_plain, is_done_plain}
+use Rattle.ss_parse_expressions.proofs.Rows.{failed, first_taken, grows_plain, breaks_plain, is_done_plain}
 use Rattle.ss_parse_expressions.proofs.names.items.Goals as goal
 
 pub more-preserved : goal.more-preserved
@@ -16,5 +16,5 @@ returns c = is_done_plain items_loop _ _ _ (sym c.begins_more_items.ensures ∙ 
 
 pub returns-in_err-next : goal.returns-in_err-next
 returns-in_err-next c =
-    let p = err_from_is_err_and c.from_residual-in_err-next.result c.from_residual-in_err-next.ensures.1 in
-    rw (p.1, p.2) (breaks_plain items_loop _ _ _ _ (sym c.begins_more_items.ensures ∙ c.more-test.true) (subst (λ r. HasFailedReading c.in_err-next.field-0.0 (taken name_in_token r)) (c.skip_class-from-in-more.ensures ∙ ap (skip_class classes.Article) c.skip_separator.ensures) c.in_err-next.ensures) c.more.invariant)
+    failed _ c.from_residual-in_err-next.result c.in_err-next.field-0.0 _ c.from_residual-in_err-next.ensures.1
+    (breaks_plain items_loop _ _ _ _ (sym c.begins_more_items.ensures ∙ c.more-test.true) (subst (λ r. HasFailedReading c.in_err-next.field-0.0 (taken name_in_token r)) (c.skip_class-from-in-more.ensures ∙ ap (skip_class classes.Article) c.skip_separator.ensures) c.in_err-next.ensures) c.more.invariant)

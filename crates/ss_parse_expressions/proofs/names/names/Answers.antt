@@ -1,7 +1,7 @@
 use Rattle.std.proofs.Common.{sym, ap, subst, ◌∙◌}
-use Rattle.ss_parse_expressions.proofs.Common.{err_from_is_err_and, HasFailedReading, name_in_token, taken}
+use Rattle.ss_parse_expressions.proofs.Common.{HasFailedReading, name_in_token, taken}
 use Rattle.ss_parse_expressions.proofs.WordLaws.{names_loop}
-use Rattle.ss_parse_expressions.proofs.Rows.{first_taken, grows_plain, breaks_plain, is_done_plain}
+use Rattle.ss_parse_expressions.proofs.Rows.{failed, first_taken, grows_plain, breaks_plain, is_done_plain}
 use Rattle.ss_parse_expressions.proofs.names.names.Goals as goal
 
 pub more-preserved : goal.more-preserved
@@ -15,5 +15,5 @@ returns c = is_done_plain names_loop _ _ _ (sym c.begins_more_names.ensures ∙ 
 
 pub returns-in_err-next : goal.returns-in_err-next
 returns-in_err-next c =
-    let p = err_from_is_err_and c.from_residual-in_err-next.result c.from_residual-in_err-next.ensures.1 in
-    rw (p.1, p.2) (breaks_plain names_loop _ _ _ _ (sym c.begins_more_names.ensures ∙ c.more-test.true) (subst (λ r. HasFailedReading c.in_err-next.field-0.0 (taken name_in_token r)) c.skip_separator-from.ensures c.in_err-next.ensures) c.more.invariant)
+    failed _ c.from_residual-in_err-next.result c.in_err-next.field-0.0 _ c.from_residual-in_err-next.ensures.1
+    (breaks_plain names_loop _ _ _ _ (sym c.begins_more_names.ensures ∙ c.more-test.true) (subst (λ r. HasFailedReading c.in_err-next.field-0.0 (taken name_in_token r)) c.skip_separator-from.ensures c.in_err-next.ensures) c.more.invariant)
