@@ -11,7 +11,7 @@ use Rattle.ss_parse_expressions.specs.declared.conditions.Verb.{Verb}
 use Rattle.ss_parse_expressions.specs.declared.conditions.Verb.TheVariants as verbs
 use Rattle.ss_parse_expressions.specs.declared.conditions.TestWord.{TestWord}
 use Rattle.ss_parse_expressions.specs.declared.conditions.TestWord.TheVariants as test_words
-use Rattle.ss_parse_expressions.specs.Shapes.{Shape, ◌▷◌, nothing, never, optional, provided, Token_is, Word_is, Name_is, Word_for, flagged, nested_shape}
+use Rattle.ss_parse_expressions.specs.Shapes.{Shape, ◌▷◌, nothing, never, provided, Token_is, Word_is, Name_is, Word_for, flagged, nested_shape}
 use Rattle.ss_parse_expressions.specs.SpelledConditions.{In_words, Relation_is, Test_is, joined_by_word}
 use Rattle.ss_parse_expressions.specs.WordTables.{relation_of}
 use Rattle.ss_parse_expressions.specs.ReadConditions.{relation_symbol, test_word_of, verb_end, worded_verb, verb, reference_of, empty_of, data_test, test_end, sum_test, test_in, conjunction_in, condition_in}
@@ -19,7 +19,7 @@ use Rattle.ss_parse_expressions.proofs.Tools.{or_false}
 use Rattle.ss_parse_expressions.proofs.Marks.{token_less, starts_otherwise, In_table, begins_table}
 use Rattle.ss_parse_expressions.proofs.ReaderLaws.{Reads, Item, continues_never, Made, item_of, item_marked, item_skipped, expect_reads, taken_reads, seq_reads, bind_reads, made_reads, marked_reads, closed_reads, reshaped_reads, fewer_reads, optional_reads, too_deep_reads, done_reads, either_reads}
 use Rattle.ss_parse_expressions.proofs.Rows.{first_and_reads, first_less, Loop, loop_of}
-use Rattle.ss_parse_expressions.proofs.WordLaws.{word_in_reads, present_reads, fail_reads}
+use Rattle.ss_parse_expressions.proofs.WordLaws.{optionally, word_in_reads, present_reads, fail_reads}
 use Rattle.ss_parse_expressions.proofs.Beginnings.{in_begins, continues_sum}
 use Rattle.ss_parse_expressions.proofs.Sums.{in_less, sum_in_reads}
 use Rattle.ss_parse_expressions.specs.ReadPlaces.{plain_of}
@@ -116,10 +116,6 @@ worded_first v ts rest ((false, (true, t)), (m, (a, e, (b, (span, line, f), s)),
 worded_first v ts rest ((false, (false, t)), (m, (a, e, (b, f, (span, line, g))), end)) =
     let no : relation_of (word_of t) ≡ None = (test_word_other t).2 in
     (rw (e, f, g, no) refl, ap continues_sum (e ∙ f ∙ g))
-
-optionally : (i : Bool) (P : Shape) (ts rest : List Token) → flagged P i ts rest → optional P ts rest
-optionally true P ts rest s = inr s
-optionally false P ts rest s = inl s
 
 worded_to : (v : Verb) (ts rest : List Token) → Worded v ts rest → Verb_is v ts rest
 worded_to v ts rest ((i, (negated, t)), (m, (a, s, (b, neg, at)), end)) = go t i negated a b m s neg at end

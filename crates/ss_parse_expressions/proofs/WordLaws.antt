@@ -9,7 +9,7 @@ use Rattle.ss_parse_expressions.specs.Shapes.{Shape, ◌▷◌, never, optional,
 use Rattle.ss_parse_expressions.specs.Words.{has_word, One_of, Item_is, perhaps_listed}
 use Rattle.ss_parse_expressions.specs.ReadWords.{in_class, begins_class, skip_class, expect_class, if_present, fail, begins_noisy, expect_noisy, begins_name, names, begins_item, articled_name, items, among, begins_among}
 use Rattle.ss_parse_expressions.proofs.Tools.{which, chosen, carry}
-use Rattle.ss_parse_expressions.proofs.Marks.{token, Mark_is, is_true, token_of, mark_begins, mark_skips, begins_mark, no_skip, token_less, skip_openers, starts_otherwise, begins_table}
+use Rattle.ss_parse_expressions.proofs.Marks.{token, Mark_is, is_true, token_of, mark_begins, begins_mark, no_skip, token_less, skip_openers, starts_otherwise, begins_table}
 use Rattle.ss_parse_expressions.proofs.Depth.{upto_same, Bounded}
 use Rattle.ss_parse_expressions.proofs.ReaderLaws.{Reads, Item, continues_never, Made, expect_reads, taken_reads, reshaped_reads, Front, mark_front, past_optional, optional_less, skipped_reads, optional_reads, item_marked, item_apply, maybe_list_reads}
 use Rattle.ss_parse_expressions.proofs.Rows.{list_reads, Loop, loop_of, separated_item}
@@ -95,11 +95,15 @@ fail_reads k = record {
   opening = λ ts. tt;
 }
 
+pub optionally : (i : Bool) (P : Shape) (ts rest : List Token) → flagged P i ts rest → optional P ts rest
+optionally true P ts rest s = inr s
+optionally false P ts rest s = inl s
+
 pub present_reads : (k : ℕ) (m : Mark) → Reads k (if_present m) (if_present m) (flagged (Mark_is m)) (begins m)
 present_reads k m = record {
   sound = λ ts x rest e. carry (λ (x : Bool) (r : List Token). flagged (Mark_is m) x ts r) (begins m ts) x (skip m ts) rest e (there ts);
-  complete = complete;
-  shorter = shorter;
+  complete = λ ts x rest s stop. λ i. Ok (begun ts x rest s stop i, past_optional (mark_front m) ts rest (optionally x (Mark_is m) ts rest s) stop i);
+  shorter = λ ts x rest s. optional_less (mark_front m) ts rest (optionally x (Mark_is m) ts rest s);
   under = λ ts. upto_same _;
   opening = λ ts. skip_openers m ts;
 }
@@ -107,19 +111,9 @@ present_reads k m = record {
     there : (ts : List Token) → flagged (Mark_is m) (begins m ts) ts (skip m ts)
     there ts = elim (which (begins m ts)) [ inl p ↦ rw p (begins_mark m ts p) | inr p ↦ rw p (sym (no_skip m ts p)) ]
 
-    complete : (ts : List Token) (x : Bool) (rest : List Token) → flagged (Mark_is m) x ts rest → begins m rest ≡ false → if_present m ts ≡ Ok (x, rest)
-    complete ts true rest s stop =
-        let a : begins m ts ≡ true = mark_begins m ts rest s in
-        let b : skip m ts ≡ rest = mark_skips m ts rest s in
-        rw (a, b) refl
-    complete ts false rest s stop =
-        let a : begins m ts ≡ false = ap (begins m) s ∙ stop in
-        let b : skip m ts ≡ rest = no_skip m ts a ∙ s in
-        rw (a, b) refl
-
-    shorter : (ts : List Token) (x : Bool) (rest : List Token) → flagged (Mark_is m) x ts rest → length rest ≤ length ts
-    shorter ts true rest s = omega (arith, token_less (kind_of_mark m) ts rest s)
-    shorter ts false rest s = omega (arith, ap length s)
+    begun : (ts : List Token) (x : Bool) (rest : List Token) → flagged (Mark_is m) x ts rest → begins m rest ≡ false → begins m ts ≡ x
+    begun ts true rest s stop = mark_begins m ts rest s
+    begun ts false rest s stop = ap (begins m) s ∙ stop
 
 -- ---- a mark with a comma before it or not
 
