@@ -1,6 +1,6 @@
 -- Conditions: what is read is spelled, and what is spelled is read.
 use Rattle.std.proofs.Common.{◌≡◌, ℕ, zero, suc, ◌<◌, ◌≤◌, Bool, true, false, cond, ◌||◌, List, [], ◌∷◌, length, Option, Some, None, refl, sym, ap, subst, ◌∙◌, arith, inl, inr, ◌⊎◌}
-use Rattle.ss_parse_expressions.proofs.Common.{begins, begins_by, begins_sign, begins_sum, choose_reader, closed, Designator, Equals, if_present, in_table, is, opening, Plain_name, reference_in, Reference_is, seq, skip, Spelled, star, Subscript, sum_in, Sum_is, sum_place, taken, the, Token, TokenKind, Word, word}
+use Rattle.ss_parse_expressions.proofs.Common.{begins, begins_by, begins_sign, begins_sum, choose_reader, closed, Designator, Equals, if_present, in_table, opening, Plain_name, reference_in, Reference_is, seq, skip, Spelled, star, Subscript, sum_in, Sum_is, sum_place, taken, the, Token, TokenKind, Word, word}
 use Rattle.ss_lex.specs.declared.word.Word.TheVariants as words
 use Rattle.ss_lex.specs.declared.token.TokenKind.TheVariants as kinds
 use Rattle.ss_base.specs.declared.words.Relation.{Relation}
@@ -42,27 +42,20 @@ only_test_word words.Less t e = let same : test_words.Less ≡ t = cc in subst (
 only_test_word words.Greater t e = let same : test_words.Greater ≡ t = cc in subst (λ t. words.Greater ≡ word_of t) same refl
 only_test_word _ t e = absurd cc
 
--- none of them is IS, NOT or a relation
-test_word_other : (t : TestWord) → (is (word words.Is) (kinds.Word (word_of t)) ≡ false) × (is (word words.Not) (kinds.Word (word_of t)) ≡ false) × (relation_of (word_of t) ≡ None)
-test_word_other test_words.Empty = (refl, refl, refl)
-test_word_other test_words.In = (refl, refl, refl)
-test_word_other test_words.Equal = (refl, refl, refl)
-test_word_other test_words.Less = (refl, refl, refl)
-test_word_other test_words.Greater = (refl, refl, refl)
+-- none of them is a relation
+no_relation : (t : TestWord) → relation_of (word_of t) ≡ None
+no_relation test_words.Empty = refl
+no_relation test_words.In = refl
+no_relation test_words.Equal = refl
+no_relation test_words.Less = refl
+no_relation test_words.Greater = refl
 
--- the word that says what is tested
-abbrev Test_word_is : TestWord → Shape
-Test_word_is t = Word_is (word_of t)
+test_word_is : (t : TestWord) (ts rest : List Token) → Word_for test_word_of t ts rest → Word_is (word_of t) ts rest
+test_word_is t ts rest (w, means, at) = subst (λ w. Word_is w ts rest) (only_test_word w t means) at
 
-test_word_to : (t : TestWord) (ts rest : List Token) → Word_for test_word_of t ts rest → Test_word_is t ts rest
-test_word_to t ts rest (w, means, at) = subst (λ w. Word_is w ts rest) (only_test_word w t means) at
-
-test_word_from : (t : TestWord) (ts rest : List Token) → Test_word_is t ts rest → Word_for test_word_of t ts rest
-test_word_from test_words.Empty ts rest at = (words.Empty, refl, at)
-test_word_from test_words.In ts rest at = (words.In, refl, at)
-test_word_from test_words.Equal ts rest at = (words.Equal, refl, at)
-test_word_from test_words.Less ts rest at = (words.Less, refl, at)
-test_word_from test_words.Greater ts rest at = (words.Greater, refl, at)
+-- what begins with such a word doesn't begin with another one
+test_word_first : (w : Word) → test_word_of w ≡ None → (t : TestWord) (ts rest : List Token) → Word_for test_word_of t ts rest → begins (word w) ts ≡ false
+test_word_first w other t ts rest (v, means, at) = starts_otherwise (word w) (begins_by (in_table test_word_of)) (λ span line ts. rw other refl) ts (begins_table (in_table test_word_of) ts rest t (kinds.Word v, means, at))
 
 -- ---- the verb of a test, after its first expression
 
@@ -72,17 +65,14 @@ Verb_is (verbs.IsEmpty negated) = Word_is words.Is ▷ flagged (Word_is words.No
 Verb_is (verbs.IsIn negated) = Word_is words.Is ▷ flagged (Word_is words.Not) negated ▷ Word_is words.In
 
 abbrev Verb_words : Bool × (Bool × TestWord) → Shape
-Verb_words p = flagged (Word_is words.Is) p.0 ▷ flagged (Word_is words.Not) p.1.0 ▷ Test_word_is p.1.1
+Verb_words p = flagged (Word_is words.Is) p.0 ▷ flagged (Word_is words.Not) p.1.0 ▷ Word_for test_word_of p.1.1
 
 verb_words_reads : (k : ℕ) → Reads k (seq (if_present (word words.Is)) (seq (if_present (word words.Not)) (taken (in_table test_word_of)))) (seq (if_present (word words.Is)) (seq (if_present (word words.Not)) (taken (in_table test_word_of)))) Verb_words continues_never
-verb_words_reads k = seq_reads (present_reads k (word words.Is)) (seq_reads (present_reads k (word words.Not)) (reshaped_reads (word_in_reads k test_word_of) Test_word_is test_word_to test_word_from) no_not) no_is
+verb_words_reads k = seq_reads (present_reads k (word words.Is)) (seq_reads (present_reads k (word words.Not)) (word_in_reads k test_word_of) (λ t ts rest s stop. test_word_first words.Not refl t ts rest s)) no_is
   where
-    no_not : (t : TestWord) (ts rest : List Token) → Test_word_is t ts rest → continues_never rest ≡ false → begins (word words.Not) ts ≡ false
-    no_not t ts rest (span, line, e) stop = ap (begins (word words.Not)) e ∙ (test_word_other t).1
-
-    no_is : (p : Bool × TestWord) (ts rest : List Token) → (flagged (Word_is words.Not) p.0 ▷ Test_word_is p.1) ts rest → continues_never rest ≡ false → begins (word words.Is) ts ≡ false
+    no_is : (p : Bool × TestWord) (ts rest : List Token) → (flagged (Word_is words.Not) p.0 ▷ Word_for test_word_of p.1) ts rest → continues_never rest ≡ false → begins (word words.Is) ts ≡ false
     no_is (true, t) ts rest (a, (span, line, e), s) stop = ap (begins (word words.Is)) e
-    no_is (false, t) ts rest (a, e, (span, line, f)) stop = ap (begins (word words.Is)) (e ∙ f) ∙ (test_word_other t).0
+    no_is (false, t) ts rest (a, e, s) stop = ap (begins (word words.Is)) e ∙ test_word_first words.Is refl t a rest s
 
 abbrev Verb_end : TestWord → Bool → Bool → Verb → Shape
 Verb_end test_words.Empty true negated v = provided (verbs.IsEmpty negated ≡ v) nothing
@@ -113,14 +103,15 @@ worded_reads k = bind_reads (verb_words_reads k) (λ p. verb_end_reads k p.1.1 p
 worded_first : (v : Verb) (ts rest : List Token) → Worded v ts rest → (begins_by relation_symbol ts ≡ false) × (continues_sum ts ≡ false)
 worded_first v ts rest ((true, (negated, t)), (m, (a, (span, line, e), s), end)) = (ap (begins_by relation_symbol) e, ap continues_sum e)
 worded_first v ts rest ((false, (true, t)), (m, (a, e, (b, (span, line, f), s)), end)) = (ap (begins_by relation_symbol) (e ∙ f), ap continues_sum (e ∙ f))
-worded_first v ts rest ((false, (false, t)), (m, (a, e, (b, f, (span, line, g))), end)) =
-    let no : relation_of (word_of t) ≡ None = (test_word_other t).2 in
-    (rw (e, f, g, no) refl, ap continues_sum (e ∙ f ∙ g))
+worded_first v ts rest ((false, (false, t)), (m, (a, e, (b, f, at)), end)) =
+    let word = test_word_is t b m at in
+    let no : relation_of (word_of t) ≡ None = no_relation t in
+    (ap (begins_by relation_symbol) (e ∙ f ∙ word.2) ∙ rw no refl, ap continues_sum (e ∙ f ∙ word.2))
 
 worded_to : (v : Verb) (ts rest : List Token) → Worded v ts rest → Verb_is v ts rest
-worded_to v ts rest ((i, (negated, t)), (m, (a, s, (b, neg, at)), end)) = go t i negated a b m s neg at end
+worded_to v ts rest ((i, (negated, t)), (m, (a, s, (b, neg, at)), end)) = go t i negated a b m s neg (test_word_is t b m at) end
   where
-    go : (t : TestWord) (i negated : Bool) (a b m : List Token) → flagged (Word_is words.Is) i ts a → flagged (Word_is words.Not) negated a b → Test_word_is t b m → Verb_end t i negated v m rest → Verb_is v ts rest
+    go : (t : TestWord) (i negated : Bool) (a b m : List Token) → flagged (Word_is words.Is) i ts a → flagged (Word_is words.Not) negated a b → Word_is (word_of t) b m → Verb_end t i negated v m rest → Verb_is v ts rest
     go test_words.Empty true negated a b m s neg at end = subst (λ v. Verb_is v ts rest) end.0 (a, s, (b, neg, subst (λ r. Word_is words.Empty b r) end.1 at))
     go test_words.Empty false negated a b m s neg at end = absurd end
     go test_words.In true negated a b m s neg at end = subst (λ v. Verb_is v ts rest) end.0 (a, s, (b, neg, subst (λ r. Word_is words.In b r) end.1 at))
@@ -133,12 +124,12 @@ worded_to v ts rest ((i, (negated, t)), (m, (a, s, (b, neg, at)), end)) = go t i
     go test_words.Greater i false a b m s neg at (u, makes, end) = subst (λ v. Verb_is v ts rest) makes (inr (inr (a, optionally i (Word_is words.Is) ts a s, (m, subst (λ r. Word_is words.Greater r m) (sym neg) at, end))))
 
 words_from : (i : Bool) (r : Relation) (ts a rest : List Token) → flagged (Word_is words.Is) i ts a → In_words r a rest → Worded (verbs.Compares r) ts rest
-words_from i relations.Equal ts a rest s (m, at, end) = ((i, (false, test_words.Equal)), (m, (a, s, (a, refl, at)), (tt, refl, end)))
-words_from i relations.NotEqual ts a rest s (b, neg, (m, at, end)) = ((i, (true, test_words.Equal)), (m, (a, s, (b, neg, at)), (tt, refl, end)))
-words_from i relations.Less ts a rest s (m, at, end) = ((i, (false, test_words.Less)), (m, (a, s, (a, refl, at)), (tt, refl, end)))
-words_from i relations.Greater ts a rest s (m, at, end) = ((i, (false, test_words.Greater)), (m, (a, s, (a, refl, at)), (tt, refl, end)))
-words_from i relations.LessOrEqual ts a rest s (b, neg, (m, at, end)) = ((i, (true, test_words.Greater)), (m, (a, s, (b, neg, at)), (tt, refl, end)))
-words_from i relations.GreaterOrEqual ts a rest s (b, neg, (m, at, end)) = ((i, (true, test_words.Less)), (m, (a, s, (b, neg, at)), (tt, refl, end)))
+words_from i relations.Equal ts a rest s (m, at, end) = ((i, (false, test_words.Equal)), (m, (a, s, (a, refl, (words.Equal, refl, at))), (tt, refl, end)))
+words_from i relations.NotEqual ts a rest s (b, neg, (m, at, end)) = ((i, (true, test_words.Equal)), (m, (a, s, (b, neg, (words.Equal, refl, at))), (tt, refl, end)))
+words_from i relations.Less ts a rest s (m, at, end) = ((i, (false, test_words.Less)), (m, (a, s, (a, refl, (words.Less, refl, at))), (tt, refl, end)))
+words_from i relations.Greater ts a rest s (m, at, end) = ((i, (false, test_words.Greater)), (m, (a, s, (a, refl, (words.Greater, refl, at))), (tt, refl, end)))
+words_from i relations.LessOrEqual ts a rest s (b, neg, (m, at, end)) = ((i, (true, test_words.Greater)), (m, (a, s, (b, neg, (words.Greater, refl, at))), (tt, refl, end)))
+words_from i relations.GreaterOrEqual ts a rest s (b, neg, (m, at, end)) = ((i, (true, test_words.Less)), (m, (a, s, (b, neg, (words.Less, refl, at))), (tt, refl, end)))
 
 -- a relation that is one token
 abbrev Verb_symbol : Verb → Shape
@@ -154,8 +145,8 @@ verb_from (verbs.Compares r) ts rest (inl (same, at)) = inl (r, refl, (kinds.Sym
 verb_from (verbs.Compares r) ts rest (inr (inl (w, e, at))) = inl (r, refl, (kinds.Word w, e, at))
 verb_from (verbs.Compares r) ts rest (inr (inr (a, inl e, s))) = inr (words_from false r ts a rest e s)
 verb_from (verbs.Compares r) ts rest (inr (inr (a, inr w, s))) = inr (words_from true r ts a rest w s)
-verb_from (verbs.IsEmpty negated) ts rest (a, s, (b, neg, at)) = inr ((true, (negated, test_words.Empty)), (rest, (a, s, (b, neg, at)), (refl, refl)))
-verb_from (verbs.IsIn negated) ts rest (a, s, (b, neg, at)) = inr ((true, (negated, test_words.In)), (rest, (a, s, (b, neg, at)), (refl, refl)))
+verb_from (verbs.IsEmpty negated) ts rest (a, s, (b, neg, at)) = inr ((true, (negated, test_words.Empty)), (rest, (a, s, (b, neg, (words.Empty, refl, at))), (refl, refl)))
+verb_from (verbs.IsIn negated) ts rest (a, s, (b, neg, at)) = inr ((true, (negated, test_words.In)), (rest, (a, s, (b, neg, (words.In, refl, at))), (refl, refl)))
 
 pub verb_reads : (k : ℕ) → Reads k verb verb Verb_is continues_never
 unfolding verb
