@@ -7,8 +7,8 @@ use Rattle.ss_parse_expressions.proofs.Common.{Line, openers, Shape, Span, Token
 use Rattle.ss_lex.specs.declared.token.Symbol.{Symbol}
 use Rattle.ss_lex.specs.declared.token.Symbol.TheVariants.{OpenParenthesis, CloseParenthesis, Comma, Plus, Minus, Star, Equals, Other}
 use Rattle.ss_lex.specs.declared.token.TokenKind.TheVariants as kinds
-use Rattle.ss_parse_expressions.specs.Reading.{Mark, word, symbol, kind_of_mark, same_symbol, is, begins, skip, expect, begins_by, taken, found_then}
-use Rattle.ss_parse_expressions.proofs.Tools.{which, chosen, carry}
+use Rattle.ss_parse_expressions.specs.Reading.{Mark, word, symbol, kind_of_mark, same_symbol, is, begins, skip, begins_by, taken, found_then}
+use Rattle.ss_parse_expressions.proofs.Tools.{which, carry}
 
 abbrev pub token : TokenKind → Span → Line → Token
 token kind span line = record { kind = kind; span = span; line = line }
@@ -75,17 +75,6 @@ starts_otherwise m starts none ts there =
           absurd (let otherwise : starts ts ≡ false = ap starts s.2 ∙ none s.0 s.1 (skip m ts) in cc)
       | inr p ↦ p
     ]
-
-pub expect_sound : (m : Mark) (ts rest : List Token) (u : Unit {0}) → expect m ts ≡ Ok (u, rest) → Mark_is m ts rest
-expect_sound m [] rest u e = absurd cc
-expect_sound m (t ∷ ts) rest u e =
-    elim (chosen (is m t.kind) _ _ _ e) [
-      | inl p ↦ carry (λ (u : Unit {0}) (r : List Token). Mark_is m (t ∷ ts) r) tt u ts rest p.1 (token_of t ts (kind_of_mark m) (is_true m t.kind p.0))
-      | inr p ↦ let no = p.1 in absurd cc
-    ]
-
-pub expect_complete : (m : Mark) (ts rest : List Token) (u : Unit {0}) → Mark_is m ts rest → expect m ts ≡ Ok (u, rest)
-expect_complete m ts rest u (span, line, e) = rw (e, is_itself m) refl
 
 pub token_less : (k : TokenKind) (ts rest : List Token) → Token_is k ts rest → suc (length rest) ≡ length ts
 token_less k ts rest (span, line, e) = rw e refl

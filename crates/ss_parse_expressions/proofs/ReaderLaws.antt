@@ -1,11 +1,12 @@
 -- The laws of a reader: it reads what is spelled, and all of it where the next tokens can't continue it.
-use Rattle.std.proofs.Common.{◌≡◌, ℕ, suc, ◌+◌, ◌<◌, ◌≤◌, Bool, true, false, ◌||◌, List, [], ◌∷◌, length, Option, Some, None, Ok, refl, sym, ap, subst, ◌∙◌, arith, inl, inr, ◌⊎◌}
+use Rattle.std.proofs.Common.{◌≡◌, ℕ, suc, ◌+◌, ◌<◌, ◌≤◌, Bool, true, false, cond, ◌||◌, List, [], ◌∷◌, length, Option, Some, None, Ok, Err, refl, sym, ap, subst, ◌∙◌, arith, inl, inr, ◌⊎◌}
 use Rattle.ss_parse_expressions.proofs.Common.{Line, openers, opens, Span, Token, TokenKind}
+use Rattle.ss_parse_expressions.specs.declared.failure.ParseFault.TheVariants.{Syntax}
 use Rattle.ss_parse_expressions.specs.Reading.{Reader, ◌>>=◌, Mark, kind_of_mark, is, begins, skip, expect, taken, found_then, seq, after_dropped, closed, apply, lined, maybe, maybe_list, flag, choose_reader, too_deep, comma, skip_comma}
 use Rattle.ss_parse_expressions.specs.ReadWords.{done}
 use Rattle.ss_parse_expressions.specs.Shapes.{Shape, ◌▷◌, nothing, never, either_shape, optional, provided, noise, perhaps, flagged, first_token_line}
 use Rattle.ss_parse_expressions.proofs.Tools.{bind_ok, which, chosen, carry, or_false}
-use Rattle.ss_parse_expressions.proofs.Marks.{token, Mark_is, is_true, mark_begins, expect_sound, expect_complete, token_less, begins_mark, no_skip, mark_skips, skip_openers, In_table, taken_sound, taken_complete}
+use Rattle.ss_parse_expressions.proofs.Marks.{token, Mark_is, is_true, is_itself, token_of, mark_begins, token_less, begins_mark, no_skip, mark_skips, skip_openers, In_table, taken_sound, taken_complete}
 use Rattle.ss_parse_expressions.proofs.Depth.{Upto, upto_same, upto_bind, upto_if, Bounded, bounded_more, bounded_bind, bounded_if, bounded_opened}
 
 -- The second reader has more levels. Where the first finds it too deep, k tokens at least open a level.
@@ -22,18 +23,31 @@ continues_never ts = false
 
 -- ---- single tokens
 
+-- a reader of one token that passes a test
+module _ {P : Shape} {read : Reader (Unit {0})} (k : ℕ) (test : TokenKind → Bool) (none : read [] ≡ Err Syntax) (first : (t : Token) (ts : List Token) → read (t ∷ ts) ≡ cond (test t.kind) (Ok (tt, ts)) (Err Syntax)) (to : (t : Token) (ts : List Token) → test t.kind ≡ true → P (t ∷ ts) ts) (from : (ts rest : List Token) → P ts rest → (t : Token) × (test t.kind ≡ true) × (ts ≡ t ∷ rest)) where
+  pub single_reads : Reads k read read (λ u. P) continues_never
+  single_reads = record {
+    sound = sound;
+    complete = λ ts u rest s stop. let p = from ts rest s in ap read p.2 ∙ first p.0 rest ∙ rw p.1 refl;
+    shorter = λ ts u rest s. omega (arith, ap length (from ts rest s).2);
+    under = λ ts. upto_same _;
+    opening = opening;
+  }
+    where
+      sound : (ts : List Token) (u : Unit {0}) (rest : List Token) → read ts ≡ Ok (u, rest) → P ts rest
+      sound [] u rest e = absurd cc
+      sound (t ∷ ts) u rest e =
+          elim (chosen (test t.kind) _ _ _ (sym (first t ts) ∙ e)) [
+            | inl p ↦ carry (λ (u : Unit {0}) (r : List Token). P (t ∷ ts) r) tt u ts rest p.1 (to t ts p.0)
+            | inr p ↦ let no = p.1 in absurd cc
+          ]
+
+      opening : (ts : List Token) → Bounded k (openers ts) (read ts)
+      opening [] = rw none tt
+      opening (t ∷ ts) = rw (first t ts) (elim (which (test t.kind)) [ inl p ↦ rw p (omega arith) | inr p ↦ rw p tt ])
+
 pub expect_reads : (k : ℕ) (m : Mark) → Reads k (expect m) (expect m) (λ u. Mark_is m) continues_never
-expect_reads k m = record {
-  sound = λ ts u rest e. expect_sound m ts rest u e;
-  complete = λ ts u rest s stop. expect_complete m ts rest u s;
-  shorter = λ ts u rest s. omega (arith, token_less (kind_of_mark m) ts rest s);
-  under = λ ts. upto_same _;
-  opening = opening;
-}
-  where
-    opening : (ts : List Token) → Bounded k (openers ts) (expect m ts)
-    opening [] = tt
-    opening (t ∷ ts) = elim (which (is m t.kind)) [ inl p ↦ rw p (omega arith) | inr p ↦ rw p tt ]
+expect_reads k m = single_reads k (is m) refl (λ t ts. refl) (λ t ts e. token_of t ts (kind_of_mark m) (is_true m t.kind e)) (λ ts rest s. (token (kind_of_mark m) s.0 s.1, is_itself m, s.2))
 
 pub taken_reads : {A : Type 0} (k : ℕ) (table : TokenKind → Option A) → Reads k (taken table) (taken table) (In_table table) continues_never
 taken_reads {A = A} k table = record {

@@ -8,10 +8,10 @@ use Rattle.ss_parse_expressions.specs.declared.classes.WordClass.TheVariants as 
 use Rattle.ss_parse_expressions.specs.Shapes.{Shape, ◌▷◌, never, optional, noise, Token_is, Name_is, Word_for, separated_list, flagged}
 use Rattle.ss_parse_expressions.specs.Words.{has_word, One_of, Item_is, perhaps_listed}
 use Rattle.ss_parse_expressions.specs.ReadWords.{in_class, begins_class, skip_class, expect_class, if_present, fail, begins_noisy, expect_noisy, begins_name, names, begins_item, articled_name, items, among, begins_among}
-use Rattle.ss_parse_expressions.proofs.Tools.{which, chosen, carry}
+use Rattle.ss_parse_expressions.proofs.Tools.{which, carry}
 use Rattle.ss_parse_expressions.proofs.Marks.{token, Mark_is, is_true, token_of, mark_begins, begins_mark, no_skip, token_less, skip_openers, starts_otherwise, begins_table}
-use Rattle.ss_parse_expressions.proofs.Depth.{upto_same, Bounded}
-use Rattle.ss_parse_expressions.proofs.ReaderLaws.{Reads, Item, continues_never, Made, expect_reads, taken_reads, reshaped_reads, Front, mark_front, past_optional, optional_less, skipped_reads, optional_reads, item_marked, item_apply, maybe_list_reads}
+use Rattle.ss_parse_expressions.proofs.Depth.{upto_same}
+use Rattle.ss_parse_expressions.proofs.ReaderLaws.{Reads, Item, continues_never, Made, single_reads, expect_reads, taken_reads, reshaped_reads, Front, mark_front, past_optional, optional_less, skipped_reads, optional_reads, item_marked, item_apply, maybe_list_reads}
 use Rattle.ss_parse_expressions.proofs.Rows.{list_reads, Loop, loop_of, separated_item}
 
 -- ---- words of a table
@@ -54,28 +54,7 @@ skip_class_openers c [] = omega arith
 skip_class_openers c (t ∷ ts) = elim (which (in_class c t.kind)) [ inl p ↦ rw p (omega arith) | inr p ↦ rw p (omega arith) ]
 
 pub expect_class_reads : (k : ℕ) (c : WordClass) → Reads k (expect_class c) (expect_class c) (λ u. One_of c) continues_never
-expect_class_reads k c = record {
-  sound = sound;
-  complete = λ ts u rest s stop. complete ts rest u s;
-  shorter = λ ts u rest s. omega (arith, one_less c ts rest s);
-  under = λ ts. upto_same _;
-  opening = opening;
-}
-  where
-    sound : (ts : List Token) (u : Unit {0}) (rest : List Token) → expect_class c ts ≡ Ok (u, rest) → One_of c ts rest
-    sound [] u rest e = absurd cc
-    sound (t ∷ ts) u rest e =
-        elim (chosen (in_class c t.kind) _ _ _ e) [
-          | inl p ↦ carry (λ (u : Unit {0}) (r : List Token). One_of c (t ∷ ts) r) tt u ts rest p.1 (one_of_token c t ts p.0)
-          | inr p ↦ let no = p.1 in absurd cc
-        ]
-
-    complete : (ts rest : List Token) (u : Unit {0}) → One_of c ts rest → expect_class c ts ≡ Ok (u, rest)
-    complete ts rest u (w, has, (span, line, e)) = rw (e, has) refl
-
-    opening : (ts : List Token) → Bounded k (openers ts) (expect_class c ts)
-    opening [] = tt
-    opening (t ∷ ts) = elim (which (in_class c t.kind)) [ inl p ↦ rw p (omega arith) | inr p ↦ rw p tt ]
+expect_class_reads k c = single_reads k (in_class c) refl (λ t ts. refl) (one_of_token c) (λ ts rest s. (token (kinds.Word s.0) s.2.0 s.2.1, s.1, s.2.2))
 
 pub class_front : (c : WordClass) → Front (begins_class c) (skip_class c) (One_of c)
 class_front c = record { found = begins_one c; kept = no_skip_class c; skips = one_skips c; takes = one_less c; opened = skip_class_openers c }
