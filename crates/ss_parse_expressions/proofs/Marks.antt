@@ -1,5 +1,6 @@
 -- Single tokens.
 use Rattle.std.proofs.Common.{◌≡◌, suc, ◌≤◌, Bool, true, false, List, [], ◌∷◌, length, Option, Some, None, Ok, refl, ap, subst, ◌∙◌, arith, inl, inr}
+use Rattle.std.proofs.lemmas.Bool.{both_ways, false_from_ne_true}
 use Rattle.std.proofs.lemmas.Bool.Decides.{nat_tests}
 use denote.Enum.Bare.{same_true, true_same}
 use Rattle.ss_lex.specs.contracts.word.Word.{the_type}
@@ -69,12 +70,7 @@ no_skip m (t ∷ ts) e = rw e refl
 -- what starts so doesn't begin with a mark that nothing that starts so begins with
 pub starts_otherwise : (m : Mark) (starts : List Token → Bool) → ((span : Span) (line : Line) (ts : List Token) → starts (token (kind_of_mark m) span line ∷ ts) ≡ false) → (ts : List Token) → starts ts ≡ true → begins m ts ≡ false
 starts_otherwise m starts none ts there =
-    elim (which (begins m ts)) [
-      | inl p ↦
-          let s = begins_mark m ts p in
-          absurd (let otherwise : starts ts ≡ false = ap starts s.2 ∙ none s.0 s.1 (skip m ts) in cc)
-      | inr p ↦ p
-    ]
+    false_from_ne_true (begins m ts) (λ p. let s = begins_mark m ts p in both_ways (starts ts) (ap starts s.2 ∙ none s.0 s.1 (skip m ts)) there)
 
 pub token_less : (k : TokenKind) (ts rest : List Token) → Token_is k ts rest → suc (length rest) ≡ length ts
 token_less k ts rest (span, line, e) = rw e refl

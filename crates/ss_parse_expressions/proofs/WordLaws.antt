@@ -1,5 +1,6 @@
 -- Words of a class, names and lists of names: what is read is spelled, and what is spelled is read.
 use Rattle.std.proofs.Common.{◌≡◌, ℕ, suc, ◌<◌, ◌≤◌, Bool, true, false, ◌||◌, List, [], ◌∷◌, length, Option, Some, Ok, refl, sym, ap, subst, ◌∙◌, arith, inl, inr, ◌⊎◌}
+use Rattle.std.proofs.lemmas.Bool.{both_ways, false_from_ne_true}
 use Rattle.ss_parse_expressions.proofs.Common.{after_dropped, apply, begins, begins_more, comma, expect, in_table, is, kind_of_mark, Line, Mark, maybe_list, name_in_token, openers, Reader, skip, skip_separator, Span, taken, Token, TokenKind, Word, word}
 use Rattle.ss_lex.specs.declared.word.Word.TheVariants as words
 use Rattle.ss_lex.specs.declared.token.TokenKind.TheVariants as kinds
@@ -174,23 +175,12 @@ perhaps_listed_reads {X = X} {P = P} {S = S} articled_name = maybe_list_reads ar
 
 pub no_word : (p : Word → Bool) (w : Word) → p w ≡ true → (ts : List Token) → begins_among p ts ≡ false → begins (word w) ts ≡ false
 no_word p w held [] e = refl
-no_word p w held (t ∷ ts) e =
-    elim (which (is (word w) t.kind)) [
-      | inl there ↦
-          let kind : t.kind ≡ kinds.Word w = is_true (word w) t.kind there in
-          absurd (let holds : among p t.kind ≡ true = ap (among p) kind ∙ held in cc)
-      | inr none ↦ none
-    ]
+no_word p w held (t ∷ ts) e = false_from_ne_true (is (word w) t.kind) (λ there. both_ways (among p t.kind) e (ap (among p) (is_true (word w) t.kind there) ∙ held))
 
 pub no_class : (p : Word → Bool) (c : WordClass) → ((w : Word) → has_word c w ≡ true → p w ≡ true) → (ts : List Token) → begins_among p ts ≡ false → begins_class c ts ≡ false
 no_class p c held [] e = refl
 no_class p c held (t ∷ ts) e =
-    elim (which (in_class c t.kind)) [
-      | inl there ↦
-          let w = class_word c t.kind there in
-          absurd (let holds : among p t.kind ≡ true = ap (among p) w.2 ∙ held w.0 w.1 in cc)
-      | inr none ↦ none
-    ]
+    false_from_ne_true (in_class c t.kind) (λ there. let w = class_word c t.kind there in both_ways (among p t.kind) e (ap (among p) w.2 ∙ held w.0 w.1))
 
 -- an item that is made of what begins with a mark
 pub item_made : {A B : Type 0} {k : ℕ} {q q' : Reader A} {S : A → Shape} {d : List Token → Bool} (m : Mark) (law : Reads k q q' S d) (f : A → B) → Item k (begins m) (apply f (after_dropped (expect m) q)) (apply f (after_dropped (expect m) q')) (Made f (λ x. Mark_is m ▷ S x)) d
