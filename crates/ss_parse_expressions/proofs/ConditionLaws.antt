@@ -1,5 +1,6 @@
 -- Conditions: what is read is spelled, and what is spelled is read.
 use Rattle.std.proofs.Common.{◌≡◌, ℕ, zero, suc, ◌<◌, ◌≤◌, Bool, true, false, cond, ◌||◌, List, [], ◌∷◌, length, Option, Some, None, refl, sym, ap, subst, ◌∙◌, arith, inl, inr, ◌⊎◌}
+use Rattle.std.proofs.lemmas.Bool.{or_from}
 use Rattle.ss_parse_expressions.proofs.Common.{begins, begins_by, begins_sign, begins_sum, choose_reader, closed, Designator, Equals, if_present, in_table, opening, Plain_name, reference_in, Reference_is, seq, skip, Spelled, star, Subscript, sum_in, Sum_is, sum_place, taken, the, Token, TokenKind, Word, word}
 use Rattle.ss_lex.specs.declared.word.Word.TheVariants as words
 use Rattle.ss_lex.specs.declared.token.TokenKind.TheVariants as kinds
@@ -198,9 +199,7 @@ no_the n set ts rest (a, at, s) = starts_otherwise (word words.The) (begins_by p
 pub stops_place : (ts : List Token) → continues_sum ts ≡ false → continues_place ts ≡ false
 stops_place ts stop =
     let a = or_false (begins_sign ts) (begins star ts || begins opening ts) stop in
-    let b = or_false (begins star ts) (begins opening ts) a.1 in
-    let none : begins opening ts ≡ false = b.1 in
-    rw none refl
+    or_from (begins opening ts) (continues_never ts) (or_false (begins star ts) (begins opening ts) a.1).1 refl
 
 sum_no_data : (ts : List Token) → begins_sum ts ≡ true → begins (word words.Data) ts ≡ false
 sum_no_data = starts_otherwise (word words.Data) begins_sum (λ span line ts. refl)

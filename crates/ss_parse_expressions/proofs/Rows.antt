@@ -11,7 +11,7 @@ use Rattle.ss_parse_expressions.specs.Reading.{Reader, ◌>>=◌, HasFailedReadi
 use Rattle.ss_lex.specs.declared.word.Word.TheVariants as words
 use Rattle.ss_parse_expressions.specs.Steps.{AreJoined}
 use Rattle.ss_parse_expressions.specs.Shapes as shapes
-use Rattle.ss_parse_expressions.specs.Shapes.{Shape, ◌▷◌, nothing, never, either_shape, each_in_turn, separated_list, separator}
+use Rattle.ss_parse_expressions.specs.Shapes.{Shape, ◌▷◌, each_in_turn, separated_list, separator}
 use Rattle.ss_parse_expressions.proofs.Tools.{bind_ok, which, chosen, carry, or_false, and_true, ok_or_err}
 use Rattle.ss_parse_expressions.proofs.Marks.{token, Mark_is, begins_mark, no_skip, skip_openers, token_less}
 use Rattle.ss_parse_expressions.proofs.Depth.{Upto, upto_same, upto_bind, upto_if, Bounded, bounded_more, bounded_bind, bounded_if}
