@@ -8,7 +8,7 @@ use Rattle.ss_parse_expressions.specs.declared.classes.WordClass.{WordClass}
 use Rattle.ss_parse_expressions.specs.declared.classes.WordClass.TheVariants as classes
 use Rattle.ss_parse_expressions.specs.Shapes.{Shape, ◌▷◌, never, optional, noise, Token_is, Name_is, Word_for, separated_list, flagged}
 use Rattle.ss_parse_expressions.specs.Words.{has_word, One_of, Item_is, perhaps_listed}
-use Rattle.ss_parse_expressions.specs.ReadWords.{in_class, begins_class, skip_class, expect_class, if_present, fail, begins_noisy, expect_noisy, begins_name, names, begins_item, articled_name, items, among, begins_among}
+use Rattle.ss_parse_expressions.specs.ReadWords.{in_class, begins_class, skip_class, expect_class, if_present, fail, begins_noisy, expect_noisy, begins_name, names, past_article, begins_item, articled_name, items, among, begins_among}
 use Rattle.ss_parse_expressions.proofs.Tools.{which, carry}
 use Rattle.ss_parse_expressions.proofs.Marks.{token, Mark_is, is_true, token_of, mark_begins, begins_mark, no_skip, token_less, skip_openers, starts_otherwise, begins_table}
 use Rattle.ss_parse_expressions.proofs.Depth.{upto_same}
@@ -132,9 +132,6 @@ name_no_and = starts_otherwise (word words.And) begins_name (λ span line ts. re
 pub names_reads : (k : ℕ) → Reads k names names (separated_list Name_is) (λ ts. begins_more begins_name ts || (continues_never ts || continues_never ts))
 names_reads k = list_reads (name_reads k) begins_name name_begins name_no_and name_less (λ span line ts. refl) (λ span line ts. refl)
 
-pub names_loop : Loop (begins_more begins_name) (λ r. taken name_in_token (skip_separator r))
-names_loop = loop_of (separated_item (name_reads 0) begins_name name_begins name_no_and) refl
-
 -- ---- names with articles
 
 name_no_article : (n : List ℕ) (ts rest : List Token) → Name_is n ts rest → begins_class classes.Article ts ≡ false
@@ -155,8 +152,10 @@ item_no_and = starts_otherwise (word words.And) begins_item (λ span line ts. re
 pub items_reads : (k : ℕ) → Reads k items items (separated_list Item_is) (λ ts. begins_more begins_item ts || (continues_never ts || continues_never ts))
 items_reads k = list_reads (item_reads k) begins_item item_begins item_no_and item_less (λ span line ts. refl) (λ span line ts. refl)
 
-pub items_loop : Loop (begins_more begins_item) (λ r. articled_name (skip_separator r))
-items_loop = loop_of (separated_item (item_reads 0) begins_item item_begins item_no_and) refl
+-- of both kinds of names
+pub listed_loop : (articles : Bool) → Loop (begins_more (λ ts. begins_name (past_article articles ts))) (λ r. taken name_in_token (past_article articles (skip_separator r)))
+listed_loop true = loop_of (separated_item (item_reads 0) begins_item item_begins item_no_and) refl
+listed_loop false = loop_of (separated_item (name_reads 0) begins_name name_begins name_no_and) refl
 
 -- ---- a list with a word before it, or neither
 
