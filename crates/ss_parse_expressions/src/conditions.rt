@@ -1,6 +1,6 @@
 //! Conditions.
 
-ghost use Rattle.std.specs.Prelude.{◌≡◌, map, if◌then◌else◌};
+ghost use Rattle.std.specs.Prelude.{◌≡◌, map};
 ghost use Rattle.ss_tree.specs.Tree.{expression_row};
 ghost use Rattle.ss_tree.specs.View.{view_expression_tree, view_named, view_test_tree, view_conjunction_tree, view_condition_tree};
 ghost use Rattle.std.specs.Option.{option_map};
@@ -71,22 +71,16 @@ impl WordTable for TestWords {
     }
 }
 
-/// A verb that compares, by the opposite where it is negated, and ends with the word.
+/// A verb that compares, and ends with the word.
 fn compares(
-    negated: bool,
     relation: Relation,
-    opposite: Relation,
     tokens: &[Token],
     last: Word,
 ) -> Result<(Verb, &[Token]), ParseFailure>
-    ensures { HasGivenReading (λ x. (x.0, x.1.now)) result (apply (λ u. Compares (if negated then opposite else relation)) (expect (word last)) tokens.now) }
+    ensures { HasGivenReading (λ x. (x.0, x.1.now)) result (apply (λ u. Compares relation) (expect (word last)) tokens.now) }
 {
     let rest = expect_word(tokens, last)?;
-    if negated {
-        Ok((Verb::Compares(opposite), rest))
-    } else {
-        Ok((Verb::Compares(relation), rest))
-    }
+    Ok((Verb::Compares(relation), rest))
 }
 
 /// The rest of a verb, given whether IS and NOT were there and which word says what is tested.
@@ -102,31 +96,12 @@ fn verb_end(
         TestWord::Empty if is => Ok((Verb::IsEmpty(negated), tokens)),
         TestWord::In if is => Ok((Verb::IsIn(negated), tokens)),
         TestWord::Empty | TestWord::In => Err(syntax(tokens)),
-        TestWord::Equal => compares(
-            negated,
-            Relation::Equal,
-            Relation::NotEqual,
-            tokens,
-            Word::To,
-        ),
-        TestWord::Less => {
-            compares(
-                negated,
-                Relation::Less,
-                Relation::GreaterOrEqual,
-                tokens,
-                Word::Than,
-            )
-        }
-        TestWord::Greater => {
-            compares(
-                negated,
-                Relation::Greater,
-                Relation::LessOrEqual,
-                tokens,
-                Word::Than,
-            )
-        }
+        TestWord::Equal if negated => compares(Relation::NotEqual, tokens, Word::To),
+        TestWord::Equal => compares(Relation::Equal, tokens, Word::To),
+        TestWord::Less if negated => compares(Relation::GreaterOrEqual, tokens, Word::Than),
+        TestWord::Less => compares(Relation::Less, tokens, Word::Than),
+        TestWord::Greater if negated => compares(Relation::LessOrEqual, tokens, Word::Than),
+        TestWord::Greater => compares(Relation::Greater, tokens, Word::Than),
     }
 }
 
