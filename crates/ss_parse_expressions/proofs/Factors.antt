@@ -7,9 +7,9 @@ use Rattle.ss_tree.specs.declared.expression.Designator.TheVariants as designato
 use Rattle.ss_parse_expressions.specs.Shapes.{Shape, ◌▷◌, nothing, never, provided, Symbol_is, Word_for, Word_is, separator, each_in_turn, separated_list, nested_shape}
 use Rattle.ss_parse_expressions.specs.SpelledExpressions.{ExpressionPlace, sum_place, factor_place, Designated, Spelled, Further_arguments}
 use Rattle.ss_parse_expressions.specs.ReadExpressions.{opening, closing, designator_of_word, begins_sum, arguments_with, enclosed_with, subscripts_with, parenthesised_with, factor_in_words, factor_at, factor_with, sum_in}
-use Rattle.ss_parse_expressions.proofs.Marks.{mark_begins, token_less}
+use Rattle.ss_parse_expressions.proofs.Marks.{token_less}
 use Rattle.ss_parse_expressions.proofs.Depth.{Upto, upto_same, Bounded, bounded_more, bounded_opened}
-use Rattle.ss_parse_expressions.proofs.ReaderLaws.{Reads, Item, Made, continues_never, done_reads, reshaped_reads, fewer_reads, made_reads, item_of, before_mark_reads, opened_reads, maybe_list_reads}
+use Rattle.ss_parse_expressions.proofs.ReaderLaws.{Reads, Item, Made, continues_never, done_reads, reshaped_reads, fewer_reads, made_reads, before_mark_reads, opened_reads, opened_item, maybe_list_reads}
 use Rattle.ss_parse_expressions.proofs.Rows.{list_reads}
 use Rattle.ss_parse_expressions.proofs.WordLaws.{fail_reads}
 use Rattle.ss_parse_expressions.proofs.Beginnings.{In, in_begins, sum_no_and, continues_factor, continues_sum}
@@ -108,9 +108,8 @@ module _ (n m : ℕ) (inner : Reads n (sum_in n) (sum_in m) (In n) continues_sum
   enclosed_reads = opened_reads opening refl (before_mark_reads closing arguments_reads (λ span line ts. refl))
 
   enclosed_item : Item (suc n) (begins opening) (enclosed_with (sum_in n)) (enclosed_with (sum_in m)) (Enclosed n) continues_never
-  enclosed_item =
-      item_of (begins opening) enclosed_reads (λ ts xs rest s. mark_begins opening ts s.0 s.1)
-      (λ ts xs rest s. omega (arith, token_less (kinds.Symbol OpenParenthesis) ts s.0 s.1, arguments_reads.shorter s.0 xs s.2.0 s.2.1, token_less (kinds.Symbol CloseParenthesis) s.2.0 rest s.2.2))
+  unfolding enclosed_with
+  enclosed_item = opened_item opening refl (before_mark_reads closing arguments_reads (λ span line ts. refl))
 
   subscripts_reads : Reads (suc n) (subscripts_with (sum_in n)) (subscripts_with (sum_in m)) (Subscripts n) (λ ts. begins opening ts || continues_never ts)
   unfolding subscripts_with

@@ -8,8 +8,8 @@ use Rattle.ss_parse_expressions.specs.Shapes.{Shape, ◌▷◌, Symbol_is, separ
 use Rattle.ss_parse_expressions.specs.SpelledExpressions.{Designated, Subscript, Target_is, Plain_name, Reference_is}
 use Rattle.ss_parse_expressions.specs.ReadExpressions.{opening, closing, designator_of, begins_sum, sum_in}
 use Rattle.ss_parse_expressions.specs.ReadPlaces.{subscript_row, named_tree, subscript_with, plain_of, named_place_in, target_in, reference_in, begins_target, targets_in, sums_in}
-use Rattle.ss_parse_expressions.proofs.Marks.{mark_begins, token_less, starts_otherwise, In_table, begins_table}
-use Rattle.ss_parse_expressions.proofs.ReaderLaws.{Reads, Item, continues_never, item_of, taken_reads, seq_reads, before_mark_reads, opened_reads, apply_reads, reshaped_reads, maybe_reads, too_deep_reads}
+use Rattle.ss_parse_expressions.proofs.Marks.{token_less, starts_otherwise, In_table, begins_table}
+use Rattle.ss_parse_expressions.proofs.ReaderLaws.{Reads, Item, continues_never, taken_reads, seq_reads, before_mark_reads, opened_item, apply_reads, reshaped_reads, maybe_reads, too_deep_reads}
 use Rattle.ss_parse_expressions.proofs.Rows.{list_reads, Loop, loop_of, separated_item}
 use Rattle.ss_parse_expressions.proofs.Beginnings.{In, in_begins, sum_no_and, continues_sum}
 use Rattle.ss_parse_expressions.proofs.Factors.{word_designates}
@@ -45,14 +45,9 @@ abbrev pub Subscript_is : ℕ → ExpressionTree → Shape
 Subscript_is n e = Symbol_is OpenParenthesis ▷ In n e ▷ Symbol_is CloseParenthesis
 
 module _ (n m : ℕ) (le : n ≤ m) where
-  subscript_reads : Reads (suc n) (subscript_with (sum_in n)) (subscript_with (sum_in m)) (Subscript_is n) continues_never
-  unfolding subscript_with
-  subscript_reads = opened_reads opening refl (before_mark_reads closing (sum_in_reads n m le) (λ span line ts. refl))
-
   subscript_item : Item (suc n) (begins opening) (subscript_with (sum_in n)) (subscript_with (sum_in m)) (Subscript_is n) continues_never
-  subscript_item =
-      item_of (begins opening) subscript_reads (λ ts e rest s. mark_begins opening ts s.0 s.1)
-      (λ ts e rest s. omega (arith, token_less (kinds.Symbol OpenParenthesis) ts s.0 s.1, in_less n s.0 e s.2.0 s.2.1, token_less (kinds.Symbol CloseParenthesis) s.2.0 rest s.2.2))
+  unfolding subscript_with
+  subscript_item = opened_item opening refl (before_mark_reads closing (sum_in_reads n m le) (λ span line ts. refl))
 
 subscript_from : (n : ℕ) (row : ExpressionRow) (ts rest : List Token) → Subscript row n ts rest → (o : Option ExpressionTree) × (subscript_row o ≡ row) × perhaps (Subscript_is n) o ts rest
 subscript_from n no_expression ts rest s = (None, refl, s)

@@ -221,6 +221,10 @@ item_marked {S = S} m second =
     item_of (begins m) (marked_reads m second) (λ ts x rest s. mark_begins m ts s.0 s.1)
     (λ ts x rest s. omega (arith, token_less (kind_of_mark m) ts s.0 s.1, second.shorter s.0 x rest s.2))
 
+-- an item that begins with a mark that opens a level
+pub opened_item : {A : Type 0} {k : ℕ} {q q' : Reader A} {S : A → Shape} {d : List Token → Bool} (m : Mark) → opens (kind_of_mark m) ≡ 1 → Reads k q q' S d → Item (suc k) (begins m) (after_dropped (expect m) q) (after_dropped (expect m) q') (λ x. Mark_is m ▷ S x) d
+opened_item m opener inside = let item = item_marked m inside in item_of (begins m) (opened_reads m opener inside) item.begins item.less
+
 -- an item that may have a comma before it
 module _ {A : Type 0} {k : ℕ} {q q' : Reader A} {S : A → Shape} {d : List Token → Bool} (law : Reads k q q' S d) (starts : List Token → Bool) (first : (ts : List Token) (x : A) (rest : List Token) → S x ts rest → starts ts ≡ true) (no_comma : (ts : List Token) → starts ts ≡ true → begins comma ts ≡ false) (less : (ts : List Token) (x : A) (rest : List Token) → S x ts rest → length rest < length ts) where
   pub noisy_item : Item k (λ ts. starts (skip_comma ts)) (λ ts. q (skip_comma ts)) (λ ts. q' (skip_comma ts)) (λ x. noise ▷ S x) d

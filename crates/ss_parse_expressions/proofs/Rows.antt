@@ -208,25 +208,6 @@ module _ {A G : Type 0} (starts : List Token → Bool) (item : G → Reader A) (
         | inr p ↦ rw p refl
       ]
 
-module _ {A : Type 0} (starts : List Token → Bool) (item : Reader A) (at_end : starts [] ≡ false) (shrinks : Shrinks starts item) where
-  pub rows_more : (ts rest : List Token) (x : A) → starts ts ≡ true → item ts ≡ Ok (x, rest) → rows starts item ts ≡ (rows starts item rest >>= λ xs. Ok (x ∷ xs.0, xs.1))
-  unfolding rows
-  rows_more [] rest x started e = absurd (let no_more = at_end in cc)
-  rows_more (t ∷ ts) rest x started e =
-      let small : length rest < length (t ∷ ts) = shrinks (t ∷ ts) x rest started e in
-      let same = row_enough starts (λ (u : Unit {0}). item) (λ u x. u) at_end (λ u. shrinks) (length ts) (length rest) tt rest (omega arith) (omega arith) in
-      rw (started, e, same) refl
-
-  pub rows_fail : (ts : List Token) (f : ParseFault) → starts ts ≡ true → item ts ≡ Err f → rows starts item ts ≡ Err f
-  unfolding rows
-  rows_fail [] f started e = absurd (let no_more = at_end in cc)
-  rows_fail (t ∷ ts) f started e = rw (started, e) refl
-
-  pub rows_done : (ts : List Token) → starts ts ≡ false → rows starts item ts ≡ Ok ([], ts)
-  unfolding rows
-  rows_done [] e = refl
-  rows_done (t ∷ ts) e = rw e refl
-
 -- What a loop needs to read a row: its test is false at the end, and each item takes a token.
 pub record Loop {A : Type 0} (starts : List Token → Bool) (item : Reader A) : Type 0 where
   pub at_end : starts [] ≡ false
@@ -237,16 +218,34 @@ loop_of law at_end = record { at_end = at_end; shrinks = λ ts x rest started e.
 
 -- the laws of a loop, where the items need no view
 module _ {A : Type 0} {starts : List Token → Bool} {item : Reader A} (loop : Loop starts item) where
+  rows_more : (ts rest : List Token) (x : A) → starts ts ≡ true → item ts ≡ Ok (x, rest) → rows starts item ts ≡ (rows starts item rest >>= λ xs. Ok (x ∷ xs.0, xs.1))
+  unfolding rows
+  rows_more [] rest x started e = absurd (let no_more = loop.at_end in cc)
+  rows_more (t ∷ ts) rest x started e =
+      let small : length rest < length (t ∷ ts) = loop.shrinks (t ∷ ts) x rest started e in
+      let same = row_enough starts (λ (u : Unit {0}). item) (λ u x. u) loop.at_end (λ u. loop.shrinks) (length ts) (length rest) tt rest (omega arith) (omega arith) in
+      rw (started, e, same) refl
+
+  rows_fail : (ts : List Token) (f : ParseFault) → starts ts ≡ true → item ts ≡ Err f → rows starts item ts ≡ Err f
+  unfolding rows
+  rows_fail [] f started e = absurd (let no_more = loop.at_end in cc)
+  rows_fail (t ∷ ts) f started e = rw (started, e) refl
+
+  rows_done : (ts : List Token) → starts ts ≡ false → rows starts item ts ≡ Ok ([], ts)
+  unfolding rows
+  rows_done [] e = refl
+  rows_done (t ∷ ts) e = rw e refl
+
   pub grows_plain : (old new : List A) (x : A) (ts rest : List Token) (total : Result (List A × List Token) ParseFault) → new ≡ old ++ x ∷ [] → starts ts ≡ true → item ts ≡ Ok (x, rest) → with_front old (rows starts item ts) ≡ total → with_front new (rows starts item rest) ≡ total
   grows_plain old new x ts rest total pushed started e so_far =
-      rw pushed (with_front_more old x (rows starts item rest)) ∙ ap (with_front old) (sym (rows_more starts item loop.at_end loop.shrinks ts rest x started e)) ∙ so_far
+      rw pushed (with_front_more old x (rows starts item rest)) ∙ ap (with_front old) (sym (rows_more ts rest x started e)) ∙ so_far
 
   pub is_done_plain : (read : List A) (ts : List Token) (total : Result (List A × List Token) ParseFault) → starts ts ≡ false → with_front read (rows starts item ts) ≡ total → total ≡ Ok (read, ts)
-  is_done_plain read ts total over so_far = sym so_far ∙ ap (with_front read) (rows_done starts item loop.at_end loop.shrinks ts over) ∙ ap (λ ys. Ok (ys, ts)) (append-nil read)
+  is_done_plain read ts total over so_far = sym so_far ∙ ap (with_front read) (rows_done ts over) ∙ ap (λ ys. Ok (ys, ts)) (append-nil read)
 
   pub breaks_plain : (read : List A) (ts : List Token) (e : ParseFailure) (total : Result (List A × List Token) ParseFault) → starts ts ≡ true → HasFailedReading e (item ts) → with_front read (rows starts item ts) ≡ total → HasFailedReading e total
   breaks_plain read ts failures.Memory total started f so_far = tt
-  breaks_plain read ts (failures.Refused f left) total started e so_far = sym so_far ∙ ap (with_front read) (rows_fail starts item loop.at_end loop.shrinks ts f started e)
+  breaks_plain read ts (failures.Refused f left) total started e so_far = sym so_far ∙ ap (with_front read) (rows_fail ts f started e)
 
 -- the laws of a loop, where the items are seen through a view
 module _ {A V : Type 0} (view : V → A) {starts : List Token → Bool} {item : Reader A} (loop : Loop starts item) where
