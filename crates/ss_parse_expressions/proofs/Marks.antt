@@ -6,7 +6,6 @@ use denote.Enum.Bare.{same_true, true_same}
 use Rattle.ss_lex.specs.contracts.word.Word.{the_type}
 use Rattle.ss_parse_expressions.proofs.Common.{Line, openers, Shape, Span, Token, Token_is, TokenKind}
 use Rattle.ss_lex.specs.declared.token.Symbol.{Symbol}
-use Rattle.ss_lex.specs.declared.token.Symbol.TheVariants.{OpenParenthesis, CloseParenthesis, Comma, Plus, Minus, Star, Equals, Other}
 use Rattle.ss_lex.specs.declared.token.TokenKind.TheVariants as kinds
 use Rattle.ss_parse_expressions.specs.Reading.{Mark, word, symbol, kind_of_mark, same_symbol, is, begins, skip, begins_by, taken, found_then}
 use Rattle.ss_parse_expressions.proofs.Tools.{which, carry}
@@ -19,25 +18,10 @@ abbrev pub Mark_is : Mark → Shape
 Mark_is m = Token_is (kind_of_mark m)
 
 symbols_same : (a b : Symbol) → same_symbol a b ≡ true → a ≡ b
-symbols_same OpenParenthesis OpenParenthesis e = refl
-symbols_same CloseParenthesis CloseParenthesis e = refl
-symbols_same Comma Comma e = refl
-symbols_same Plus Plus e = refl
-symbols_same Minus Minus e = refl
-symbols_same Star Star e = refl
-symbols_same Equals Equals e = refl
-symbols_same (Other a) (Other b) e = let same : a ≡ b = grind (arith, nat_tests) in ap Other same
-symbols_same _ _ e = absurd cc
+symbols_same a b e = grind (arith, nat_tests)
 
 same_symbols : (a : Symbol) → same_symbol a a ≡ true
-same_symbols OpenParenthesis = refl
-same_symbols CloseParenthesis = refl
-same_symbols Comma = refl
-same_symbols Plus = refl
-same_symbols Minus = refl
-same_symbols Star = refl
-same_symbols Equals = refl
-same_symbols (Other a) = grind (arith, nat_tests)
+same_symbols a = grind (arith, nat_tests)
 
 pub is_true : (m : Mark) (k : TokenKind) → is m k ≡ true → k ≡ kind_of_mark m
 is_true (word w) (kinds.Word v) e = ap kinds.Word (same_true the_type tt v w e)
