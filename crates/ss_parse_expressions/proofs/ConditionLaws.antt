@@ -36,20 +36,11 @@ word_of test_words.Less = words.Less
 word_of test_words.Greater = words.Greater
 
 only_test_word : (w : Word) (t : TestWord) → test_word_of w ≡ Some t → w ≡ word_of t
-only_test_word words.Empty t e = let same : test_words.Empty ≡ t = cc in subst (λ t. words.Empty ≡ word_of t) same refl
-only_test_word words.In t e = let same : test_words.In ≡ t = cc in subst (λ t. words.In ≡ word_of t) same refl
-only_test_word words.Equal t e = let same : test_words.Equal ≡ t = cc in subst (λ t. words.Equal ≡ word_of t) same refl
-only_test_word words.Less t e = let same : test_words.Less ≡ t = cc in subst (λ t. words.Less ≡ word_of t) same refl
-only_test_word words.Greater t e = let same : test_words.Greater ≡ t = cc in subst (λ t. words.Greater ≡ word_of t) same refl
-only_test_word _ t e = absurd cc
+only_test_word w t e = grind arith
 
 -- none of them is a relation
 no_relation : (t : TestWord) → relation_of (word_of t) ≡ None
-no_relation test_words.Empty = refl
-no_relation test_words.In = refl
-no_relation test_words.Equal = refl
-no_relation test_words.Less = refl
-no_relation test_words.Greater = refl
+no_relation t = grind arith
 
 test_word_is : (t : TestWord) (ts rest : List Token) → Word_for test_word_of t ts rest → Word_is (word_of t) ts rest
 test_word_is t ts rest (w, means, at) = subst (λ w. Word_is w ts rest) (only_test_word w t means) at

@@ -93,9 +93,7 @@ word_designates words.TimeA d ts rest e at = let is_a : designators.TimeA ≡ d 
 word_designates _ d ts rest e at = absurd cc
 
 function_no_designator : (w : Word) (f : Function) → function_of w ≡ Some f → designator_of_word w ≡ None
-function_no_designator words.TimeV f e = absurd cc
-function_no_designator words.TimeA f e = absurd cc
-function_no_designator _ f e = refl
+function_no_designator w f e = grind arith
 
 -- ---- the laws of an expression, given those of what is in its parentheses
 

@@ -113,9 +113,7 @@ phrases_loop n = loop_of (headed_item phrase_of phrase_no_head (λ (x : PhraseTr
 -- ---- the conditions of a loop that begins with WHILE or UNTIL
 
 guard_no_head : Continue_no_head guard_of
-guard_no_head words.While kind e = (refl, refl, refl)
-guard_no_head words.Until kind e = (refl, refl, refl)
-guard_no_head _ kind e = absurd cc
+guard_no_head w kind e = (grind arith, grind arith, grind arith)
 
 abbrev pub Bare_guard : ℕ → GuardTree → Shape
 Bare_guard n x = Word_for guard_of x.kind ▷ In_condition n x.condition
