@@ -93,12 +93,7 @@ module _ {K X : Type 0} (table : Word → Option K) (others : Continue_no_head t
 -- ---- phrases
 
 phrase_no_head : Continue_no_head phrase_of
-phrase_no_head words.With kind e = (refl, refl, refl)
-phrase_no_head words.When kind e = (refl, refl, refl)
-phrase_no_head words.Unless kind e = (refl, refl, refl)
-phrase_no_head words.While kind e = (refl, refl, refl)
-phrase_no_head words.Until kind e = (refl, refl, refl)
-phrase_no_head _ kind e = absurd cc
+phrase_no_head w kind e = (grind arith, grind arith, grind arith)
 
 abbrev pub Bare_phrase : ℕ → PhraseTree → Shape
 Bare_phrase n x = Word_for phrase_of x.kind ▷ In_condition n x.condition

@@ -48,8 +48,7 @@ pub mark_skips : (m : Mark) (ts rest : List Token) → Mark_is m ts rest → ski
 mark_skips m ts rest (span, line, e) = rw (e, is_itself m) refl
 
 pub no_skip : (m : Mark) (ts : List Token) → begins m ts ≡ false → skip m ts ≡ ts
-no_skip m [] e = refl
-no_skip m (t ∷ ts) e = rw e refl
+no_skip m ts e = grind arith
 
 -- what starts so doesn't begin with a mark that nothing that starts so begins with
 pub starts_otherwise : (m : Mark) (starts : List Token → Bool) → ((span : Span) (line : Line) (ts : List Token) → starts (token (kind_of_mark m) span line ∷ ts) ≡ false) → (ts : List Token) → starts ts ≡ true → begins m ts ≡ false

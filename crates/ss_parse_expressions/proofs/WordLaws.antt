@@ -43,16 +43,14 @@ pub one_less : (c : WordClass) (ts rest : List Token) → One_of c ts rest → s
 one_less c ts rest (w, has, at) = token_less (kinds.Word w) ts rest at
 
 no_skip_class : (c : WordClass) (ts : List Token) → begins_class c ts ≡ false → skip_class c ts ≡ ts
-no_skip_class c [] e = refl
-no_skip_class c (t ∷ ts) e = rw e refl
+no_skip_class c ts e = grind arith
 
 begins_one : (c : WordClass) (ts : List Token) → begins_class c ts ≡ true → One_of c ts (skip_class c ts)
 begins_one c [] e = absurd cc
 begins_one c (t ∷ ts) e = rw e (one_of_token c t ts e)
 
 skip_class_openers : (c : WordClass) (ts : List Token) → openers (skip_class c ts) ≤ openers ts
-skip_class_openers c [] = omega arith
-skip_class_openers c (t ∷ ts) = elim (which (in_class c t.kind)) [ inl p ↦ rw p (omega arith) | inr p ↦ rw p (omega arith) ]
+skip_class_openers c ts = grind arith
 
 pub expect_class_reads : (k : ℕ) (c : WordClass) → Reads k (expect_class c) (expect_class c) (λ u. One_of c) continues_never
 expect_class_reads k c = single_reads k (in_class c) refl (λ t ts. refl) (one_of_token c) (λ ts rest s. (token (kinds.Word s.0) s.2.0 s.2.1, s.1, s.2.2))
