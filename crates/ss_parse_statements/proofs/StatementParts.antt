@@ -1,5 +1,5 @@
 -- Parts of statements: what is read is spelled, and what is spelled is read.
-use Rattle.std.proofs.Common.{◌≡◌, ℕ, zero, suc, ◌<◌, ◌≤◌, ℤ, pos, negsuc, Bool, true, false, ◌||◌, List, [], ◌∷◌, length, Some, Ok, refl, ap, subst, ◌∙◌, arith, inl, inr}
+use Rattle.std.proofs.Common.{◌≡◌, ℕ, zero, suc, ◌<◌, ◌≤◌, ℤ, pos, negsuc, Bool, true, false, ◌||◌, List, [], ◌∷◌, length, Some, refl, ap, subst, ◌∙◌, arith, inl, inr}
 use Rattle.ss_base.specs.declared.line.Line.{Line}
 use Rattle.ss_lex.specs.declared.word.Word.{Word}
 use Rattle.ss_lex.specs.declared.word.Word.TheVariants as words
@@ -12,15 +12,13 @@ use Rattle.ss_parse_expressions.specs.declared.classes.WordClass.TheVariants as 
 use Rattle.ss_parse_expressions.specs.Shapes.{Shape, ◌▷◌, nothing, either_shape, provided, Token_is, Word_is, each_in_turn}
 use Rattle.ss_parse_expressions.specs.Words.{has_word, One_of, the, perhaps_listed}
 use Rattle.ss_parse_expressions.specs.SpelledExpressions.{Sum_is, Target_is, Reference_is}
-use Rattle.ss_parse_expressions.specs.Openers.{openers}
 use Rattle.ss_parse_expressions.specs.Reading.{word, is, begins, expect, taken, apply, begins_more}
 use Rattle.ss_parse_expressions.specs.ReadWords.{begins_class, begins_among, begins_name}
 use Rattle.ss_parse_expressions.specs.ReadExpressions.{begins_sum, sum_in}
 use Rattle.ss_parse_expressions.specs.ReadPlaces.{target_in, begins_target}
-use Rattle.ss_parse_expressions.proofs.Tools.{bind_ok, carry, or_false}
+use Rattle.ss_parse_expressions.proofs.Tools.{or_false}
 use Rattle.ss_parse_expressions.proofs.Marks.{token, mark_begins, token_less, In_table}
-use Rattle.ss_parse_expressions.proofs.Depth.{upto_same, Bounded, bounded_bind}
-use Rattle.ss_parse_expressions.proofs.ReaderLaws.{Reads, Item, continues_never, Made, item_of, item_marked, expect_reads, taken_reads, seq_reads, marked_reads, closed_reads, made_reads, following_reads, reshaped_reads, before_mark_reads, maybe_reads, done_reads, either_reads}
+use Rattle.ss_parse_expressions.proofs.ReaderLaws.{Reads, Item, continues_never, Made, item_of, item_marked, expect_reads, taken_reads, seq_reads, marked_reads, closed_reads, bind_reads, made_reads, following_reads, reshaped_reads, before_mark_reads, maybe_reads, done_reads, either_reads}
 use Rattle.ss_parse_expressions.proofs.WordLaws.{expect_class_reads, one_begins, one_less, perhaps_listed_reads, item_made, no_word, no_class}
 use Rattle.ss_parse_expressions.proofs.Beginnings.{In, continues_sum}
 use Rattle.ss_parse_expressions.proofs.Sums.{sum_in_reads}
@@ -95,35 +93,25 @@ picture_reads k = reshaped_reads (taken_reads k picture_token) Picture_is (λ by
 abbrev pub Pictures_are : ℕ → List (List ℕ) → Shape
 Pictures_are n ps = provided (length ps ≡ n) (each_in_turn Picture_is ps)
 
+-- a picture, and so many after it
+abbrev One_and_more : ℕ → List (List ℕ) → Shape
+One_and_more n ps ts rest = (p : List ℕ) × (Picture_is p ▷ Made (λ qs. p ∷ qs) (Pictures_are n) ps) ts rest
+
+none_from : (ps : List (List ℕ)) (ts rest : List Token) → Pictures_are 0 ps ts rest → provided ([] ≡ ps) nothing ts rest
+none_from [] ts rest s = (refl, s.1)
+none_from (p ∷ ps) ts rest (counts, s) = absurd (omega arith)
+
+more_to : (n : ℕ) (ps : List (List ℕ)) (ts rest : List Token) → One_and_more n ps ts rest → Pictures_are (suc n) ps ts rest
+more_to n ps ts rest (p, (m, one, (qs, is, (counts, more)))) = subst (λ ps. Pictures_are (suc n) ps ts rest) is (ap suc counts, (m, one, more))
+
+more_from : (n : ℕ) (ps : List (List ℕ)) (ts rest : List Token) → Pictures_are (suc n) ps ts rest → One_and_more n ps ts rest
+more_from n [] ts rest (counts, s) = absurd (omega arith)
+more_from n (p ∷ ps) ts rest (counts, (m, one, more)) = (p, (m, one, (ps, refl, (omega arith, more))))
+
 pub pictures_reads : (k n : ℕ) → Reads k (pictures_at n) (pictures_at n) (Pictures_are n) continues_never
 unfolding pictures_at
-pictures_reads k n = record { sound = sound n; complete = λ ts ps rest s stop. complete n ps ts rest s.0 s.1; shorter = λ ts ps rest s. shorter ps ts rest s.1; under = λ ts. upto_same _; opening = opening n }
-  where
-    sound : (n : ℕ) (ts : List Token) (ps : List (List ℕ)) (rest : List Token) → pictures_at n ts ≡ Ok (ps, rest) → Pictures_are n ps ts rest
-    sound zero ts ps rest e = carry (λ (ps : List (List ℕ)) (r : List Token). Pictures_are 0 ps ts r) [] ps ts rest e (refl, refl)
-    sound (suc n) ts ps rest e =
-        let p = bind_ok (taken picture_token ts) _ _ e in
-        let qs = bind_ok (pictures_at n p.0.1) _ _ p.2 in
-        let s = sound n p.0.1 qs.0.0 qs.0.1 qs.1 in
-        carry (λ (ps : List (List ℕ)) (r : List Token). Pictures_are (suc n) ps ts r) (p.0.0 ∷ qs.0.0) ps qs.0.1 rest qs.2
-        (ap suc s.0, (p.0.1, (picture_reads k).sound ts p.0.0 p.0.1 p.1, s.1))
-
-    complete : (n : ℕ) (ps : List (List ℕ)) (ts rest : List Token) → length ps ≡ n → each_in_turn Picture_is ps ts rest → pictures_at n ts ≡ Ok (ps, rest)
-    complete zero [] ts rest counts s = ap (λ (r : List Token). Ok ([], r)) s
-    complete zero (p ∷ ps) ts rest counts s = absurd (omega arith)
-    complete (suc n) [] ts rest counts s = absurd (omega arith)
-    complete (suc n) (p ∷ ps) ts rest counts (m, one, more) =
-        let first : taken picture_token ts ≡ Ok (p, m) = (picture_reads k).complete ts p m one refl in
-        let others : pictures_at n m ≡ Ok (ps, rest) = complete n ps m rest (omega arith) more in
-        rw (first, others) refl
-
-    shorter : (ps : List (List ℕ)) (ts rest : List Token) → each_in_turn Picture_is ps ts rest → length rest ≤ length ts
-    shorter [] ts rest s = omega (arith, ap length s)
-    shorter (p ∷ ps) ts rest (m, one, more) = omega (arith, token_less (kinds.Picture p) ts m one, shorter ps m rest more)
-
-    opening : (n : ℕ) (ts : List Token) → Bounded k (openers ts) (pictures_at n ts)
-    opening zero ts = omega arith
-    opening (suc n) ts = bounded_bind k (openers ts) (taken picture_token ts) _ ((picture_reads k).opening ts) (λ p. bounded_bind k (openers p.1) (pictures_at n p.1) _ (opening n p.1) (λ ps. omega arith))
+pictures_reads k zero = reshaped_reads (done_reads k []) (Pictures_are 0) (λ ps ts rest s. subst (λ ps. Pictures_are 0 ps ts rest) s.0 (refl, s.1)) none_from
+pictures_reads k (suc n) = reshaped_reads (bind_reads (picture_reads k) (λ p. made_reads (pictures_reads k n) (λ qs. p ∷ qs)) (λ p ps ts rest s stop. refl)) (Pictures_are (suc n)) (more_to n) (more_from n)
 
 -- ---- words that may follow a statement and continue it
 
