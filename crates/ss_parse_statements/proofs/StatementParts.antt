@@ -1,5 +1,5 @@
 -- Parts of statements: what is read is spelled, and what is spelled is read.
-use Rattle.std.proofs.Common.{◌≡◌, ℕ, zero, suc, ◌<◌, ◌≤◌, ℤ, pos, negsuc, Bool, true, false, ◌||◌, List, [], ◌∷◌, length, Some, refl, ap, subst, ◌∙◌, arith, inl, inr}
+use Rattle.std.proofs.Common.{◌≡◌, ℕ, zero, suc, ◌<◌, ◌≤◌, pos, Bool, true, false, ◌||◌, List, [], ◌∷◌, length, Some, refl, ap, subst, ◌∙◌, arith, inl, inr}
 use Rattle.ss_base.specs.declared.line.Line.{Line}
 use Rattle.ss_lex.specs.declared.word.Word.{Word}
 use Rattle.ss_lex.specs.declared.word.Word.TheVariants as words
@@ -25,7 +25,7 @@ use Rattle.ss_parse_expressions.proofs.Sums.{sum_in_reads}
 use Rattle.ss_parse_expressions.proofs.PlaceLaws.{target_in_reads, targets_in_reads, sums_in_reads, continues_place, continues_targets, continues_sums}
 use Rattle.ss_parse_expressions.proofs.ConditionLaws.{the_set_reads, stops_place}
 use Rattle.ss_parse_statements.specs.SpelledParts.{Trigger, Picture_is, CalledName, Position_is, When_is}
-use Rattle.ss_parse_statements.specs.ReadSimple.{called, positive, positive_of, items_in, trigger, picture_token, pictures_at, given_in, yielding_in, position_in, when_in, due_in, set_reader, print_head}
+use Rattle.ss_parse_statements.specs.ReadSimple.{called, positive_of, items_in, trigger, picture_token, pictures_at, given_in, yielding_in, position_in, when_in, due_in, set_reader, print_head}
 
 -- ---- PRINT
 
@@ -47,24 +47,16 @@ trigger_reads k =
 abbrev pub Positive_is : ℕ → Shape
 Positive_is n = provided (0 < n) (Token_is (kinds.Number (pos n)))
 
-positive_to : (n : ℕ) (ts rest : List Token) → In_table positive_of n ts rest → Positive_is n ts rest
-positive_to n ts rest (k, takes, at) = go k takes at
-  where
-    number : (z : ℤ) → positive z ≡ Some n → Token_is (kinds.Number z) ts rest → Positive_is n ts rest
-    number (pos zero) e at = absurd cc
-    number (pos (suc v)) e at = let same : suc v ≡ n = cc in subst (λ n. Positive_is n ts rest) same (omega arith, at)
-    number (negsuc v) e at = absurd cc
-
-    go : (k : TokenKind) → positive_of k ≡ Some n → Token_is k ts rest → Positive_is n ts rest
-    go (kinds.Number z) e at = number z e at
-    go _ e at = absurd cc
+positive_to : (k : TokenKind) (n : ℕ) (ts rest : List Token) → positive_of k ≡ Some n → Token_is k ts rest → Positive_is n ts rest
+positive_to (kinds.Number (pos (suc v))) n ts rest e at = let same : suc v ≡ n = cc in subst (λ n. Positive_is n ts rest) same (omega arith, at)
+positive_to _ n ts rest e at = absurd cc
 
 positive_from : (n : ℕ) (ts rest : List Token) → Positive_is n ts rest → In_table positive_of n ts rest
 positive_from zero ts rest (some, at) = absurd (omega arith)
 positive_from (suc n) ts rest (some, at) = (kinds.Number (pos (suc n)), refl, at)
 
 pub positive_reads : (k : ℕ) → Reads k (taken positive_of) (taken positive_of) Positive_is continues_never
-positive_reads k = reshaped_reads (taken_reads k positive_of) Positive_is positive_to positive_from
+positive_reads k = reshaped_reads (taken_reads k positive_of) Positive_is (λ n ts rest s. positive_to s.0 n ts rest s.1 s.2) positive_from
 
 -- the number of pictures and the items
 abbrev pub Print_head_is : ℕ → ℕ × List ExpressionTree → Shape
