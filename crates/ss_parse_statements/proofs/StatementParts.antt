@@ -7,7 +7,7 @@ use Rattle.ss_lex.specs.declared.token.Span.{Span}
 use Rattle.ss_lex.specs.declared.token.TokenKind.{TokenKind}
 use Rattle.ss_lex.specs.declared.token.TokenKind.TheVariants as kinds
 use Rattle.ss_lex.specs.declared.token.Token.{Token}
-use Rattle.ss_tree.specs.Tree.{ExpressionTree, NamedTree, PositionTree, by_discipline, at_first, at_last, before, after, WhenTree, at_time, in_units, now}
+use Rattle.ss_tree.specs.Tree.{ExpressionTree, PositionTree, by_discipline, at_first, at_last, before, after, WhenTree, at_time, in_units, now}
 use Rattle.ss_parse_expressions.specs.declared.classes.WordClass.TheVariants as classes
 use Rattle.ss_parse_expressions.specs.Shapes.{Shape, ◌▷◌, nothing, either_shape, provided, Token_is, Word_is, each_in_turn}
 use Rattle.ss_parse_expressions.specs.Words.{has_word, One_of, the, perhaps_listed}
@@ -194,9 +194,6 @@ module _ (n m : ℕ) (le : n ≤ m) where
   called_target_reads = maybe_reads (item_marked (word words.Called) target_reads)
 
   -- ---- where a member is filed: always before IN
-
-  abbrev pub Position_then : PositionTree × NamedTree → Shape
-  Position_then p = Position_is n p.0 ▷ Word_is words.In ▷ (the ▷ Reference_is n p.1)
 
   word_item : {A : Type 0} (w : Word) (f : Unit {0} → A) → Item (suc n) (begins (word w)) (apply f (expect (word w))) (apply f (expect (word w))) (Made f (λ u. Word_is w)) continues_never
   word_item w f = item_of (begins (word w)) (made_reads (expect_reads (suc n) (word w)) f) (λ ts x rest s. mark_begins (word w) ts rest s.2) (λ ts x rest s. omega (arith, token_less (kinds.Word w) ts rest s.2))
