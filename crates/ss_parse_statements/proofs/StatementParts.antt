@@ -3,7 +3,6 @@ use Rattle.std.proofs.Common.{◌≡◌, ℕ, zero, suc, ◌<◌, ◌≤◌, pos
 use Rattle.ss_base.specs.declared.line.Line.{Line}
 use Rattle.ss_lex.specs.declared.word.Word.{Word}
 use Rattle.ss_lex.specs.declared.word.Word.TheVariants as words
-use Rattle.ss_lex.specs.declared.token.Span.{Span}
 use Rattle.ss_lex.specs.declared.token.TokenKind.{TokenKind}
 use Rattle.ss_lex.specs.declared.token.TokenKind.TheVariants as kinds
 use Rattle.ss_lex.specs.declared.token.Token.{Token}
@@ -17,7 +16,7 @@ use Rattle.ss_parse_expressions.specs.ReadWords.{begins_class, begins_among, beg
 use Rattle.ss_parse_expressions.specs.ReadExpressions.{begins_sum, sum_in}
 use Rattle.ss_parse_expressions.specs.ReadPlaces.{target_in, begins_target}
 use Rattle.ss_parse_expressions.proofs.Tools.{or_false}
-use Rattle.ss_parse_expressions.proofs.Marks.{token, mark_begins, token_less, In_table}
+use Rattle.ss_parse_expressions.proofs.Marks.{mark_begins, token_less, In_table}
 use Rattle.ss_parse_expressions.proofs.ReaderLaws.{Reads, Item, continues_never, Made, item_of, item_marked, expect_reads, taken_reads, seq_reads, marked_reads, closed_reads, bind_reads, made_reads, following_reads, reshaped_reads, before_mark_reads, maybe_reads, done_reads, either_reads}
 use Rattle.ss_parse_expressions.proofs.WordLaws.{expect_class_reads, one_begins, one_less, perhaps_listed_reads, item_made, no_word, no_class}
 use Rattle.ss_parse_expressions.proofs.Beginnings.{In, continues_sum}
@@ -309,17 +308,14 @@ module _ (n m : ℕ) (le : n ≤ m) where
   pub due_reads : Reads (suc n) (due_in (suc n)) (due_in (suc m)) Due_is continues_sum
   due_reads = seq_reads given_reads when_reads (λ x ts rest s stop. when_stops x ts rest s)
 
-  given_word_stops : (c : List Token → Bool) → ((span : Span) (line : Line) (rest : List Token) → c (token (kinds.Word words.Given) span line ∷ rest) ≡ false) → ((span : Span) (line : Line) (rest : List Token) → c (token (kinds.Word words.Giving) span line ∷ rest) ≡ false) → (ts a : List Token) → One_of classes.Given ts a → c ts ≡ false
-  given_word_stops c on_given on_giving ts a (w, held, at) = go w held at
-    where
-      go : (w : Word) → has_word classes.Given w ≡ true → Word_is w ts a → c ts ≡ false
-      go words.Given e (span, line, f) = ap c f ∙ on_given span line a
-      go words.Giving e (span, line, f) = ap c f ∙ on_giving span line a
-      go _ e at = absurd cc
+  given_word_stops : (w : Word) (ts a : List Token) → has_word classes.Given w ≡ true → Word_is w ts a → (begins (word words.Called) ts || continues_sum ts) ≡ false
+  given_word_stops words.Given ts a e (span, line, f) = rw f refl
+  given_word_stops words.Giving ts a e (span, line, f) = rw f refl
+  given_word_stops _ ts a e at = absurd cc
 
   -- what is given, and when, doesn't continue a CALLED and its expression
   pub due_stops : (p : List ExpressionTree × WhenTree) (ts rest : List Token) → Due_is p ts rest → (begins (word words.Called) ts || continues_sum ts) ≡ false
   due_stops ([], at_time x) ts rest (a, e, (b, (span, line, f), s)) = rw (e, f) refl
   due_stops ([], in_units x) ts rest (a, e, (b, (span, line, f), s)) = rw (e, f) refl
   due_stops ([], now) ts rest (a, e, (span, line, f)) = rw (e, f) refl
-  due_stops (x ∷ xs, w) ts rest (a, (b, given, s), t) = given_word_stops (λ ts. begins (word words.Called) ts || continues_sum ts) (λ span line rest. refl) (λ span line rest. refl) ts b given
+  due_stops (x ∷ xs, w) ts rest (a, (b, (v, held, at), s), t) = given_word_stops v ts b held at
