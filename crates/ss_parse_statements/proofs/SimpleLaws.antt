@@ -1,5 +1,5 @@
 -- Simple statements: what is read is spelled, and what is spelled is read.
-use Rattle.std.proofs.Common.{◌≡◌, ℕ, suc, ◌<◌, ◌≤◌, pos, Bool, true, false, ◌||◌, List, [], ◌∷◌, length, Option, Some, refl, sym, ap, subst, ◌∙◌, arith, inl, inr}
+use Rattle.std.proofs.Common.{◌≡◌, ℕ, suc, ◌<◌, ◌≤◌, pos, true, false, ◌||◌, List, [], ◌∷◌, length, Option, Some, refl, sym, ap, subst, ◌∙◌, arith, inl, inr}
 use Rattle.ss_base.specs.declared.line.Line.{Line}
 use Rattle.ss_lex.specs.declared.word.Word.{Word}
 use Rattle.ss_lex.specs.declared.word.Word.TheVariants as words
@@ -10,7 +10,7 @@ use Rattle.ss_lex.specs.declared.token.Token.{Token}
 use Rattle.ss_base.specs.declared.words.GuardKind.{GuardKind}
 use Rattle.ss_base.specs.declared.words.GuardKind.TheVariants as guards
 use Rattle.ss_base.specs.declared.words.End.{End}
-use Rattle.ss_tree.specs.Tree.{ExpressionTree, NamedTree, PositionTree, WhenTree, LoopHeadTree, for_head, guarded, StatementTree, let_statement, add_statement, subtract_statement, call_statement, return_statement, stop_statement, read_statement, start_simulation, if_statement, loop_statement, find_statement, find_if_statement, create_statement, create_every, destroy_statement, file_statement, remove_end, remove_statement, schedule_new, schedule_statement, cancel_statement, reset_statement, print_statement, skip_statement}
+use Rattle.ss_tree.specs.Tree.{ExpressionTree, NamedTree, PositionTree, WhenTree, LoopHeadTree, for_head, guarded, StatementTree, let_statement, add_statement, subtract_statement, call_statement, return_statement, stop_statement, read_statement, start_simulation, loop_statement, create_statement, create_every, destroy_statement, file_statement, remove_end, remove_statement, schedule_new, schedule_statement, cancel_statement, reset_statement, print_statement, skip_statement}
 use Rattle.ss_parse_expressions.specs.declared.classes.WordClass.TheVariants as classes
 use Rattle.ss_parse_expressions.specs.Shapes.{Shape, ◌▷◌, nothing, never, either_shape, optional, provided, Token_is, Word_is, Symbol_is, Name_is, Word_for, separated_list}
 use Rattle.ss_parse_expressions.specs.Words.{has_word, One_of, the, perhaps_listed}
@@ -33,14 +33,7 @@ use Rattle.ss_parse_statements.specs.ReadSimple.{equals, after_the, set_reader, 
 use Rattle.ss_parse_statements.specs.ReadStatements.{form_word, nested_word}
 use Rattle.ss_parse_statements.proofs.StatementParts.{continues_simple, ended, over_place, over_targets, over_given, over_yielding, over_called, over_called_place, sum_reads, target_reads, set_reads, given_reads, yielding_reads, called_sum_reads, called_target_reads, continues_position, position_reads, position_stops, Due_is, due_reads, due_stops, Print_head_is, print_head_reads, Pictures_are, pictures_reads}
 
--- ---- which statements have others in them
-
-abbrev pub is_nested : StatementTree → Bool
-is_nested (if_statement line condition then otherwise) = true
-is_nested (loop_statement line head body) = true
-is_nested (find_statement line head) = true
-is_nested (find_if_statement line head outcome then otherwise) = true
-is_nested _ = false
+-- ---- the first words of statements
 
 guard_nested : (k : GuardKind) → (nested_word (guard_word k) ≡ true) × (form_word (guard_word k) ≡ true)
 guard_nested guards.While = (refl, refl)
@@ -50,11 +43,6 @@ pub head_nested : (h : LoopHeadTree) → (nested_word (loop_head_word h) ≡ tru
 head_nested (for_head head) = (refl, refl)
 head_nested (guarded []) = (refl, refl)
 head_nested (guarded (g ∷ gs)) = guard_nested g.kind
-
-pub nested_first : (x : StatementTree) → nested_word (opening_word x) ≡ is_nested x
-nested_first (if_statement line condition then otherwise) = refl
-nested_first (loop_statement line head body) = (head_nested head).0
-nested_first _ = refl
 
 pub form_first : (x : StatementTree) → form_word (opening_word x) ≡ true
 form_first (loop_statement line head body) = (head_nested head).1
@@ -242,7 +230,7 @@ module _ (n m : ℕ) (le : n ≤ m) where
   parts_to line words.Skip x ts rest (p, is, s) = subst (λ x. Form_is n line words.Skip x ts rest) is (refl, refl, s)
   parts_to line _ x ts rest s = absurd s
 
-  parts_of : (x : StatementTree) → is_nested x ≡ false → (ts rest : List Token) → Statement_rest x n ts rest → Parts (line_of_first_word x) (opening_word x) x ts rest
+  parts_of : (x : StatementTree) → nested_word (opening_word x) ≡ false → (ts rest : List Token) → Statement_rest x n ts rest → Parts (line_of_first_word x) (opening_word x) x ts rest
   parts_of (let_statement l target value) u ts rest s = ((target, value), refl, s)
   parts_of (add_statement l amount target) u ts rest s = ((amount, target), refl, s)
   parts_of (subtract_statement l amount target) u ts rest s = ((amount, target), refl, s)
@@ -263,11 +251,12 @@ module _ (n m : ℕ) (le : n ≤ m) where
   parts_of (reset_statement l targets) u ts rest s = (targets, refl, s)
   parts_of (print_statement l items ps) u ts rest (some, (b, number, (c, lines, (d, with, (a, thus, pictures))))) = ((length ps, items), (a, (b, (some, number), (c, lines, (d, with, thus))), (ps, refl, (refl, pictures))))
   parts_of (skip_statement l count) u ts rest s = (count, refl, s)
+  parts_of (loop_statement l head body) u ts rest s = absurd (let nested = (head_nested head).0 in cc)
   parts_of _ u ts rest s = absurd cc
 
   parts_from : (line : Line) (w : Word) → nested_word w ≡ false → (x : StatementTree) (ts rest : List Token) → Form_is n line w x ts rest → Parts line w x ts rest
   parts_from line w simple x ts rest s =
-      let parts : Parts (line_of_first_word x) (opening_word x) x ts rest = parts_of x (sym (nested_first x) ∙ ap nested_word s.1 ∙ simple) ts rest s.2 in
+      let parts : Parts (line_of_first_word x) (opening_word x) x ts rest = parts_of x (ap nested_word s.1 ∙ simple) ts rest s.2 in
       subst (λ (l : Line). Parts l w x ts rest) s.0 (subst (λ (v : Word). Parts (line_of_first_word x) v x ts rest) s.1 parts)
 
   let_reads : (line : Line) → Reads (suc n) (let_at line (suc n)) (let_at line (suc m)) (Parts line words.Let) continues_simple
