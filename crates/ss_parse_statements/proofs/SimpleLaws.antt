@@ -114,11 +114,8 @@ module _ (n m : ℕ) (le : n ≤ m) where
   abbrev File_parts : ExpressionTree × (PositionTree × NamedTree) → Shape
   File_parts p = the ▷ Sum_is n p.0 ▷ Position_is n p.1.0 ▷ Word_is words.In ▷ the ▷ Reference_is n p.1.1
 
-  in_set_reads : Reads (suc n) (after_dropped (expect (word words.In)) (set_reader (suc n))) (after_dropped (expect (word words.In)) (set_reader (suc m))) (λ set. Word_is words.In ▷ the ▷ Reference_is n set) continues_place
-  in_set_reads = marked_reads (word words.In) (set_reads n m le)
-
-  from_set_reads : Reads (suc n) (after_dropped (expect (word words.From)) (set_reader (suc n))) (after_dropped (expect (word words.From)) (set_reader (suc m))) (λ set. Word_is words.From ▷ the ▷ Reference_is n set) continues_place
-  from_set_reads = marked_reads (word words.From) (set_reads n m le)
+  set_after : (w : Word) → Reads (suc n) (after_dropped (expect (word w)) (set_reader (suc n))) (after_dropped (expect (word w)) (set_reader (suc m))) (λ set. Word_is w ▷ the ▷ Reference_is n set) continues_place
+  set_after w = marked_reads (word w) (set_reads n m le)
 
   abbrev End_parts : End × (NamedTree × NamedTree) → Shape
   End_parts p = Word_for end_of p.0 ▷ Target_is n p.1.0 ▷ Word_is words.From ▷ the ▷ Reference_is n p.1.1
@@ -130,14 +127,14 @@ module _ (n m : ℕ) (le : n ≤ m) where
       (λ ts x rest s. omega (arith, token_less (kinds.Word s.2.1.0) ts s.2.0 s.2.1.2, law.shorter s.2.0 s.0.1 rest s.2.2))
     where
       law : Reads (suc n) (seq (target_in (suc n)) (after_dropped (expect (word words.From)) (set_reader (suc n)))) (seq (target_in (suc m)) (after_dropped (expect (word words.From)) (set_reader (suc m)))) (λ (p : NamedTree × NamedTree). Target_is n p.0 ▷ Word_is words.From ▷ the ▷ Reference_is n p.1) continues_place
-      law = seq_reads (target_reads n m le) from_set_reads (λ p ts rest s stop. ap continues_place s.1.2)
+      law = seq_reads (target_reads n m le) (set_after words.From) (λ p ts rest s stop. ap continues_place s.1.2)
 
   abbrev This_parts : ExpressionTree × NamedTree → Shape
   This_parts p = Sum_is n p.0 ▷ Word_is words.From ▷ the ▷ Reference_is n p.1
 
   this_reads : (line : Line) → Reads (suc n) (remove_this_at line (suc n)) (remove_this_at line (suc m)) (Made (λ p. remove_statement line p.0 p.1) This_parts) continues_place
   unfolding remove_this_at
-  this_reads line = made_reads {S = This_parts} (seq_reads (sum_reads n m le) from_set_reads (λ p ts rest s stop. ap continues_sum s.1.2)) (λ p. remove_statement line p.0 p.1)
+  this_reads line = made_reads {S = This_parts} (seq_reads (sum_reads n m le) (set_after words.From) (λ p ts rest s stop. ap continues_sum s.1.2)) (λ p. remove_statement line p.0 p.1)
 
   abbrev Removed : Line → StatementTree → Shape
   Removed line x = either_shape (Made (λ p. remove_end line p.0 p.1.0 p.1.1) End_parts x) (Made (λ p. remove_statement line p.0 p.1) This_parts x)
@@ -284,7 +281,7 @@ module _ (n m : ℕ) (le : n ≤ m) where
   file_reads : (line : Line) → Reads (suc n) (file_at line (suc n)) (file_at line (suc m)) (Parts line words.File) continues_simple
   unfolding file_at
   file_reads line =
-      fewer_reads (made_reads {S = File_parts} (optional_reads (seq_reads (sum_reads n m le) (seq_reads (position_reads n m le) in_set_reads (λ set ts rest s stop. ap (continues_position n m le) s.1.2)) (λ p ts rest s stop. position_stops n m le p.0 ts s.0 s.1 (ap continues_sum s.2.1.2))) (word words.The) (λ x ts rest s. no_the_sum ts x.0 s.0 s.1)) (λ p. file_statement line p.0 p.1.0 p.1.1))
+      fewer_reads (made_reads {S = File_parts} (optional_reads (seq_reads (sum_reads n m le) (seq_reads (position_reads n m le) (set_after words.In) (λ set ts rest s stop. ap (continues_position n m le) s.1.2)) (λ p ts rest s stop. position_stops n m le p.0 ts s.0 s.1 (ap continues_sum s.2.1.2))) (word words.The) (λ x ts rest s. no_the_sum ts x.0 s.0 s.1)) (λ p. file_statement line p.0 p.1.0 p.1.1))
       continues_simple (λ ts stop. over_place ts (ended ts stop))
 
   reset_reads : (line : Line) → Reads (suc n) (reset_at line (suc n)) (reset_at line (suc m)) (Parts line words.Reset) continues_simple
