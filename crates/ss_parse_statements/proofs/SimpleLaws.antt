@@ -16,7 +16,7 @@ use Rattle.ss_parse_expressions.specs.Shapes.{Shape, ◌▷◌, nothing, never, 
 use Rattle.ss_parse_expressions.specs.Words.{has_word, One_of, the, perhaps_listed}
 use Rattle.ss_parse_expressions.specs.SpelledExpressions.{Sum_is, Target_is, Reference_is}
 use Rattle.ss_parse_expressions.specs.SpelledConditions.{guard_word, loop_head_word}
-use Rattle.ss_parse_expressions.specs.Reading.{word, is, is_some, begins, begins_by, expect, in_table, taken, name_in_token, seq, after_dropped}
+use Rattle.ss_parse_expressions.specs.Reading.{word, is, is_some, begins, begins_by, expect, in_table, taken, name_in_token, seq, after_dropped, apply}
 use Rattle.ss_parse_expressions.specs.ReadWords.{fail, begins_class}
 use Rattle.ss_parse_expressions.specs.ReadExpressions.{begins_value, begins_sum, sum_in}
 use Rattle.ss_parse_expressions.specs.ReadPlaces.{target_in}
@@ -262,16 +262,10 @@ module _ (n m : ℕ) (le : n ≤ m) where
       fewer_reads (made_reads (seq_reads (target_reads n m le) (marked_reads equals (sum_reads n m le)) (λ e ts rest s stop. ap continues_place s.1.2)) (λ p. let_statement line p.0 p.1))
       continues_simple (λ ts stop. (ended ts stop).no_sum)
 
-  add_reads : (line : Line) → Reads (suc n) (add_at line (suc n)) (add_at line (suc m)) (Parts line words.Add) continues_simple
-  unfolding add_at
-  add_reads line =
-      fewer_reads (made_reads (seq_reads (sum_reads n m le) (marked_reads (word words.To) (target_reads n m le)) (λ e ts rest s stop. ap continues_sum s.1.2)) (λ p. add_statement line p.0 p.1))
-      continues_simple (λ ts stop. over_place ts (ended ts stop))
-
-  subtract_reads : (line : Line) → Reads (suc n) (subtract_at line (suc n)) (subtract_at line (suc m)) (Parts line words.Subtract) continues_simple
-  unfolding subtract_at
-  subtract_reads line =
-      fewer_reads (made_reads (seq_reads (sum_reads n m le) (marked_reads (word words.From) (target_reads n m le)) (λ e ts rest s stop. ap continues_sum s.1.2)) (λ p. subtract_statement line p.0 p.1))
+  -- an amount, this word and a target
+  amount_reads : (w : Word) (make : ExpressionTree → NamedTree → StatementTree) → Reads (suc n) (apply (λ p. make p.0 p.1) (seq (sum_in (suc n)) (after_dropped (expect (word w)) (target_in (suc n))))) (apply (λ p. make p.0 p.1) (seq (sum_in (suc m)) (after_dropped (expect (word w)) (target_in (suc m))))) (Made (λ (p : ExpressionTree × NamedTree). make p.0 p.1) (λ p. Sum_is n p.0 ▷ Word_is w ▷ Target_is n p.1)) continues_simple
+  amount_reads w make =
+      fewer_reads (made_reads (seq_reads (sum_reads n m le) (marked_reads (word w) (target_reads n m le)) (λ e ts rest s stop. ap continues_sum s.1.2)) (λ p. make p.0 p.1))
       continues_simple (λ ts stop. over_place ts (ended ts stop))
 
   call_reads : (line : Line) → Reads (suc n) (call_at line (suc n)) (call_at line (suc m)) (Parts line words.Call) continues_simple
@@ -300,10 +294,10 @@ module _ (n m : ℕ) (le : n ≤ m) where
   none_reads = fewer_reads (fail_reads (suc n)) continues_simple (λ ts stop. refl)
 
   simple_reads : (line : Line) (w : Word) → Reads (suc n) (simple_at line (suc n) w) (simple_at line (suc m) w) (Parts line w) continues_simple
-  unfolding simple_at read_at start_at create_at destroy_at cancel_at remove_at schedule_at print_at
+  unfolding simple_at add_at subtract_at read_at start_at create_at destroy_at cancel_at remove_at schedule_at print_at
   simple_reads line words.Let = let_reads line
-  simple_reads line words.Add = add_reads line
-  simple_reads line words.Subtract = subtract_reads line
+  simple_reads line words.Add = amount_reads words.To (add_statement line)
+  simple_reads line words.Subtract = amount_reads words.From (subtract_statement line)
   simple_reads line words.Call = call_reads line
   simple_reads line words.Return = fewer_reads (done_reads (suc n) (return_statement line)) continues_simple (λ ts stop. refl)
   simple_reads line words.Stop = fewer_reads (done_reads (suc n) (stop_statement line)) continues_simple (λ ts stop. refl)
