@@ -67,12 +67,7 @@ form_begins n x ts rest (begins_at, (m, (span, line, e), s)) = ap begins_form e 
 pub form_no_comma : (ts : List Token) → begins_form ts ≡ true → begins comma ts ≡ false
 form_no_comma = starts_otherwise comma begins_form (λ span line ts. refl)
 
--- what is false of a comma and of a word that begins a statement is false of a statement
-pub false_at_statement : (c : List Token → Bool) → ((span : Span) (line : Line) (ts : List Token) → c (token (kind_of_mark comma) span line ∷ ts) ≡ false) → ((w : Word) (span : Span) (line : Line) (ts : List Token) → form_word w ≡ true → c (token (kinds.Word w) span line ∷ ts) ≡ false) → (n : ℕ) (x : StatementTree) (ts rest : List Token) → (noise ▷ Statement_from x n) ts rest → c ts ≡ false
-false_at_statement c on_comma on_word n x ts rest (a, inr (span, line, e), s) = ap c e ∙ on_comma span line a
-false_at_statement c on_comma on_word n x ts rest (a, inl e, (begins_at, (m, (span, line, f), s))) = ap c (e ∙ f) ∙ on_word (opening_word x) span line m (form_first x)
-
--- what is false of such a word, with a comma before it or not, is false of a statement
+-- what is false of a word that begins a statement, with a comma before it or not, is false of a statement
 pub false_past_comma : (c : List Token → Bool) → ((span span' : Span) (line line' : Line) (w : Word) (ts : List Token) → form_word w ≡ true → c (token (kind_of_mark comma) span line ∷ token (kinds.Word w) span' line' ∷ ts) ≡ false) → ((w : Word) (span : Span) (line : Line) (ts : List Token) → form_word w ≡ true → c (token (kinds.Word w) span line ∷ ts) ≡ false) → (n : ℕ) (x : StatementTree) (ts rest : List Token) → (noise ▷ Statement_from x n) ts rest → c ts ≡ false
 false_past_comma c on_comma on_word n x ts rest (a, inr (span, line, e), (begins_at, (m, (span', line', f), s))) = ap c e ∙ ap (λ (r : List Token). c (token (kind_of_mark comma) span line ∷ r)) f ∙ on_comma span span' line line' (opening_word x) m (form_first x)
 false_past_comma c on_comma on_word n x ts rest (a, inl e, (begins_at, (m, (span, line, f), s))) = ap c (e ∙ f) ∙ on_word (opening_word x) span line m (form_first x)

@@ -29,7 +29,7 @@ use Rattle.ss_parse_statements.specs.SpelledStatements.{noisy, Find_words, openi
 use Rattle.ss_parse_statements.specs.ReadStatements.{form_word, begins_form, begins_statement, begins_find_if, statements_with, else_with, branches_with, do_with, governed_with, body_with, find_words, if_with, loop_with, find_if_with, found_with, find_with, for_with, guarded_with, nested_word, nested_at, statement_in}
 use Rattle.ss_parse_statements.proofs.StatementParts.{continues_simple}
 use Rattle.ss_parse_statements.proofs.SimpleLaws.{form_first, Form_is}
-use Rattle.ss_parse_statements.proofs.Beginnings.{both_false, word_no_other, form_begins, form_no_comma, false_at_statement, word_no_condition, continues_statement, head_no_if, statement_stops, head_guards, may_govern, governed_first, guard_same, no_phrase}
+use Rattle.ss_parse_statements.proofs.Beginnings.{both_false, word_no_other, form_begins, form_no_comma, false_past_comma, word_no_condition, continues_statement, head_no_if, statement_stops, head_guards, may_govern, governed_first, guard_same, no_phrase}
 
 -- ---- rows as lists
 
@@ -120,7 +120,7 @@ module _ (k j : ℕ) (le : k ≤ j) (inner : Reads (suc k) (statement_in (suc k)
 
   -- what is false of commas, words of statements, ELSE and ALWAYS is false of what follows a condition
   false_at_branches : (c : List Token → Bool) → ((span : Span) (line : Line) (ts : List Token) → c (token (kind_of_mark comma) span line ∷ ts) ≡ false) → ((w : Word) (span : Span) (line : Line) (ts : List Token) → form_word w ≡ true → c (token (kinds.Word w) span line ∷ ts) ≡ false) → ((span : Span) (line : Line) (ts : List Token) → c (token (kinds.Word words.Else) span line ∷ ts) ≡ false) → ((span : Span) (line : Line) (ts : List Token) → c (token (kinds.Word words.Always) span line ∷ ts) ≡ false) → (p : StatementRow × StatementRow) (ts rest : List Token) → Branches_are p ts rest → c ts ≡ false
-  false_at_branches c on_comma on_word on_else on_always (and_statement x row, e) ts rest (b, (a, (m, one, more), t), w) = false_at_statement c on_comma on_word k x ts m one
+  false_at_branches c on_comma on_word on_else on_always (and_statement x row, e) ts rest (b, (a, (m, one, more), t), w) = false_past_comma c (λ span span' line line' v r begins. on_comma span line _) on_word k x ts m one
   false_at_branches c on_comma on_word on_else on_always (no_statement, and_statement y row) ts rest (b, (a, e, (m, w, more)), v) = ap c e ∙ noisy_stops c (word words.Else) on_else (λ span span' line line' ts. on_comma span line _) a m w
   false_at_branches c on_comma on_word on_else on_always (no_statement, no_statement) ts rest (b, (a, e, inr w), v) = ap c e ∙ noisy_stops c (word words.Else) on_else (λ span span' line line' ts. on_comma span line _) a b w
   false_at_branches c on_comma on_word on_else on_always (no_statement, no_statement) ts rest (b, (a, e, inl f), v) = ap c (e ∙ f) ∙ noisy_stops c (word words.Always) on_always (λ span span' line line' ts. on_comma span line _) b rest v
