@@ -1,5 +1,5 @@
 -- What statements begin with, and what continues them.
-use Rattle.std.proofs.Common.{◌≡◌, ℕ, zero, suc, Bool, true, false, ◌||◌, List, [], ◌∷◌, refl, ap, ◌∙◌, inl, inr}
+use Rattle.std.proofs.Common.{◌≡◌, ℕ, zero, suc, Bool, true, false, ◌||◌, List, [], ◌∷◌, refl, sym, ap, ◌∙◌, inl, inr}
 use Rattle.ss_base.specs.declared.line.Line.{Line}
 use Rattle.ss_lex.specs.declared.word.Word.{Word}
 use Rattle.ss_lex.specs.declared.word.Word.TheVariants as words
@@ -97,16 +97,13 @@ comma_no_simple w span span' line line' ts e =
 
 -- ---- an IF that isn't that of a FIND
 
-pub head_no_if : (h : LoopHeadTree) → loop_head_word h ≡ words.If → ⊥
-head_no_if (guarded (g ∷ gs)) e = go g.kind e
-  where
-    go : (k : GuardKind) → guard_word k ≡ words.If → ⊥
-    go guards.While e = absurd cc
-    go guards.Until e = absurd cc
-head_no_if _ e = absurd cc
+guard_first : (k : GuardKind) → is_some (guard_of (guard_word k)) ≡ true
+guard_first guards.While = refl
+guard_first guards.Until = refl
 
-word_same : (w v : Word) → kinds.Word w ≡ kinds.Word v → w ≡ v
-word_same w v e = cc
+pub head_no_if : (h : LoopHeadTree) → loop_head_word h ≡ words.If → ⊥
+head_no_if (guarded (g ∷ gs)) e = absurd (let a : true ≡ false = sym (guard_first g.kind) ∙ ap (λ w. is_some (guard_of w)) e in cc)
+head_no_if _ e = absurd cc
 
 condition_no_outcome : (ts : List Token) → (begins_sum ts || begins (word words.Data) ts) ≡ true → begins_outcome ts ≡ false
 condition_no_outcome [] e = refl
@@ -132,7 +129,7 @@ statement_no_find_if n x ts rest (begins_at, (m, (span, line, e), s)) =
     elim (which (is (word words.If) (kinds.Word (opening_word x)))) [
       | inl there ↦
           let kind = is_true (word words.If) (kinds.Word (opening_word x)) there in
-          let is : opening_word x ≡ words.If = word_same (opening_word x) words.If kind in
+          let is : opening_word x ≡ words.If = cc in
           let no : begins_outcome m ≡ false = within_condition n x m rest is s in
           rw (e, there, no) refl
       | inr none ↦ rw (e, none) refl
@@ -150,10 +147,6 @@ statement_stops n x ts rest (a, c, s) =
     skipped (inr w) = mark_skips comma ts a w
 
 -- ---- statements that a loop may govern
-
-guard_first : (k : GuardKind) → is_some (guard_of (guard_word k)) ≡ true
-guard_first guards.While = refl
-guard_first guards.Until = refl
 
 pub head_guards : (h : LoopHeadTree) → is_some (guard_of (loop_head_word h)) ≡ false → (n : ℕ) (ts rest : List Token) → Loop_head_rest n h ts rest → Is_for_head h
 head_guards (for_head head) e n ts rest s = tt
@@ -176,8 +169,7 @@ governed_first n _ ts rest may s = refl
 pub guard_same : (a b : GuardKind) → guard_word a ≡ guard_word b → a ≡ b
 guard_same guards.While guards.While e = refl
 guard_same guards.Until guards.Until e = refl
-guard_same guards.While guards.Until e = absurd cc
-guard_same guards.Until guards.While e = absurd cc
+guard_same _ _ e = absurd cc
 
 -- a statement that a loop governs begins no phrase
 pub no_phrase : (w : Word) → form_word w ≡ true → is_some (guard_of w) ≡ false → is_some (phrase_of w) ≡ false
