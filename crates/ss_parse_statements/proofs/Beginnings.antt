@@ -1,5 +1,5 @@
 -- What statements begin with, and what continues them.
-use Rattle.std.proofs.Common.{◌≡◌, ℕ, zero, suc, Bool, true, false, ◌||◌, List, [], ◌∷◌, refl, sym, ap, ◌∙◌, inl, inr}
+use Rattle.std.proofs.Common.{◌≡◌, ℕ, zero, suc, Bool, true, false, ◌||◌, ◌&&◌, List, [], ◌∷◌, refl, sym, ap, subst, ◌∙◌, inl, inr}
 use Rattle.ss_base.specs.declared.line.Line.{Line}
 use Rattle.ss_lex.specs.declared.word.Word.{Word}
 use Rattle.ss_lex.specs.declared.word.Word.TheVariants as words
@@ -36,30 +36,17 @@ both_false a b e f = rw (e, f) refl
 
 -- ---- what statements begin with
 
+-- where b holds, the word begins no value, and continues nothing
+abbrev pub Apart : Word → Bool → Type 0
+Apart w b = ((b && begins_value (kinds.Word w)) ≡ false) × ((b && is (word words.And) (kinds.Word w)) ≡ false) × ((b && is (word words.Or) (kinds.Word w)) ≡ false) × ((b && statement_more w) ≡ false) × ((b && head_more w) ≡ false) × ((b && is (word words.Do) (kinds.Word w)) ≡ false) × ((b && is (word words.Find) (kinds.Word w)) ≡ false) × ((b && is (word words.Else) (kinds.Word w)) ≡ false)
+
+word_apart : (w : Word) → Apart w (form_word w)
+word_apart words.Let = (refl, refl, refl, refl, refl, refl, refl, refl)
+word_apart _ = (refl, refl, refl, refl, refl, refl, refl, refl)
+
 -- a word that begins a statement begins nothing else
-pub word_no_other : (w : Word) → form_word w ≡ true → (begins_value (kinds.Word w) ≡ false) × (is (word words.And) (kinds.Word w) ≡ false) × (is (word words.Or) (kinds.Word w) ≡ false) × (statement_more w ≡ false) × (head_more w ≡ false) × (is (word words.Do) (kinds.Word w) ≡ false) × (is (word words.Find) (kinds.Word w) ≡ false) × (is (word words.Else) (kinds.Word w) ≡ false)
-word_no_other words.Let e = (refl, refl, refl, refl, refl, refl, refl, refl)
-word_no_other words.Add e = (refl, refl, refl, refl, refl, refl, refl, refl)
-word_no_other words.Subtract e = (refl, refl, refl, refl, refl, refl, refl, refl)
-word_no_other words.Call e = (refl, refl, refl, refl, refl, refl, refl, refl)
-word_no_other words.Return e = (refl, refl, refl, refl, refl, refl, refl, refl)
-word_no_other words.Stop e = (refl, refl, refl, refl, refl, refl, refl, refl)
-word_no_other words.Read e = (refl, refl, refl, refl, refl, refl, refl, refl)
-word_no_other words.Start e = (refl, refl, refl, refl, refl, refl, refl, refl)
-word_no_other words.If e = (refl, refl, refl, refl, refl, refl, refl, refl)
-word_no_other words.For e = (refl, refl, refl, refl, refl, refl, refl, refl)
-word_no_other words.While e = (refl, refl, refl, refl, refl, refl, refl, refl)
-word_no_other words.Until e = (refl, refl, refl, refl, refl, refl, refl, refl)
-word_no_other words.Create e = (refl, refl, refl, refl, refl, refl, refl, refl)
-word_no_other words.Destroy e = (refl, refl, refl, refl, refl, refl, refl, refl)
-word_no_other words.File e = (refl, refl, refl, refl, refl, refl, refl, refl)
-word_no_other words.Remove e = (refl, refl, refl, refl, refl, refl, refl, refl)
-word_no_other words.Schedule e = (refl, refl, refl, refl, refl, refl, refl, refl)
-word_no_other words.Cancel e = (refl, refl, refl, refl, refl, refl, refl, refl)
-word_no_other words.Reset e = (refl, refl, refl, refl, refl, refl, refl, refl)
-word_no_other words.Print e = (refl, refl, refl, refl, refl, refl, refl, refl)
-word_no_other words.Skip e = (refl, refl, refl, refl, refl, refl, refl, refl)
-word_no_other _ e = absurd cc
+pub word_no_other : (w : Word) → form_word w ≡ true → Apart w true
+word_no_other w e = subst (Apart w) e (word_apart w)
 
 pub form_begins : (n : ℕ) (x : StatementTree) (ts rest : List Token) → Statement_from x n ts rest → begins_form ts ≡ true
 form_begins n x ts rest (begins_at, (m, (span, line, e), s)) = ap begins_form e ∙ form_first x
