@@ -133,17 +133,14 @@ module _ (k j : ℕ) (le : k ≤ j) (inner : Reads (suc k) (statement_in (suc k)
   abbrev If_parts : ConditionTree × (StatementRow × StatementRow) → Shape
   If_parts p = In_condition (suc k) p.0 ▷ Branches_are p.1
 
-  if_reads : (line : Line) → Reads (suc k) (if_with line (suc k) (statement_in (suc k))) (if_with line (suc j) (statement_in (suc j))) (Made (λ p. if_statement line p.0 p.1.0 p.1.1) If_parts) continues_never
-  unfolding if_with
-  if_reads line = made_reads (seq_reads (condition_in_reads (suc k) (suc j) (omega arith)) branches_reads (λ p ts rest s stop. branches_no_condition p ts rest s)) (λ p. if_statement line p.0 p.1.0 p.1.1)
-
-  if_to : (line : Line) (x : StatementTree) (ts rest : List Token) → Made (λ p. if_statement line p.0 p.1.0 p.1.1) If_parts x ts rest → Form_is (suc k) line words.If x ts rest
-  if_to line x ts rest (p, is, s) = subst (λ x. Form_is (suc k) line words.If x ts rest) is (refl, refl, s)
-
   if_from : (line : Line) (x : StatementTree) (ts rest : List Token) → Form_is (suc k) line words.If x ts rest → Made (λ p. if_statement line p.0 p.1.0 p.1.1) If_parts x ts rest
   if_from line (if_statement l c t e) ts rest (at, w, s) = ((c, (t, e)), ap (λ (l : Line). if_statement l c t e) (sym at), s)
   if_from line (loop_statement l head body) ts rest (at, w, s) = absurd (head_no_if head w)
   if_from line _ ts rest (at, w, s) = absurd cc
+
+  if_reads : (line : Line) → Reads (suc k) (if_with line (suc k) (statement_in (suc k))) (if_with line (suc j) (statement_in (suc j))) (Form_is (suc k) line words.If) continues_never
+  unfolding if_with
+  if_reads line = apply_reads (seq_reads (condition_in_reads (suc k) (suc j) (omega arith)) branches_reads (λ p ts rest s stop. branches_no_condition p ts rest s)) (λ p. if_statement line p.0 p.1.0 p.1.1) (Form_is (suc k) line words.If) (λ p ts rest s. (refl, refl, s)) (if_from line)
 
   -- ---- what a loop repeats
 
@@ -345,7 +342,7 @@ module _ (k j : ℕ) (le : k ≤ j) (inner : Reads (suc k) (statement_in (suc k)
   -- ---- by the first word
 
   pub nested_law : (line : Line) (w : Word) → nested_word w ≡ true → Reads (suc k) (nested_at line (suc k) (statement_in (suc k)) w) (nested_at line (suc j) (statement_in (suc j)) w) (Form_is (suc k) line w) continues_statement
-  nested_law line words.If e = fewer_reads (reshaped_reads (if_reads line) (Form_is (suc k) line words.If) (if_to line) (if_from line)) continues_statement (λ ts stop. refl)
+  nested_law line words.If e = fewer_reads (if_reads line) continues_statement (λ ts stop. refl)
   nested_law line words.For e = reshaped_reads (for_law line) (Form_is (suc k) line words.For) (for_to line) (for_from line)
   nested_law line words.While e = guarded_law guards.While line
   nested_law line words.Until e = guarded_law guards.Until line
