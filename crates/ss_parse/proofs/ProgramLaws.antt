@@ -10,7 +10,7 @@ use Rattle.ss_parse_expressions.specs.Shapes.{Shape, ◌▷◌, nothing, optiona
 use Rattle.ss_parse_expressions.specs.Words.{One_of, perhaps_listed}
 use Rattle.ss_parse_expressions.specs.Reading.{word, is, begins, expect, after_dropped, maybe_list, rows, begins_more}
 use Rattle.ss_parse_expressions.specs.ReadWords.{fail, begins_class, begins_among, begins_name, names}
-use Rattle.ss_parse_expressions.proofs.Marks.{token, mark_begins, token_less}
+use Rattle.ss_parse_expressions.proofs.Marks.{token, mark_begins, token_less, starts_otherwise}
 use Rattle.ss_parse_expressions.proofs.ReaderLaws.{Reads, Item, continues_never, Made, made_reads, reshaped_reads, seq_reads, marked_reads, closed_reads, before_mark_reads, optional_reads, apply_reads, fewer_reads, lined_reads, item_of, item_marked, flag_reads, expect_reads}
 use Rattle.ss_parse_expressions.proofs.Rows.{rows_reads, Loop, loop_of}
 use Rattle.ss_parse.specs.SpelledPreambles.{Variables_are}
@@ -214,17 +214,11 @@ module _ (n m : ℕ) (le : n ≤ m) where
   sections_reads : Reads (suc n) (rows begins_section (section_in (suc n))) (rows begins_section (section_in (suc m))) (each_in_turn (Section_is n)) continues_program
   sections_reads = fewer_reads (rows_reads section_item (λ ts x rest s. refl)) continues_program (λ ts stop. let none = (or_false (begins (word words.Preamble) ts) (begins_section ts) stop).1 in rw none refl)
 
-  section_no_preamble : (x : SectionTree) (ts rest : List Token) → Section_is n x ts rest → (begins (word words.Preamble) ts || continues_never ts) ≡ false
-  section_no_preamble x ts rest (at, (m, (span, line, e), s)) = go x.kind e
-    where
-      go : (kind : SectionKindTree) → ts ≡ token (kinds.Word (section_word kind)) span line ∷ m → (begins (word words.Preamble) ts || continues_never ts) ≡ false
-      go main e = rw e refl
-      go (routine name given yielding) e = rw e refl
-      go (event name given saving) e = rw e refl
-
   sections_stop : (xs : List SectionTree) (ts rest : List Token) → each_in_turn (Section_is n) xs ts rest → continues_program rest ≡ false → (begins (word words.Preamble) ts || continues_never ts) ≡ false
   sections_stop [] ts rest e stop = let none = (or_false (begins (word words.Preamble) rest) (begins_section rest) stop).0 in rw (e, none) refl
-  sections_stop (x ∷ xs) ts rest (a, one, more) stop = section_no_preamble x ts a one
+  sections_stop (x ∷ xs) ts rest (a, one, more) stop =
+      let none = starts_otherwise (word words.Preamble) begins_section (λ span line ts. refl) ts (section_item.begins ts x a one) in
+      rw none refl
 
   pub program_reads : Reads (suc n) (program_in (suc n)) (program_in (suc m)) (Program_is n) continues_program
   unfolding program_in
