@@ -26,8 +26,7 @@ use Rattle.ss_parse_statements.proofs.Levels.{In_statement, all_statements_reads
 
 section_known : (kind : SectionKindTree) → section_words (section_word kind) ≡ true
 section_known main = refl
-section_known (routine name given yielding) = refl
-section_known (event name given saves) = refl
+section_known _ = refl
 
 -- words that continue the header of a section
 abbrev kind_more : Word → Bool
@@ -138,16 +137,13 @@ word_no_define words.Yielding e = absurd cc
 word_no_define words.Saving e = absurd cc
 word_no_define _ e = (refl, refl, refl)
 
+false_at_any_statement : (n : ℕ) (c : List Token → Bool) → ((span span' : Span) (line line' : Line) (w : Word) (ts : List Token) → form_word w ≡ true → c (token (kinds.Symbol Comma) span line ∷ token (kinds.Word w) span' line' ∷ ts) ≡ false) → ((w : Word) (span : Span) (line : Line) (ts : List Token) → form_word w ≡ true → c (token (kinds.Word w) span line ∷ ts) ≡ false) → (x : StatementTree) (ts rest : List Token) → (noise ▷ In_statement n x) ts rest → c ts ≡ false
+false_at_any_statement zero c on_comma on_word x ts rest (a, m, s) = absurd s
+false_at_any_statement (suc l) c on_comma on_word x ts rest s = false_past_comma c on_comma on_word l x ts rest s
+
 module _ (n : ℕ) where
   abbrev Room_statement : StatementTree → Shape
   Room_statement x = noise ▷ In_statement n x
-
-  false_at_any_statement : (c : List Token → Bool) → ((span span' : Span) (line line' : Line) (w : Word) (ts : List Token) → form_word w ≡ true → c (token (kinds.Symbol Comma) span line ∷ token (kinds.Word w) span' line' ∷ ts) ≡ false) → ((w : Word) (span : Span) (line : Line) (ts : List Token) → form_word w ≡ true → c (token (kinds.Word w) span line ∷ ts) ≡ false) → (x : StatementTree) (ts rest : List Token) → Room_statement x ts rest → c ts ≡ false
-  false_at_any_statement = go n
-    where
-      go : (n : ℕ) (c : List Token → Bool) → ((span span' : Span) (line line' : Line) (w : Word) (ts : List Token) → form_word w ≡ true → c (token (kinds.Symbol Comma) span line ∷ token (kinds.Word w) span' line' ∷ ts) ≡ false) → ((w : Word) (span : Span) (line : Line) (ts : List Token) → form_word w ≡ true → c (token (kinds.Word w) span line ∷ ts) ≡ false) → (x : StatementTree) (ts rest : List Token) → (noise ▷ In_statement n x) ts rest → c ts ≡ false
-      go zero c on_comma on_word x ts rest (a, m, s) = absurd s
-      go (suc l) c on_comma on_word x ts rest s = false_past_comma c on_comma on_word l x ts rest s
 
   -- the statements of a section, and END
   abbrev Statements_end : List StatementTree → Shape
@@ -155,7 +151,7 @@ module _ (n : ℕ) where
 
   false_at_end : (c : List Token → Bool) → ((span span' : Span) (line line' : Line) (w : Word) (ts : List Token) → form_word w ≡ true → c (token (kinds.Symbol Comma) span line ∷ token (kinds.Word w) span' line' ∷ ts) ≡ false) → ((w : Word) (span : Span) (line : Line) (ts : List Token) → form_word w ≡ true → c (token (kinds.Word w) span line ∷ ts) ≡ false) → ((span : Span) (line : Line) (ts : List Token) → c (token (kinds.Word words.End) span line ∷ ts) ≡ false) → (xs : List StatementTree) (ts rest : List Token) → Statements_end xs ts rest → c ts ≡ false
   false_at_end c on_comma on_word on_end [] ts rest (a, e, (span, line, f)) = ap c (e ∙ f) ∙ on_end span line rest
-  false_at_end c on_comma on_word on_end (x ∷ xs) ts rest (a, (b, one, more), s) = false_at_any_statement c on_comma on_word x ts b one
+  false_at_end c on_comma on_word on_end (x ∷ xs) ts rest (a, (b, one, more), s) = false_at_any_statement n c on_comma on_word x ts b one
 
   no_define : (xs : List StatementTree) (ts rest : List Token) → Statements_end xs ts rest → begins (word words.Define) ts ≡ false
   no_define xs ts rest s = false_at_end (begins (word words.Define)) (λ span span' line line' w r e. refl) (λ w span line r e. (word_no_define w e).0) (λ span line ts. refl) xs ts rest s
