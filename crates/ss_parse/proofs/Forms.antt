@@ -1,6 +1,7 @@
 -- Statements of a preamble after their first word: what is read is spelled, and what is spelled is read.
 use Rattle.std.proofs.Common.{◌≡◌, ℕ, true, false, ◌||◌, List, Option, Some, None, refl, ap, subst, ◌∙◌, arith, inl, inr}
 use Rattle.ss_parse.proofs.Common.{begins_class, begins_item, begins_name, ClassKind, either_reads, fail_reads, has_word, Item_is, items_reads, Line, mode_of_word, ModeWord, name_reads, NamedKey, NamedStatistic, names_reads, noisy, noisy_mark_reads, optional_class_reads, perhaps_listed, perhaps_listed_reads, Token, Weighting, Word, word_in_reads}
+use Rattle.std.proofs.lemmas.Option.{same_Some}
 use Rattle.ss_lex.specs.declared.word.Word.TheVariants as words
 use Rattle.ss_lex.specs.declared.token.TokenKind.TheVariants as kinds
 use Rattle.ss_base.specs.declared.words.Weighting.TheVariants as weightings
@@ -27,9 +28,6 @@ mode_no_article words.Integer mode e = refl
 mode_no_article words.Alpha mode e = refl
 mode_no_article words.Real mode e = refl
 mode_no_article _ mode e = absurd cc
-
-some_same : (a b : ClassKind) → Some a ≡ Some b → a ≡ b
-some_same a b e = cc
 
 -- a statement of this line and this first word, in a group of this kind, after the first word
 abbrev pub Pre_is : Option ClassKind → Line → Word → PreambleTree → Shape
@@ -91,7 +89,7 @@ parts_of group (permanent_entities l) ts rest s = (tt, refl, s)
 parts_of group (temporary_entities l) ts rest s = (tt, refl, s)
 parts_of group (event_notices l included) ts rest s = (included, refl, s)
 parts_of None (every l kind class cs) ts rest s = let no = s.0 in absurd cc
-parts_of (Some kind) (every l kind' class cs) ts rest (is, s) = ((class, cs), ap (λ (c : ClassKind). every l c class cs) (some_same kind kind' is), s)
+parts_of (Some kind) (every l kind' class cs) ts rest (is, s) = ((class, cs), ap (λ (c : ClassKind). every l c class cs) (same_Some kind kind' is), s)
 parts_of group (normally l mode) ts rest s = (mode, refl, s)
 parts_of group (system_owns l sets) ts rest s = (sets, refl, s)
 parts_of group (define_variables l ns mode) ts rest (b, s, (a, v, (c, art, t))) = (ns, (a, (b, s, v), (c, art, inl (mode, refl, t))))
