@@ -2,12 +2,12 @@
 
 ghost use Rattle.std.specs.Prelude.{◌≡◌, None, map};
 ghost use Rattle.ss_tree.specs.View.{view_clause, view_order, view_preamble};
-ghost use Rattle.ss_parse_expressions.specs.Reading.{HasGivenReading, word, begins, expect, after_dropped, closed, maybe_list, begins_more, taken, in_table};
-ghost use Rattle.ss_lex.specs.declared.word.Word.TheVariants.{Variable};
+ghost use Rattle.ss_parse_expressions.specs.Reading.{HasGivenReading, word, begins, expect, after_dropped, closed, apply, maybe_list, begins_more, taken, in_table};
+ghost use Rattle.ss_lex.specs.declared.word.Word.TheVariants.{Entities, Variable};
 ghost use Rattle.ss_parse_expressions.specs.ReadWords.{names};
 ghost use Rattle.ss_parse.specs.SpelledPreambles.{group_after};
 ghost use Rattle.ss_parse_expressions.specs.WordTables.{mode_of_word};
-ghost use Rattle.ss_parse.specs.ReadPreambles.{then_rank, keys, statistic_kind, found, clause, begins_clause, clause_list, clauses, ranking, order, permanent_at, temporary_at, notices_at, every_at, normally_at, system_at, define_end, define_at, priority_at, break_at, statistics_at, preamble_at, begins_preamble, preamble_in, preambles, whole_preamble};
+ghost use Rattle.ss_parse.specs.ReadPreambles.{then_rank, keys, statistic_kind, found, clause, begins_clause, clause_list, clauses, ranking, order, notices_at, every_at, normally_at, system_at, define_end, define_at, priority_at, break_at, statistics_at, preamble_at, begins_preamble, preamble_in, preambles, whole_preamble};
 
 use ss_base::{Line, Name};
 use ss_lex::{Symbol, Token, TokenKind, Word};
@@ -190,22 +190,15 @@ fn order(alloc: Global, tokens: &[Token]) -> Result<(SetOrder, &[Token]), ParseF
     }
 }
 
-/// The rest of PERMANENT ENTITIES, after its first word.
-#[tactic(auto, unfolding(crate::specs::ReadPreambles::permanent_at))]
-fn permanent(line: Line, tokens: &[Token]) -> Result<(PreambleStatement, &[Token]), ParseFailure>
-    ensures { HasGivenReading (λ x. (view_preamble x.0, x.1.now)) result (permanent_at line tokens.now) }
+/// The rest of PERMANENT or TEMPORARY ENTITIES, after its first word: this statement.
+fn entities(
+    group: PreambleStatement,
+    tokens: &[Token],
+) -> Result<(PreambleStatement, &[Token]), ParseFailure>
+    ensures { HasGivenReading (λ x. (view_preamble x.0, x.1.now)) result (apply (λ u. view_preamble group) (expect (word Entities)) tokens.now) }
 {
-    let rest = expect_word(tokens, Word::Entities)?;
-    Ok((PreambleStatement::PermanentEntities { line }, rest))
-}
-
-/// The rest of TEMPORARY ENTITIES, after its first word.
-#[tactic(auto, unfolding(crate::specs::ReadPreambles::temporary_at))]
-fn temporary(line: Line, tokens: &[Token]) -> Result<(PreambleStatement, &[Token]), ParseFailure>
-    ensures { HasGivenReading (λ x. (view_preamble x.0, x.1.now)) result (temporary_at line tokens.now) }
-{
-    let rest = expect_word(tokens, Word::Entities)?;
-    Ok((PreambleStatement::TemporaryEntities { line }, rest))
+    let (group, rest) = beside(group, expect_word(tokens, Word::Entities))?;
+    Ok((group, rest))
 }
 
 /// The names after this word, if it is there.
@@ -377,7 +370,7 @@ fn statistics(
 }
 
 /// The rest of a statement of a preamble, after its first word, in a group of this kind.
-#[tactic(auto, unfolding(crate::specs::ReadPreambles::preamble_at))]
+#[tactic(auto, unfolding(crate::specs::ReadPreambles::preamble_at, crate::specs::ReadPreambles::permanent_at, crate::specs::ReadPreambles::temporary_at))]
 fn statement_rest(
     alloc: Global,
     group: Option<ClassKind>,
@@ -388,8 +381,8 @@ fn statement_rest(
     ensures { HasGivenReading (λ x. (view_preamble x.0, x.1.now)) result (preamble_at group line word tokens.now) }
 {
     match word {
-        Word::Permanent => permanent(line, tokens),
-        Word::Temporary => temporary(line, tokens),
+        Word::Permanent => entities(PreambleStatement::PermanentEntities { line }, tokens),
+        Word::Temporary => entities(PreambleStatement::TemporaryEntities { line }, tokens),
         Word::Event => notices(alloc, line, tokens),
         Word::Every => every(alloc, group, line, tokens),
         Word::Normally => normally(line, tokens),
