@@ -1,25 +1,17 @@
 -- What statements begin with, and what continues them.
 use Rattle.std.proofs.Common.{◌≡◌, ℕ, zero, suc, Bool, true, false, ◌||◌, ◌&&◌, List, [], ◌∷◌, refl, sym, ap, subst, ◌∙◌, inl, inr}
-use Rattle.ss_base.specs.declared.line.Line.{Line}
-use Rattle.ss_lex.specs.declared.word.Word.{Word}
+use Rattle.ss_parse_statements.proofs.Common.{begins, comma, for_head, guarded, GuardKind, if_statement, in_table, is, is_some, kind_of_mark, Line, loop_statement, LoopHeadTree, May_be_governed, opening_word, skip_comma, Span, Statement_from, Statement_rest, StatementTree, Token, TokenKind, Word, word}
 use Rattle.ss_lex.specs.declared.word.Word.TheVariants as words
-use Rattle.ss_lex.specs.declared.token.Span.{Span}
-use Rattle.ss_lex.specs.declared.token.TokenKind.{TokenKind}
 use Rattle.ss_lex.specs.declared.token.TokenKind.TheVariants as kinds
-use Rattle.ss_lex.specs.declared.token.Token.{Token}
-use Rattle.ss_base.specs.declared.words.GuardKind.{GuardKind}
 use Rattle.ss_base.specs.declared.words.GuardKind.TheVariants as guards
-use Rattle.ss_tree.specs.Tree.{LoopHeadTree, for_head, guarded, StatementTree, if_statement, loop_statement}
 use Rattle.ss_parse_expressions.specs.Shapes.{◌▷◌, noise}
 use Rattle.ss_parse_expressions.specs.SpelledConditions.{guard_word, loop_head_word, Loop_head_rest, Is_for_head}
 use Rattle.ss_parse_expressions.specs.WordTables.{phrase_of, guard_of, function_of, outcome_of}
-use Rattle.ss_parse_expressions.specs.Reading.{word, kind_of_mark, is, is_some, begins, in_table, comma, skip_comma}
 use Rattle.ss_parse_expressions.specs.ReadExpressions.{designator_of_word, begins_value, begins_sum}
 use Rattle.ss_parse_expressions.proofs.Tools.{which, or_false}
 use Rattle.ss_parse_expressions.proofs.Marks.{token, is_true, mark_skips, no_skip, starts_otherwise}
 use Rattle.ss_parse_expressions.proofs.ConditionLaws.{continues_condition, condition_begins}
 use Rattle.ss_parse_expressions.proofs.HeadLaws.{head_more}
-use Rattle.ss_parse_statements.specs.SpelledStatements.{opening_word, May_be_governed, Statement_rest, Statement_from}
 use Rattle.ss_parse_statements.specs.ReadStatements.{form_word, begins_form, begins_outcome, begins_find_if_form, begins_find_if}
 use Rattle.ss_parse_statements.proofs.StatementParts.{statement_more, continues_simple}
 use Rattle.ss_parse_statements.proofs.SimpleLaws.{form_first}

@@ -1,17 +1,10 @@
 -- What is read by its first word.
 use Rattle.std.proofs.Common.{◌≡◌, ℕ, suc, ◌+◌, ◌<◌, Bool, false, List, [], ◌∷◌, length, Ok, refl, sym, ap, subst, ◌∙◌, arith}
-use Rattle.ss_base.specs.declared.line.Line.{Line}
-use Rattle.ss_lex.specs.declared.word.Word.{Word}
-use Rattle.ss_lex.specs.declared.token.Span.{Span}
-use Rattle.ss_lex.specs.declared.token.TokenKind.{TokenKind}
+use Rattle.ss_parse_statements.proofs.Common.{Line, openers, opens, Reads, Span, Token, token, token_less, TokenKind, Word}
 use Rattle.ss_lex.specs.declared.token.TokenKind.TheVariants as kinds
-use Rattle.ss_lex.specs.declared.token.Token.{Token}
-use Rattle.ss_parse_expressions.specs.Openers.{opens, openers}
 use Rattle.ss_parse_expressions.specs.Shapes.{Shape, ◌▷◌, Word_is, first_token_line, at}
 use Rattle.ss_parse_expressions.specs.Reading.{Reader}
-use Rattle.ss_parse_expressions.proofs.Marks.{token, token_less}
 use Rattle.ss_parse_expressions.proofs.Depth.{Upto, upto_same, Bounded, bounded_more, bounded_opened}
-use Rattle.ss_parse_expressions.proofs.ReaderLaws.{Reads}
 use Rattle.ss_parse_statements.specs.ReadStatements.{at_word, by_word}
 
 -- The laws of a reader that is called after the word w, which may open a level.

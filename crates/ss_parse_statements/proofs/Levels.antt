@@ -1,17 +1,11 @@
 -- Statements at each level of nesting: what is read is spelled, and what is spelled is read.
 use Rattle.std.proofs.Common.{◌≡◌, ℕ, zero, suc, ◌<◌, ◌≤◌, Bool, true, false, ◌||◌, List, length, refl, ap, ◌∙◌, arith}
-use Rattle.ss_base.specs.declared.line.Line.{Line}
-use Rattle.ss_lex.specs.declared.word.Word.{Word}
+use Rattle.ss_parse_statements.proofs.Common.{choose_reader, find_if_statement, find_statement, if_statement, Line, line_of_first_word, loop_statement, opening_word, opens, skip_comma, Statement_from, Statement_rest, StatementTree, Token, Word}
 use Rattle.ss_lex.specs.declared.word.Word.TheVariants as words
 use Rattle.ss_lex.specs.declared.token.TokenKind.TheVariants as kinds
-use Rattle.ss_lex.specs.declared.token.Token.{Token}
-use Rattle.ss_tree.specs.Tree.{StatementTree, if_statement, loop_statement, find_statement, find_if_statement}
-use Rattle.ss_parse_expressions.specs.Openers.{opens}
 use Rattle.ss_parse_expressions.specs.Shapes.{Shape, ◌▷◌, noise, each_in_turn, nested_shape}
-use Rattle.ss_parse_expressions.specs.Reading.{choose_reader, skip_comma}
 use Rattle.ss_parse_expressions.proofs.ReaderLaws.{Reads, Item, reshaped_reads, fewer_reads, noisy_item, too_deep_reads}
 use Rattle.ss_parse_expressions.proofs.Rows.{rows_reads, Loop, loop_of}
-use Rattle.ss_parse_statements.specs.SpelledStatements.{line_of_first_word, opening_word, Statement_rest, Statement_from}
 use Rattle.ss_parse_statements.specs.ReadSimple.{simple_at}
 use Rattle.ss_parse_statements.specs.ReadStatements.{by_word, begins_form, begins_statement, nested_word, nested_in, form_in, statement_in, statements_in}
 use Rattle.ss_parse_statements.proofs.FirstWords.{Form, plain_form, opening_form, by_word_reads, first_less}

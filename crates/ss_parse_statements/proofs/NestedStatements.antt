@@ -1,16 +1,11 @@
 -- Statements with others in them: what is read is spelled, and what is spelled is read.
 use Rattle.std.proofs.Common.{◌≡◌, ℕ, suc, ◌<◌, ◌≤◌, Bool, true, false, ◌||◌, List, [], ◌∷◌, length, refl, sym, ap, subst, ◌∙◌, arith, inl, inr, ◌⊎◌}
-use Rattle.ss_base.specs.declared.line.Line.{Line}
-use Rattle.ss_lex.specs.declared.word.Word.{Word}
+use Rattle.ss_parse_statements.proofs.Common.{GuardKind, Line, mark_skips, openers, rows_reads, Span, Token, token, Word}
 use Rattle.ss_lex.specs.declared.word.Word.TheVariants as words
-use Rattle.ss_lex.specs.declared.token.Span.{Span}
 use Rattle.ss_lex.specs.declared.token.TokenKind.TheVariants as kinds
-use Rattle.ss_lex.specs.declared.token.Token.{Token}
-use Rattle.ss_base.specs.declared.words.GuardKind.{GuardKind}
 use Rattle.ss_base.specs.declared.words.GuardKind.TheVariants as guards
 use Rattle.ss_tree.specs.declared.statement.FindOutcome.{FindOutcome}
 use Rattle.ss_tree.specs.Tree.{ConditionTree, HeadTree, LoopHeadTree, for_head, guarded, StatementTree, if_statement, loop_statement, find_statement, find_if_statement, StatementRow, no_statement, and_statement, statement_row}
-use Rattle.ss_parse_expressions.specs.Openers.{openers}
 use Rattle.ss_parse_expressions.specs.Shapes.{Shape, ◌▷◌, nothing, either_shape, optional, provided, noise, Word_for, each_in_turn}
 use Rattle.ss_parse_expressions.specs.SpelledConditions.{guard_word, Head_rest}
 use Rattle.ss_parse_expressions.specs.WordTables.{guard_of, outcome_of}
@@ -18,10 +13,8 @@ use Rattle.ss_parse_expressions.specs.Reading.{word, kind_of_mark, is, is_some, 
 use Rattle.ss_parse_expressions.specs.ReadWords.{fail, begins_noisy, expect_noisy}
 use Rattle.ss_parse_expressions.specs.ReadHeads.{begins_guard, guard_tree}
 use Rattle.ss_parse_expressions.proofs.Tools.{chosen, or_false}
-use Rattle.ss_parse_expressions.proofs.Marks.{token, mark_skips}
 use Rattle.ss_parse_expressions.proofs.Depth.{upto_if, upto_same, bounded_if}
 use Rattle.ss_parse_expressions.proofs.ReaderLaws.{Reads, Item, continues_never, Made, item_of, seq_reads, following_reads, marked_reads, closed_reads, expect_reads, bind_reads, apply_reads, made_reads, reshaped_reads, fewer_reads, optional_reads, maybe_list_reads, noisy_item, done_reads, either_reads}
-use Rattle.ss_parse_expressions.proofs.Rows.{rows_reads}
 use Rattle.ss_parse_expressions.proofs.WordLaws.{word_in_reads, noisy_mark_reads, noisy_begins, noisy_less, noisy_stops}
 use Rattle.ss_parse_expressions.proofs.ConditionLaws.{In_condition, continues_condition, condition_in_reads}
 use Rattle.ss_parse_expressions.proofs.HeadLaws.{head_more, continues_head, continues_for, continues_guarded, for_reads, Guarded_parts, guarded_reads}

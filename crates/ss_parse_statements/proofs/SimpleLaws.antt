@@ -1,34 +1,25 @@
 -- Simple statements: what is read is spelled, and what is spelled is read.
 use Rattle.std.proofs.Common.{◌≡◌, ℕ, suc, ◌<◌, ◌≤◌, pos, true, false, ◌||◌, List, [], ◌∷◌, length, Option, Some, refl, sym, ap, subst, ◌∙◌, arith, inl, inr}
-use Rattle.ss_base.specs.declared.line.Line.{Line}
-use Rattle.ss_lex.specs.declared.word.Word.{Word}
+use Rattle.ss_parse_statements.proofs.Common.{bind_reads, closed_reads, continues_never, done_reads, either_reads, expect_reads, fewer_reads, following_reads, GuardKind, has_word, Item, item_of, Line, line_of_first_word, Made, made_reads, marked_reads, One_of, opening_word, optional_reads, or_false, perhaps_listed, Reads, Reference_is, reshaped_reads, seq_reads, Statement_rest, Sum_is, Target_is, the, Token, TokenKind, Word}
 use Rattle.ss_lex.specs.declared.word.Word.TheVariants as words
 use Rattle.ss_lex.specs.declared.token.Symbol.TheVariants.{Equals}
-use Rattle.ss_lex.specs.declared.token.TokenKind.{TokenKind}
 use Rattle.ss_lex.specs.declared.token.TokenKind.TheVariants as kinds
-use Rattle.ss_lex.specs.declared.token.Token.{Token}
-use Rattle.ss_base.specs.declared.words.GuardKind.{GuardKind}
 use Rattle.ss_base.specs.declared.words.GuardKind.TheVariants as guards
 use Rattle.ss_base.specs.declared.words.End.{End}
 use Rattle.ss_tree.specs.Tree.{ExpressionTree, NamedTree, PositionTree, WhenTree, LoopHeadTree, for_head, guarded, StatementTree, let_statement, add_statement, subtract_statement, call_statement, return_statement, stop_statement, read_statement, start_simulation, loop_statement, create_statement, create_every, destroy_statement, file_statement, remove_end, remove_statement, schedule_new, schedule_statement, cancel_statement, reset_statement, print_statement, skip_statement}
 use Rattle.ss_parse_expressions.specs.declared.classes.WordClass.TheVariants as classes
 use Rattle.ss_parse_expressions.specs.Shapes.{Shape, ◌▷◌, nothing, never, either_shape, optional, provided, Token_is, Word_is, Symbol_is, Name_is, Word_for, separated_list}
-use Rattle.ss_parse_expressions.specs.Words.{has_word, One_of, the, perhaps_listed}
-use Rattle.ss_parse_expressions.specs.SpelledExpressions.{Sum_is, Target_is, Reference_is}
 use Rattle.ss_parse_expressions.specs.SpelledConditions.{guard_word, loop_head_word}
 use Rattle.ss_parse_expressions.specs.Reading.{word, is, is_some, begins, begins_by, expect, in_table, taken, name_in_token, seq, after_dropped, apply}
 use Rattle.ss_parse_expressions.specs.ReadWords.{fail, begins_class}
 use Rattle.ss_parse_expressions.specs.ReadExpressions.{begins_value, begins_sum, sum_in}
 use Rattle.ss_parse_expressions.specs.ReadPlaces.{target_in}
-use Rattle.ss_parse_expressions.proofs.Tools.{or_false}
 use Rattle.ss_parse_expressions.proofs.Marks.{token_less, starts_otherwise, begins_table}
-use Rattle.ss_parse_expressions.proofs.ReaderLaws.{Reads, Item, continues_never, Made, item_of, expect_reads, seq_reads, marked_reads, closed_reads, bind_reads, made_reads, following_reads, reshaped_reads, fewer_reads, optional_reads, done_reads, either_reads}
 use Rattle.ss_parse_expressions.proofs.WordLaws.{word_in_reads, expect_class_reads, optional_class_reads, fail_reads, name_reads, names_reads, item_made}
 use Rattle.ss_parse_expressions.proofs.Beginnings.{in_begins, continues_sum}
 use Rattle.ss_parse_expressions.proofs.PlaceLaws.{targets_in_reads, continues_place, continues_sums}
 use Rattle.ss_parse_expressions.proofs.ConditionLaws.{stops_place}
 use Rattle.ss_parse_statements.specs.SpelledParts.{CalledName, end_of, Position_is}
-use Rattle.ss_parse_statements.specs.SpelledStatements.{line_of_first_word, opening_word, Statement_rest}
 use Rattle.ss_parse_statements.specs.ReadSimple.{equals, after_the, set_reader, called, let_at, add_at, subtract_at, call_at, read_at, start_at, new_at, create_at, destroy_at, cancel_at, file_at, remove_end_at, remove_this_at, remove_at, schedule_the_at, schedule_a_at, schedule_at, reset_at, print_at, skip_at, simple_at}
 use Rattle.ss_parse_statements.specs.ReadStatements.{form_word, nested_word}
 use Rattle.ss_parse_statements.proofs.StatementParts.{continues_simple, ended, over_place, over_targets, over_given, over_yielding, over_called, over_called_place, sum_reads, target_reads, set_reads, given_reads, yielding_reads, called_sum_reads, called_target_reads, continues_position, position_reads, position_stops, Due_is, due_reads, due_stops, Print_head_is, print_head_reads, Pictures_are, pictures_reads}

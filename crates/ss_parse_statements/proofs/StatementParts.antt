@@ -1,21 +1,15 @@
 -- Parts of statements: what is read is spelled, and what is spelled is read.
 use Rattle.std.proofs.Common.{◌≡◌, ℕ, zero, suc, ◌<◌, ◌≤◌, pos, Bool, true, false, ◌||◌, List, [], ◌∷◌, length, Some, refl, ap, subst, ◌∙◌, arith, inl, inr}
-use Rattle.ss_base.specs.declared.line.Line.{Line}
-use Rattle.ss_lex.specs.declared.word.Word.{Word}
+use Rattle.ss_parse_statements.proofs.Common.{has_word, Line, One_of, or_false, perhaps_listed, Reference_is, Sum_is, Target_is, the, Token, TokenKind, Word}
 use Rattle.ss_lex.specs.declared.word.Word.TheVariants as words
-use Rattle.ss_lex.specs.declared.token.TokenKind.{TokenKind}
 use Rattle.ss_lex.specs.declared.token.TokenKind.TheVariants as kinds
-use Rattle.ss_lex.specs.declared.token.Token.{Token}
 use Rattle.ss_tree.specs.Tree.{ExpressionTree, PositionTree, by_discipline, at_first, at_last, before, after, WhenTree, at_time, in_units, now}
 use Rattle.ss_parse_expressions.specs.declared.classes.WordClass.TheVariants as classes
 use Rattle.ss_parse_expressions.specs.Shapes.{Shape, ◌▷◌, nothing, either_shape, provided, Token_is, Word_is, each_in_turn}
-use Rattle.ss_parse_expressions.specs.Words.{has_word, One_of, the, perhaps_listed}
-use Rattle.ss_parse_expressions.specs.SpelledExpressions.{Sum_is, Target_is, Reference_is}
 use Rattle.ss_parse_expressions.specs.Reading.{word, is, begins, expect, taken, apply, begins_more}
 use Rattle.ss_parse_expressions.specs.ReadWords.{begins_class, begins_among, begins_name}
 use Rattle.ss_parse_expressions.specs.ReadExpressions.{begins_sum, sum_in}
 use Rattle.ss_parse_expressions.specs.ReadPlaces.{target_in, begins_target}
-use Rattle.ss_parse_expressions.proofs.Tools.{or_false}
 use Rattle.ss_parse_expressions.proofs.Marks.{mark_begins, token_less, In_table}
 use Rattle.ss_parse_expressions.proofs.ReaderLaws.{Reads, Item, continues_never, Made, item_of, item_marked, expect_reads, taken_reads, seq_reads, marked_reads, closed_reads, bind_reads, made_reads, following_reads, reshaped_reads, before_mark_reads, maybe_reads, done_reads, either_reads}
 use Rattle.ss_parse_expressions.proofs.WordLaws.{expect_class_reads, one_begins, one_less, perhaps_listed_reads, item_made, no_word, no_class}
