@@ -133,7 +133,6 @@ pub fn statements(alloc: Global, tokens: &[Token], room: u8) -> Reading<'_, Vec<
 
 /// The statements after ELSE, if ELSE is there.
 #[cycle(statements)]
-#[tactic(auto)]
 fn otherwise(alloc: Global, tokens: &[Token], room: u8) -> Reading<'_, Vec<Statement>>
     ensures { HasGivenReading (λ x. (map view_statement_tree x.0.items, x.1.now)) result (else_with (statement_in room) tokens.now) }
 {
@@ -234,7 +233,6 @@ fn loop_form(
 
 /// The IF of a FIND: FOUND or NONE, and the branches.
 #[cycle(statements)]
-#[tactic(auto)]
 fn outcome_and_branches(
     alloc: Global,
     tokens: &[Token],
@@ -327,7 +325,6 @@ fn guarded_form(
 /// The rest of a statement that may have others in it, after its first word, where this many levels of nesting may be
 /// opened.
 #[cycle(statements)]
-#[tactic(auto)]
 fn nested_form(
     alloc: Global,
     line: Line,
