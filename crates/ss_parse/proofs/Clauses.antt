@@ -109,14 +109,10 @@ module _ (k : ℕ) where
       no_clause [] stop = refl
       no_clause (t ∷ ts) stop = go t.kind (or_false (is comma t.kind) (among preamble_more t.kind) stop).1
         where
-          go_word : (w : Word) → preamble_more w ≡ false → clause_word w ≡ false
-          go_word words.Has e = absurd cc
-          go_word words.Owns e = absurd cc
-          go_word words.May e = absurd cc
-          go_word _ e = refl
-
           go : (kind : TokenKind) → among preamble_more kind ≡ false → among clause_word kind ≡ false
-          go (kinds.Word w) e = go_word w e
+          go (kinds.Word words.Has) e = absurd cc
+          go (kinds.Word words.Owns) e = absurd cc
+          go (kinds.Word words.May) e = absurd cc
           go _ e = refl
 
       stops : (ts : List Token) → continues_preamble ts ≡ false → (begins_clause ts || (begins_more begins_clause ts || (continues_items ts || continues_items ts))) ≡ false

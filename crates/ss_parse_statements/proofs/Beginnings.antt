@@ -88,13 +88,9 @@ condition_no_outcome : (ts : List Token) → (begins_sum ts || begins (word word
 condition_no_outcome [] e = refl
 condition_no_outcome (t ∷ ts) e = go t.kind e
   where
-    go_word : (w : Word) → (begins_value (kinds.Word w) || is (word words.Data) (kinds.Word w)) ≡ true → is_some (outcome_of w) ≡ false
-    go_word words.Found e = absurd cc
-    go_word words.None e = absurd cc
-    go_word _ e = refl
-
     go : (k : TokenKind) → (begins_value k || is (word words.Data) k) ≡ true → is_some (in_table outcome_of k) ≡ false
-    go (kinds.Word w) e = go_word w e
+    go (kinds.Word words.Found) e = absurd cc
+    go (kinds.Word words.None) e = absurd cc
     go _ e = refl
 
 within_condition : (n : ℕ) (x : StatementTree) (ts rest : List Token) → opening_word x ≡ words.If → Statement_rest x n ts rest → begins_outcome ts ≡ false

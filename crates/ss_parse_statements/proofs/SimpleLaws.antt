@@ -46,13 +46,9 @@ Form_is n line w x ts rest = (line_of_first_word x ≡ line) × (opening_word x 
 
 -- ---- what words no expression begins with
 
-word_no_end : (w : Word) → begins_value (kinds.Word w) ≡ true → is_some (end_of w) ≡ false
-word_no_end words.First e = absurd cc
-word_no_end words.Last e = absurd cc
-word_no_end _ e = refl
-
 value_no_end : (k : TokenKind) → begins_value k ≡ true → is_some (in_table end_of k) ≡ false
-value_no_end (kinds.Word w) e = word_no_end w e
+value_no_end (kinds.Word words.First) e = absurd cc
+value_no_end (kinds.Word words.Last) e = absurd cc
 value_no_end _ e = refl
 
 sum_no_end : (ts : List Token) → begins_sum ts ≡ true → begins_by (in_table end_of) ts ≡ false
@@ -60,9 +56,8 @@ sum_no_end [] e = refl
 sum_no_end (t ∷ ts) e = value_no_end t.kind e
 
 end_no_the : (w : Word) (end : End) → end_of w ≡ Some end → is (word words.The) (kinds.Word w) ≡ false
-end_no_the words.First end e = refl
-end_no_the words.Last end e = refl
-end_no_the _ end e = absurd cc
+end_no_the words.The end e = absurd cc
+end_no_the _ end e = refl
 
 a_no_other : (w : Word) → has_word classes.Indefinite w ≡ true → (is (word words.The) (kinds.Word w) ≡ false) × (is (word words.Every) (kinds.Word w) ≡ false)
 a_no_other words.A e = (refl, refl)
