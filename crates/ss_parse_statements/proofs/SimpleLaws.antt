@@ -84,9 +84,6 @@ module _ (n m : ℕ) (le : n ≤ m) where
   unfolding new_at
   new_reads line = made_reads (optional_class_reads (seq_reads (name_reads (suc n)) (called_target_reads n m le) (λ x ts rest s stop. refl)) classes.Indefinite (λ x ts rest s. ap (begins_class classes.Indefinite) s.1.2)) (λ p. create_statement line p.0 p.1)
 
-  abbrev Every_parts : List (List ℕ) → Shape
-  Every_parts xs = Word_is words.Every ▷ separated_list Name_is xs
-
   new_late : (line : Line) (x : StatementTree) (ts rest : List Token) → Made (λ p. create_statement line p.0 p.1) New_parts x ts rest → continues_simple rest ≡ false → begins (word words.Every) ts ≡ false
   new_late line x ts rest (p, is, (a, inl e, (b, (span, l, f), s))) stop = ap (begins (word words.Every)) (e ∙ f)
   new_late line x ts rest (p, is, (a, inr (w, held, (span, l, f)), s)) stop = ap (begins (word words.Every)) f ∙ (a_no_other w held).1
@@ -178,7 +175,7 @@ module _ (n m : ℕ) (le : n ≤ m) where
   Parts line words.Stop x = provided (stop_statement line ≡ x) nothing
   Parts line words.Read x = Made (read_statement line) (separated_list (Target_is n)) x
   Parts line words.Start x = Made (λ (u : Unit {0}). start_simulation line) (λ u. Word_is words.Simulation) x
-  Parts line words.Create x = either_shape (Made (create_every line) Every_parts x) (Made (λ p. create_statement line p.0 p.1) New_parts x)
+  Parts line words.Create x = either_shape (Made (create_every line) (λ xs. Word_is words.Every ▷ separated_list Name_is xs) x) (Made (λ p. create_statement line p.0 p.1) New_parts x)
   Parts line words.Destroy x = Made (λ p. destroy_statement line p.0 p.1) Taken_parts x
   Parts line words.Cancel x = Made (λ p. cancel_statement line p.0 p.1) Taken_parts x
   Parts line words.File x = Made (λ p. file_statement line p.0 p.1.0 p.1.1) File_parts x
