@@ -18,12 +18,9 @@ use Rattle.ss_parse_expressions.proofs.Sums.{sum_in_reads}
 use Rattle.ss_parse_expressions.proofs.PlaceLaws.{target_in_reads, targets_in_reads, sums_in_reads, continues_place, continues_targets, continues_sums}
 use Rattle.ss_parse_expressions.proofs.ConditionLaws.{the_set_reads, stops_place}
 use Rattle.ss_parse_statements.specs.SpelledParts.{Trigger, Picture_is, CalledName, Position_is, When_is}
-use Rattle.ss_parse_statements.specs.ReadSimple.{called, positive_of, items_in, trigger, picture_token, pictures_at, given_in, yielding_in, position_in, when_in, due_in, set_reader, print_head}
+use Rattle.ss_parse_statements.specs.ReadSimple.{called, positive_of, trigger, picture_token, pictures_at, given_in, yielding_in, position_in, when_in, due_in, set_reader, print_head}
 
 -- ---- PRINT
-
-pub items_in_reads : (n m : ℕ) → n ≤ m → Reads n (items_in n) (items_in m) (perhaps_listed (Word_is words.With) (In n)) (λ ts. begins (word words.With) ts || continues_sums ts)
-items_in_reads n m le = perhaps_listed_reads (item_marked (word words.With) (sums_in_reads n m le))
 
 pub trigger_reads : (k : ℕ) → Reads k trigger trigger (λ u. Trigger) continues_never
 unfolding trigger
@@ -59,7 +56,7 @@ pub print_head_reads : (n m : ℕ) → n ≤ m → Reads n (print_head n) (print
 unfolding print_head
 print_head_reads n m le =
     seq_reads (positive_reads n)
-    (marked_reads (word words.Line) (closed_reads (items_in_reads n m le) (trigger_reads n) stops))
+    (marked_reads (word words.Line) (closed_reads (perhaps_listed_reads (item_marked (word words.With) (sums_in_reads n m le))) (trigger_reads n) stops))
     (λ xs ts rest s stop. refl)
   where
     stops : (ts rest : List Token) → Trigger ts rest → continues_never rest ≡ false → (begins (word words.With) ts || continues_sums ts) ≡ false
@@ -266,9 +263,6 @@ module _ (n m : ℕ) (le : n ≤ m) where
   abbrev In_units_or_now : WhenTree → Shape
   In_units_or_now x = either_shape (Made in_units (λ e. Word_is words.In ▷ Sum_is n e ▷ Word_is words.Unit) x) (Made (λ (u : Unit {0}). now) (λ (u : Unit {0}). Word_is words.Now) x)
 
-  now_late : (x : WhenTree) (ts rest : List Token) → Made (λ (u : Unit {0}). now) (λ (u : Unit {0}). Word_is words.Now) x ts rest → begins (word words.In) ts ≡ false
-  now_late x ts rest (u, q, (span, line, e)) = ap (begins (word words.In)) e
-
   in_late : (x : WhenTree) (ts rest : List Token) → In_units_or_now x ts rest → begins (word words.At) ts ≡ false
   in_late x ts rest (inl (e, q, (a, (span, line, f), s))) = ap (begins (word words.At)) f
   in_late x ts rest (inr (u, q, (span, line, f))) = ap (begins (word words.At)) f
@@ -277,7 +271,7 @@ module _ (n m : ℕ) (le : n ≤ m) where
   unfolding when_in
   when_reads =
       reshaped_reads (either_reads (item_made (word words.At) sum_reads at_time)
-      (either_reads (item_made (word words.In) (before_mark_reads (word words.Unit) sum_reads (λ span line ts. refl)) in_units) (made_reads (expect_reads (suc n) (word words.Now)) (λ u. now)) continues_sum (λ ts stop. (refl, refl)) (λ x ts rest s stop. now_late x ts rest s))
+      (either_reads (item_made (word words.In) (before_mark_reads (word words.Unit) sum_reads (λ span line ts. refl)) in_units) (made_reads (expect_reads (suc n) (word words.Now)) (λ u. now)) continues_sum (λ ts stop. (refl, refl)) (λ x ts rest s stop. ap (begins (word words.In)) s.2.2))
       continues_sum (λ ts stop. (stop, stop)) (λ x ts rest s stop. in_late x ts rest s))
       (When_is n) to from
     where
