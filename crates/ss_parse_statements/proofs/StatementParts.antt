@@ -222,17 +222,6 @@ module _ (n m : ℕ) (le : n ≤ m) where
   last_late x ts rest (inl (e, q, (span, line, f))) stop = ap (begins (word words.First)) f
   last_late x ts rest (inr s) stop = before_late words.First refl refl refl x ts rest s stop
 
-  position_any_reads : Reads (suc n) (position_in (suc n)) (position_in (suc m)) First_is continues_position
-  unfolding position_in
-  position_any_reads =
-      either_reads (word_item words.First (λ u. at_first))
-      (either_reads (word_item words.Last (λ u. at_last))
-      (either_reads (item_made (word words.Before) sum_reads before)
-      (either_reads (item_made (word words.After) sum_reads after) (done_reads (suc n) by_discipline) continues_position (λ ts stop. (position_sum ts stop, refl)) (λ x ts rest s stop. ap (begins (word words.After)) s.1 ∙ position_word rest stop words.After refl))
-      continues_position (λ ts stop. (position_sum ts stop, stop)) (after_late words.Before refl refl))
-      continues_position (λ ts stop. (refl, stop)) (before_late words.Last refl refl refl))
-      continues_position (λ ts stop. (refl, stop)) last_late
-
   position_to : (x : PositionTree) (ts rest : List Token) → First_is x ts rest → Position_is n x ts rest
   position_to x ts rest (inl (u, q, s)) = subst (λ x. Position_is n x ts rest) q s
   position_to x ts rest (inr (inl (u, q, s))) = subst (λ x. Position_is n x ts rest) q s
@@ -248,7 +237,15 @@ module _ (n m : ℕ) (le : n ≤ m) where
   position_from (after e) ts rest s = inr (inr (inr (inl (e, refl, s))))
 
   pub position_reads : Reads (suc n) (position_in (suc n)) (position_in (suc m)) (Position_is n) continues_position
-  position_reads = reshaped_reads position_any_reads (Position_is n) position_to position_from
+  unfolding position_in
+  position_reads =
+      reshaped_reads (either_reads (word_item words.First (λ u. at_first))
+      (either_reads (word_item words.Last (λ u. at_last))
+      (either_reads (item_made (word words.Before) sum_reads before)
+      (either_reads (item_made (word words.After) sum_reads after) (done_reads (suc n) by_discipline) continues_position (λ ts stop. (position_sum ts stop, refl)) (λ x ts rest s stop. ap (begins (word words.After)) s.1 ∙ position_word rest stop words.After refl))
+      continues_position (λ ts stop. (position_sum ts stop, stop)) (after_late words.Before refl refl))
+      continues_position (λ ts stop. (refl, stop)) (before_late words.Last refl refl refl))
+      continues_position (λ ts stop. (refl, stop)) last_late) (Position_is n) position_to position_from
 
   -- it doesn't continue the member
   pub position_stops : (x : PositionTree) (ts a : List Token) → Position_is n x ts a → continues_sum a ≡ false → continues_sum ts ≡ false
