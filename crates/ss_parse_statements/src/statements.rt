@@ -5,7 +5,7 @@ ghost use Rattle.ss_tree.specs.Tree.{statement_row};
 ghost use Rattle.ss_tree.specs.View.{view_statement_tree, view_head_tree, view_loop_head};
 ghost use Rattle.ss_parse_expressions.specs.WordTables.{outcome_of};
 ghost use Rattle.ss_lex.specs.declared.word.Word.TheVariants.{If};
-ghost use Rattle.ss_parse_expressions.specs.Reading.{HasGivenReading, word, skip, skip_comma, after_dropped, seq, taken, in_table};
+ghost use Rattle.ss_parse_expressions.specs.Reading.{HasGivenReading, word, after_dropped, seq, taken, in_table};
 ghost use Rattle.ss_parse_expressions.specs.ReadWords.{begins_noisy, expect_noisy};
 ghost use Rattle.ss_parse_statements.specs.ReadStatements.{nested_word, begins_form, begins_statement, begins_find_if, statements_with, else_with, branches_with, do_with, governed_with, body_with, find_words, if_with, loop_with, find_if_with, found_with, find_with, for_with, guarded_with, nested_in, statement_in, statements_in};
 
@@ -38,13 +38,6 @@ pub fn expect_noisy(tokens: &[Token], wanted: Word) -> Result<&[Token], ParseFai
     ensures { HasGivenReading (λ rest. (tt, rest.now)) result (expect_noisy (word wanted) tokens.now) }
 {
     expect_word(skip_symbol(tokens, Symbol::Comma), wanted)
-}
-
-/// The tokens after this word, which is first but for a comma.
-fn skip_noisy(tokens: &[Token], wanted: Word) -> &[Token]
-    ensures { result.now ≡ skip (word wanted) (skip_comma tokens.now) }
-{
-    skip_word(skip_symbol(tokens, Symbol::Comma), wanted)
 }
 
 /// Whether a statement that may have others in it begins with the word.
@@ -139,7 +132,8 @@ fn otherwise(alloc: Global, tokens: &[Token], room: u8) -> Reading<'_, Vec<State
     if !begins_noisy(tokens, Word::Else) {
         return Ok((Vec::new(alloc), tokens));
     }
-    statements(alloc, skip_noisy(tokens, Word::Else), room)
+    let rest = expect_noisy(tokens, Word::Else)?;
+    statements(alloc, rest, room)
 }
 
 /// The statements of an IF, those after its ELSE, and ALWAYS.
