@@ -239,49 +239,23 @@ module _ (n m : ℕ) (le : n ≤ m) where
       let parts : Parts (line_of_first_word x) (opening_word x) x ts rest = parts_of x (ap nested_word s.1 ∙ simple) ts rest s.2 in
       subst (λ (l : Line). Parts l w x ts rest) s.0 (subst (λ (v : Word). Parts (line_of_first_word x) v x ts rest) s.1 parts)
 
-  let_reads : (line : Line) → Reads (suc n) (let_at line (suc n)) (let_at line (suc m)) (Parts line words.Let) continues_simple
-  unfolding let_at
-  let_reads line =
-      fewer_reads (made_reads (seq_reads (target_reads n m le) (marked_reads equals (sum_reads n m le)) (λ e ts rest s stop. ap continues_place s.1.2)) (λ p. let_statement line p.0 p.1))
-      continues_simple (λ ts stop. (ended ts stop).no_sum)
-
   -- an amount, this word and a target
   amount_reads : (w : Word) (make : ExpressionTree → NamedTree → StatementTree) → Reads (suc n) (apply (λ p. make p.0 p.1) (seq (sum_in (suc n)) (after_dropped (expect (word w)) (target_in (suc n))))) (apply (λ p. make p.0 p.1) (seq (sum_in (suc m)) (after_dropped (expect (word w)) (target_in (suc m))))) (Made (λ (p : ExpressionTree × NamedTree). make p.0 p.1) (λ p. Sum_is n p.0 ▷ Word_is w ▷ Target_is n p.1)) continues_simple
   amount_reads w make =
       fewer_reads (made_reads (seq_reads (sum_reads n m le) (marked_reads (word w) (target_reads n m le)) (λ e ts rest s stop. ap continues_sum s.1.2)) (λ p. make p.0 p.1))
       continues_simple (λ ts stop. over_place ts (ended ts stop))
 
-  call_reads : (line : Line) → Reads (suc n) (call_at line (suc n)) (call_at line (suc m)) (Parts line words.Call) continues_simple
-  unfolding call_at
-  call_reads line = made_reads (seq_reads (name_reads (suc n)) (seq_reads (given_reads n m le) (fewer_reads (yielding_reads n m le) continues_simple (λ ts stop. over_yielding ts (ended ts stop))) given_stops) (λ p ts rest s stop. refl)) (λ p. call_statement line p.0 p.1.0 p.1.1)
-
-  file_reads : (line : Line) → Reads (suc n) (file_at line (suc n)) (file_at line (suc m)) (Parts line words.File) continues_simple
-  unfolding file_at
-  file_reads line =
-      fewer_reads (made_reads {S = File_parts} (optional_reads (seq_reads (sum_reads n m le) (seq_reads (position_reads n m le) (set_after words.In) (λ set ts rest s stop. ap (continues_position n m le) s.1.2)) (λ p ts rest s stop. position_stops n m le p.0 ts s.0 s.1 (ap continues_sum s.2.1.2))) (word words.The) (λ x ts rest s. no_the_sum ts x.0 s.0 s.1)) (λ p. file_statement line p.0 p.1.0 p.1.1))
-      continues_simple (λ ts stop. over_place ts (ended ts stop))
-
-  reset_reads : (line : Line) → Reads (suc n) (reset_at line (suc n)) (reset_at line (suc m)) (Parts line words.Reset) continues_simple
-  unfolding reset_at
-  reset_reads line =
-      fewer_reads (made_reads {S = Reset_parts} (optional_reads (marked_reads (word words.Totals) (marked_reads (word words.Of) (targets_in_reads (suc n) (suc m) (omega arith)))) (word words.The) (λ x ts rest s. ap (begins (word words.The)) s.1.2)) (reset_statement line))
-      continues_simple (λ ts stop. over_targets ts (ended ts stop))
-
-  skip_reads : (line : Line) → Reads (suc n) (skip_at line (suc n)) (skip_at line (suc m)) (Parts line words.Skip) continues_simple
-  unfolding skip_at
-  skip_reads line =
-      fewer_reads (made_reads {S = Skip_parts} (closed_reads (sum_reads n m le) (optional_reads (expect_reads (suc n) (word words.Line)) (word words.Output) (λ u ts rest s. ap (begins (word words.Output)) s.2)) line_stops) (skip_statement line))
-      continues_simple (λ ts stop. refl)
-
   none_reads : Reads (suc n) fail fail (λ (x : StatementTree). never) continues_simple
   none_reads = fewer_reads (fail_reads (suc n)) continues_simple (λ ts stop. refl)
 
   simple_reads : (line : Line) (w : Word) → Reads (suc n) (simple_at line (suc n) w) (simple_at line (suc m) w) (Parts line w) continues_simple
-  unfolding simple_at add_at subtract_at read_at start_at create_at destroy_at cancel_at remove_at schedule_at print_at
-  simple_reads line words.Let = let_reads line
+  unfolding simple_at add_at subtract_at read_at start_at create_at destroy_at cancel_at remove_at schedule_at print_at let_at call_at file_at reset_at skip_at
+  simple_reads line words.Let =
+      fewer_reads (made_reads (seq_reads (target_reads n m le) (marked_reads equals (sum_reads n m le)) (λ e ts rest s stop. ap continues_place s.1.2)) (λ p. let_statement line p.0 p.1))
+      continues_simple (λ ts stop. (ended ts stop).no_sum)
   simple_reads line words.Add = amount_reads words.To (add_statement line)
   simple_reads line words.Subtract = amount_reads words.From (subtract_statement line)
-  simple_reads line words.Call = call_reads line
+  simple_reads line words.Call = made_reads (seq_reads (name_reads (suc n)) (seq_reads (given_reads n m le) (fewer_reads (yielding_reads n m le) continues_simple (λ ts stop. over_yielding ts (ended ts stop))) given_stops) (λ p ts rest s stop. refl)) (λ p. call_statement line p.0 p.1.0 p.1.1)
   simple_reads line words.Return = fewer_reads (done_reads (suc n) (return_statement line)) continues_simple (λ ts stop. refl)
   simple_reads line words.Stop = fewer_reads (done_reads (suc n) (stop_statement line)) continues_simple (λ ts stop. refl)
   simple_reads line words.Read = fewer_reads (made_reads (targets_in_reads (suc n) (suc m) (omega arith)) (read_statement line)) continues_simple (λ ts stop. over_targets ts (ended ts stop))
@@ -291,14 +265,20 @@ module _ (n m : ℕ) (le : n ≤ m) where
       (λ ts stop. let a = (ended ts stop).no_names in (rw a refl, over_called_place ts (ended ts stop))) (new_late line)
   simple_reads line words.Destroy = fewer_reads (made_reads taken_reads' (λ p. destroy_statement line p.0 p.1)) continues_simple (λ ts stop. over_called ts (ended ts stop))
   simple_reads line words.Cancel = fewer_reads (made_reads taken_reads' (λ p. cancel_statement line p.0 p.1)) continues_simple (λ ts stop. over_called ts (ended ts stop))
-  simple_reads line words.File = file_reads line
+  simple_reads line words.File =
+      fewer_reads (made_reads {S = File_parts} (optional_reads (seq_reads (sum_reads n m le) (seq_reads (position_reads n m le) (set_after words.In) (λ set ts rest s stop. ap (continues_position n m le) s.1.2)) (λ p ts rest s stop. position_stops n m le p.0 ts s.0 s.1 (ap continues_sum s.2.1.2))) (word words.The) (λ x ts rest s. no_the_sum ts x.0 s.0 s.1)) (λ p. file_statement line p.0 p.1.0 p.1.1))
+      continues_simple (λ ts stop. over_place ts (ended ts stop))
   simple_reads line words.Remove =
       fewer_reads (optional_reads (either_reads (end_item line) (this_reads line) continues_place (λ ts stop. (stop, stop)) (λ x ts rest s stop. sum_no_end ts (sum_begins_in ts s.0.0 s.2.0 s.2.1))) (word words.The) (removed_no_the line))
       continues_simple (λ ts stop. over_place ts (ended ts stop))
   simple_reads line words.Schedule = fewer_reads (either_reads (the_item line) (a_reads line) continues_sum (λ ts stop. (stop, stop)) (a_late line)) continues_simple (λ ts stop. (ended ts stop).no_sum)
-  simple_reads line words.Reset = reset_reads line
+  simple_reads line words.Reset =
+      fewer_reads (made_reads {S = Reset_parts} (optional_reads (marked_reads (word words.Totals) (marked_reads (word words.Of) (targets_in_reads (suc n) (suc m) (omega arith)))) (word words.The) (λ x ts rest s. ap (begins (word words.The)) s.1.2)) (reset_statement line))
+      continues_simple (λ ts stop. over_targets ts (ended ts stop))
   simple_reads line words.Print = fewer_reads (bind_reads (print_head_reads (suc n) (suc m) (omega arith)) (λ h. made_reads (pictures_reads (suc n) h.0) (λ ps. print_statement line h.1 ps)) (λ h x ts rest s stop. refl)) continues_simple (λ ts stop. refl)
-  simple_reads line words.Skip = skip_reads line
+  simple_reads line words.Skip =
+      fewer_reads (made_reads {S = Skip_parts} (closed_reads (sum_reads n m le) (optional_reads (expect_reads (suc n) (word words.Line)) (word words.Output) (λ u ts rest s. ap (begins (word words.Output)) s.2)) line_stops) (skip_statement line))
+      continues_simple (λ ts stop. refl)
   simple_reads line _ = none_reads
 
   pub simple_law : (line : Line) (w : Word) → nested_word w ≡ false → Reads (suc n) (simple_at line (suc n) w) (simple_at line (suc m) w) (Form_is n line w) continues_simple
