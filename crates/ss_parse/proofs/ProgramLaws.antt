@@ -111,12 +111,9 @@ module _ (k : ℕ) where
   unfolding variables
   variables_reads = seq_reads (names_reads k) (marked_reads (word words.As) (optional_class_reads (closed_reads (word_in_reads k mode_of_word) (expect_reads k (word words.Variable)) (λ ts rest s stop. refl)) classes.Article (λ mode ts rest s. ap (begins_class classes.Article) s.1.2.2 ∙ mode_no_article s.1.0 mode s.1.1))) (λ mode ts rest s stop. ap (λ (r : List Token). begins_more begins_name r || (continues_never r || continues_never r)) s.1.2)
 
-  definition_at_reads : (line : Line) → Reads k (definition_at line) (definition_at line) (Made (definition_tree line) (λ p. Word_is words.Define ▷ Variables_are p)) continues_never
-  unfolding definition_at
-  definition_at_reads line = made_reads (marked_reads (word words.Define) variables_reads) (definition_tree line)
-
   definition_reads : Reads k definition definition Definition_is continues_never
-  definition_reads = lined_reads definition_at_reads Definition_is (λ x ts rest s. subst (λ x. Definition_is x ts rest) s.1 (refl, s.2)) (λ x ts rest s. ((x.names, x.mode), (λ i. record { line = s.0 i; names = x.names; mode = x.mode }), s.1))
+  unfolding definition_at
+  definition_reads = lined_reads (λ line. made_reads (marked_reads (word words.Define) variables_reads) (definition_tree line)) Definition_is (λ x ts rest s. subst (λ x. Definition_is x ts rest) s.1 (refl, s.2)) (λ x ts rest s. ((x.names, x.mode), (λ i. record { line = s.0 i; names = x.names; mode = x.mode }), s.1))
 
   definition_item : Item k (begins (word words.Define)) definition definition Definition_is continues_never
   definition_item = item_of (begins (word words.Define)) definition_reads (λ ts x rest s. mark_begins (word words.Define) ts s.1.0 s.1.1) (λ ts x rest s. omega (arith, token_less (kinds.Word words.Define) ts s.1.0 s.1.1, variables_reads.shorter s.1.0 (x.names, x.mode) rest s.1.2))
