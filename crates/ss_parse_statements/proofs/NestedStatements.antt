@@ -17,7 +17,7 @@ use Rattle.ss_parse_expressions.proofs.Depth.{upto_if, upto_same, bounded_if}
 use Rattle.ss_parse_expressions.proofs.ReaderLaws.{Reads, Item, continues_never, Made, item_of, seq_reads, following_reads, marked_reads, closed_reads, expect_reads, bind_reads, apply_reads, made_reads, reshaped_reads, fewer_reads, optional_reads, maybe_list_reads, noisy_item, done_reads, either_reads}
 use Rattle.ss_parse_expressions.proofs.WordLaws.{word_in_reads, noisy_mark_reads, noisy_begins, noisy_less, noisy_stops}
 use Rattle.ss_parse_expressions.proofs.ConditionLaws.{In_condition, continues_condition, condition_in_reads}
-use Rattle.ss_parse_expressions.proofs.HeadLaws.{head_more, continues_head, continues_for, continues_guarded, for_reads, Guarded_parts, guarded_reads}
+use Rattle.ss_parse_expressions.proofs.HeadLaws.{continues_head, continues_for, continues_guarded, for_reads, Guarded_parts, guarded_reads}
 use Rattle.ss_parse_statements.specs.SpelledStatements.{noisy, Find_words, opening_word, May_be_governed, Statement_from, Statements_are, Else_part, Branches, Governed}
 use Rattle.ss_parse_statements.specs.ReadStatements.{form_word, begins_form, begins_statement, begins_find_if, statements_with, else_with, branches_with, do_with, governed_with, body_with, find_words, if_with, loop_with, find_if_with, found_with, find_with, for_with, guarded_with, nested_word, nested_at, statement_in}
 use Rattle.ss_parse_statements.proofs.StatementParts.{continues_simple}
@@ -272,12 +272,7 @@ module _ (k j : ℕ) (le : k ≤ j) (inner : Reads (suc k) (statement_in (suc k)
   tail_reads line h = either_reads (find_item line h) (loop_reads line (for_head h)) continues_statement (λ ts stop. (stop, stop)) (λ x ts rest s stop. loop_no_find line (for_head h) x ts rest s)
 
   word_no_head : (w : Word) (span : Span) (line : Line) (ts : List Token) → form_word w ≡ true → continues_head (token (kinds.Word w) span line ∷ ts) ≡ false
-  word_no_head w span line ts e =
-      let no = word_no_other w e in
-      let a : is (word words.And) (kinds.Word w) ≡ false = no.1 in
-      let b : is (word words.Or) (kinds.Word w) ≡ false = no.2 in
-      let c : head_more w ≡ false = no.4 in
-      rw (a, b, c) refl
+  word_no_head w span line ts e = both_false _ _ (word_no_other w e).4 (word_no_condition w span line ts e)
 
   tail_no_for : (line : Line) (h : HeadTree) (x : StatementTree) (ts rest : List Token) → For_tail line h x ts rest → continues_statement rest ≡ false → continues_for ts ≡ false
   tail_no_for line h x ts rest (inl (a, (b, w, s), t)) stop = noisy_stops continues_for (word words.Find) (λ span line ts. refl) (λ span span' line line' ts. refl) ts b w
