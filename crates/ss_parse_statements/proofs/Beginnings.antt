@@ -30,11 +30,11 @@ both_false a b e f = rw (e, f) refl
 
 -- where b holds, the word begins no value, and continues nothing
 abbrev pub Apart : Word → Bool → Type 0
-Apart w b = ((b && begins_value (kinds.Word w)) ≡ false) × ((b && is (word words.And) (kinds.Word w)) ≡ false) × ((b && is (word words.Or) (kinds.Word w)) ≡ false) × ((b && statement_more w) ≡ false) × ((b && head_more w) ≡ false) × ((b && is (word words.Do) (kinds.Word w)) ≡ false) × ((b && is (word words.Find) (kinds.Word w)) ≡ false) × ((b && is (word words.Else) (kinds.Word w)) ≡ false)
+Apart w b = ((b && begins_value (kinds.Word w)) ≡ false) × ((b && is (word words.And) (kinds.Word w)) ≡ false) × ((b && is (word words.Or) (kinds.Word w)) ≡ false) × ((b && statement_more w) ≡ false) × ((b && head_more w) ≡ false) × ((b && is (word words.Do) (kinds.Word w)) ≡ false) × ((b && is (word words.Find) (kinds.Word w)) ≡ false)
 
 word_apart : (w : Word) → Apart w (form_word w)
-word_apart words.Let = (refl, refl, refl, refl, refl, refl, refl, refl)
-word_apart _ = (refl, refl, refl, refl, refl, refl, refl, refl)
+word_apart words.Let = (refl, refl, refl, refl, refl, refl, refl)
+word_apart _ = (refl, refl, refl, refl, refl, refl, refl)
 
 -- a word that begins a statement begins nothing else
 pub word_no_other : (w : Word) → form_word w ≡ true → Apart w true
