@@ -17,7 +17,7 @@ pub use Rattle.ss_parse_expressions.proofs.Tools.{or_false}
 pub use Rattle.ss_parse_expressions.proofs.WordLaws.{fail_reads, item_made, items_reads, name_reads, names_reads, no_word, noisy_mark_reads, optional_class_reads, perhaps_listed_reads, word_in_reads}
 pub use Rattle.ss_parse_expressions.specs.Openers.{openers}
 pub use Rattle.ss_parse_expressions.specs.ReadWords.{begins_among, begins_class, begins_item, begins_name, begins_noisy}
-pub use Rattle.ss_parse_expressions.specs.Reading.{HasFailedReading, begins, begins_by, begins_more, comma, in_table, is, skip_separator, word}
+pub use Rattle.ss_parse_expressions.specs.Reading.{HasFailedReading, begins, begins_by, begins_more, comma, in_table, is, name_in_token, skip_separator, taken, word}
 unfoldable pub use Rattle.ss_parse_expressions.specs.Reading.{rows}
 pub use Rattle.ss_parse_expressions.specs.Shapes.{separated_list}
 pub use Rattle.ss_parse_expressions.specs.WordTables.{mode_of_word}

@@ -1,9 +1,10 @@
 -- Keys, and the orders of sets: what is read is spelled, and what is spelled is read. Before them, what continues a statement of a preamble.
-use Rattle.std.proofs.Common.{◌≡◌, ℕ, ◌<◌, Bool, true, false, ◌||◌, List, length, refl, sym, ap, subst, ◌∙◌, arith, inl, inr}
-use Rattle.ss_parse.proofs.Common.{apply_reads, begins, begins_among, begins_by, begins_class, begins_more, begins_noisy, comma, continues_never, done_reads, either_reads, expect_reads, fewer_reads, first_and_reads, following_reads, in_table, Item, item_of, Loop, loop_of, Made, marked_reads, NamedKey, noisy, or_false, Reads, reshaped_reads, seq_reads, Token, Word, word}
+use Rattle.std.proofs.Common.{◌≡◌, ℕ, ◌<◌, Bool, true, false, ◌||◌, List, length, drop, Ok, refl, sym, ap, subst, ◌∙◌, arith, inl, inr}
+use Rattle.ss_parse.proofs.Common.{apply_reads, begins, begins_among, begins_by, begins_class, begins_more, begins_noisy, comma, continues_never, done_reads, either_reads, expect_reads, fewer_reads, first_and_reads, following_reads, HasFailedReading, in_table, Item, item_of, Loop, loop_of, Made, marked_reads, name_in_token, NamedKey, noisy, or_false, ParseFailure, Reads, reshaped_reads, seq_reads, taken, Token, Word, word}
 use Rattle.ss_lex.specs.declared.word.Word.TheVariants as words
 use Rattle.ss_lex.specs.declared.token.TokenKind.TheVariants as kinds
 use Rattle.ss_tree.specs.Tree.{OrderTree, fifo, lifo, ranked}
+use Rattle.ss_parse_expressions.specs.declared.failure.ParseFailure.TheVariants as failures
 use Rattle.ss_parse_expressions.specs.declared.classes.WordClass.TheVariants as alike
 use Rattle.ss_parse_expressions.specs.Shapes.{Shape, ◌▷◌, nothing, either_shape, provided, Word_is, Name_is, Word_for}
 use Rattle.ss_parse_expressions.proofs.Marks.{token_less, no_skip}
@@ -131,3 +132,18 @@ module _ (k : ℕ) where
 
 pub keys_loop : Loop (begins_noisy (word words.Then)) then_key
 keys_loop = loop_of (then_item 0) refl
+
+-- a key after THEN BY, part by part
+pub then_key_read : (ts a b : List Token) (high : Bool) (n : List ℕ) → then_rank ts ≡ Ok (high, a) → taken name_in_token a ≡ Ok (n, drop 1 a) → b ≡ drop 1 a → then_key ts ≡ Ok (record { high = high; name = n }, b)
+unfolding then_key
+then_key_read ts a b high n e f g = rw (e, f, g) refl
+
+pub then_key_no_rank : (ts : List Token) (e : ParseFailure) → HasFailedReading e (then_rank ts) → HasFailedReading e (then_key ts)
+unfolding then_key
+then_key_no_rank ts failures.Memory f = tt
+then_key_no_rank ts (failures.Refused d left) f = rw f refl
+
+pub then_key_no_name : (ts a : List Token) (high : Bool) (e : ParseFailure) → then_rank ts ≡ Ok (high, a) → HasFailedReading e (taken name_in_token a) → HasFailedReading e (then_key ts)
+unfolding then_key
+then_key_no_name ts a high failures.Memory r f = tt
+then_key_no_name ts a high (failures.Refused d left) r f = rw (r, f) refl

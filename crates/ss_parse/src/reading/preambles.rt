@@ -7,7 +7,7 @@ ghost use Rattle.ss_lex.specs.declared.word.Word.TheVariants.{Entities, Variable
 ghost use Rattle.ss_parse_expressions.specs.ReadWords.{names};
 ghost use Rattle.ss_parse.specs.SpelledPreambles.{group_after};
 ghost use Rattle.ss_parse_expressions.specs.WordTables.{mode_of_word};
-ghost use Rattle.ss_parse.specs.ReadPreambles.{then_key, keys, statistic, found, clause, begins_clause, clause_list, clauses, ranking, order, notices_at, every_at, normally_at, system_at, define_end, define_at, priority_at, break_at, statistics_at, preamble_at, begins_preamble, preamble_in, preambles, whole_preamble};
+ghost use Rattle.ss_parse.specs.ReadPreambles.{then_rank, keys, statistic_kind, found, clause, begins_clause, clause_list, clauses, ranking, order, notices_at, every_at, normally_at, system_at, define_end, define_at, priority_at, break_at, statistics_at, preamble_at, begins_preamble, preamble_in, preambles, whole_preamble};
 
 use ss_base::{Line, Name};
 use ss_lex::{Symbol, Token, TokenKind, Word};
@@ -22,7 +22,8 @@ use ss_parse_expressions::words::{ModeWords, RankWords, StatisticWords};
 use ss_parse_statements::reading::Reading;
 use ss_parse_statements::statements::{begins_noisy, expect_noisy};
 use ss_tree::preamble::{
-    ClassKind, Clause, ModeWord, NamedKey, NamedStatistic, PreambleStatement, SetOrder, Weighting,
+    ClassKind, Clause, ModeWord, NamedKey, NamedStatistic, PreambleStatement, SetOrder,
+    StatisticKind, Weighting,
 };
 use std::alloc::Global;
 
@@ -55,16 +56,13 @@ fn clause(alloc: Global, tokens: &[Token]) -> Reading<'_, Clause>
     }
 }
 
-/// A key after THEN BY.
-#[tactic(auto, unfolding(crate::specs::ReadPreambles::then_key))]
-fn then_key(tokens: &[Token]) -> Reading<'_, NamedKey>
-    ensures { HasGivenReading (λ x. (x.0, x.1.now)) result (then_key tokens.now) }
+/// THEN BY, and HIGH or LOW.
+fn then_rank(tokens: &[Token]) -> Reading<'_, bool>
+    ensures { HasGivenReading (λ x. (x.0, x.1.now)) result (then_rank tokens.now) }
 {
     let rest = expect_noisy(tokens, Word::Then)?;
     let rest = expect_word(rest, Word::By)?;
-    let (high, rest) = take_word_of::<RankWords>(rest)?;
-    let name = name(rest)?;
-    Ok((NamedKey { high, name }, after_first(rest)))
+    take_word_of::<RankWords>(rest)
 }
 
 /// Keys, the further ones after THEN BY.
@@ -77,33 +75,41 @@ fn keys(alloc: Global, tokens: &[Token]) -> Reading<'_, Vec<NamedKey>>
     let mut all = alone(alloc, NamedKey { high, name: first })?;
     let mut rest = after_first(from);
     'more: while begins_noisy(rest, Word::Then) {
-        let (longer, after) = joined(all, then_key(rest))?;
-        all = longer;
-        rest = after;
+        let (higher, after_dropped) = then_rank(rest)?;
+        let next = name(after_dropped)?;
+        all.push(NamedKey {
+            high: higher,
+            name: next,
+        })?;
+        rest = after_first(after_dropped);
     }
     Ok((all, rest))
 }
 
-/// A statistic: its name, AS and its kind.
-#[tactic(auto, unfolding(crate::specs::ReadPreambles::statistic))]
-fn statistic(tokens: &[Token]) -> Reading<'_, NamedStatistic>
-    ensures { HasGivenReading (λ x. (x.0, x.1.now)) result (statistic tokens.now) }
+/// AS and the kind of a statistic.
+fn statistic_kind(tokens: &[Token]) -> Reading<'_, StatisticKind>
+    ensures { HasGivenReading (λ x. (x.0, x.1.now)) result (statistic_kind tokens.now) }
 {
-    let name = name(tokens)?;
-    let rest = expect_word(after_first(tokens), Word::As)?;
-    let (kind, rest) = take_word_of::<StatisticWords>(skip_word(rest, Word::The))?;
-    Ok((NamedStatistic { name, kind }, rest))
+    let rest = expect_word(tokens, Word::As)?;
+    take_word_of::<StatisticWords>(skip_word(rest, Word::The))
 }
 
 /// Statistics with separators between.
+#[tactic(auto, unfolding(crate::specs::ReadPreambles::statistic))]
 fn found(alloc: Global, tokens: &[Token]) -> Reading<'_, Vec<NamedStatistic>>
     ensures { HasGivenReading (λ x. (x.0.items, x.1.now)) result (found tokens.now) }
 {
-    let (first, mut rest) = statistic(tokens)?;
-    let mut all = alone(alloc, first)?;
+    let first = name(tokens)?;
+    let (kind, mut rest) = statistic_kind(after_first(tokens))?;
+    let mut all = alone(alloc, NamedStatistic { name: first, kind })?;
     'more: while begins_more_names(rest) {
-        let (longer, after) = joined(all, statistic(skip_separator(rest)))?;
-        all = longer;
+        let from = skip_separator(rest);
+        let next = name(from)?;
+        let (measure, after) = statistic_kind(after_first(from))?;
+        all.push(NamedStatistic {
+            name: next,
+            kind: measure,
+        })?;
         rest = after;
     }
     Ok((all, rest))
