@@ -195,9 +195,8 @@ module _ (k j : ℕ) (le : k ≤ j) (inner : Reads (suc k) (statement_in (suc k)
   body_to xs ts rest (inr (x, is, (a, n, (may, s)))) = inr (subst (λ xs. Governed (statement_row xs) k ts rest) is (may, (a, n, s)))
 
   governed_from : (row : StatementRow) (ts rest : List Token) → Governed row k ts rest → (xs : List StatementTree) × (statement_row xs ≡ row) × Governed_list xs ts rest
-  governed_from no_statement ts rest s = absurd s
   governed_from (and_statement x no_statement) ts rest (may, (a, n, s)) = (x ∷ [], refl, (x, refl, (a, n, (may, s))))
-  governed_from (and_statement x (and_statement y row)) ts rest s = absurd s
+  governed_from _ ts rest s = absurd s
 
   body_from : (row : StatementRow) (ts rest : List Token) → Body_is row ts rest → (xs : List StatementTree) × (statement_row xs ≡ row) × Body_list xs ts rest
   body_from row ts rest (inl (a, w, (b, s, v))) = let found = statements_from k row a b s in (found.0, found.1, inl (a, w, (b, found.2, v)))
@@ -213,9 +212,8 @@ module _ (k j : ℕ) (le : k ≤ j) (inner : Reads (suc k) (statement_in (suc k)
   -- what is false of DO, commas and words of statements is false of what a loop repeats
   false_at_body : (c : List Token → Bool) → ((span : Span) (line : Line) (ts : List Token) → c (token (kinds.Word words.Do) span line ∷ ts) ≡ false) → ((span span' : Span) (line line' : Line) (ts : List Token) → c (token (kind_of_mark comma) span line ∷ token (kinds.Word words.Do) span' line' ∷ ts) ≡ false) → ((span span' : Span) (line line' : Line) (w : Word) (ts : List Token) → form_word w ≡ true → is_some (guard_of w) ≡ false → c (token (kind_of_mark comma) span line ∷ token (kinds.Word w) span' line' ∷ ts) ≡ false) → ((w : Word) (span : Span) (line : Line) (ts : List Token) → form_word w ≡ true → is_some (guard_of w) ≡ false → c (token (kinds.Word w) span line ∷ ts) ≡ false) → (row : StatementRow) (ts rest : List Token) → Body_is row ts rest → c ts ≡ false
   false_at_body c on_do on_comma_do on_comma on_word row ts rest (inl (a, w, s)) = noisy_stops c (word words.Do) on_do on_comma_do ts a w
-  false_at_body c on_do on_comma_do on_comma on_word no_statement ts rest (inr s) = absurd s
   false_at_body c on_do on_comma_do on_comma on_word (and_statement x no_statement) ts rest (inr (may, (a, n, s))) = false_at_governed c on_comma on_word x ts rest (a, n, (may, s))
-  false_at_body c on_do on_comma_do on_comma on_word (and_statement x (and_statement y row)) ts rest (inr s) = absurd s
+  false_at_body c on_do on_comma_do on_comma on_word _ ts rest (inr s) = absurd s
 
   -- ---- FIND
 

@@ -252,8 +252,7 @@ module _ (n m : ℕ) (le : n ≤ m) where
   position_stops by_discipline ts a s stop = ap continues_sum s ∙ stop
   position_stops at_first ts a (span, line, e) stop = ap continues_sum e
   position_stops at_last ts a (span, line, e) stop = ap continues_sum e
-  position_stops (before x) ts a (b, (span, line, e), s) stop = ap continues_sum e
-  position_stops (after x) ts a (b, (span, line, e), s) stop = ap continues_sum e
+  position_stops _ ts a (b, (span, line, e), s) stop = ap continues_sum e
 
   -- ---- when a notice is due
 
@@ -283,9 +282,8 @@ module _ (n m : ℕ) (le : n ≤ m) where
       from now ts rest s = inr (inr (tt, refl, s))
 
   when_stops : (x : WhenTree) (ts rest : List Token) → When_is n x ts rest → (begins_class classes.Given ts || continues_sums ts) ≡ false
-  when_stops (at_time e) ts rest (a, (span, line, f), s) = rw f refl
-  when_stops (in_units e) ts rest (a, (span, line, f), s) = rw f refl
   when_stops now ts rest (span, line, f) = rw f refl
+  when_stops _ ts rest (a, (span, line, f), s) = rw f refl
 
   abbrev pub Due_is : List ExpressionTree × WhenTree → Shape
   Due_is p = perhaps_listed (One_of classes.Given) (Sum_is n) p.0 ▷ When_is n p.1
@@ -300,7 +298,6 @@ module _ (n m : ℕ) (le : n ≤ m) where
 
   -- what is given, and when, doesn't continue a CALLED and its expression
   pub due_stops : (p : List ExpressionTree × WhenTree) (ts rest : List Token) → Due_is p ts rest → (begins (word words.Called) ts || continues_sum ts) ≡ false
-  due_stops ([], at_time x) ts rest (a, e, (b, (span, line, f), s)) = rw (e, f) refl
-  due_stops ([], in_units x) ts rest (a, e, (b, (span, line, f), s)) = rw (e, f) refl
   due_stops ([], now) ts rest (a, e, (span, line, f)) = rw (e, f) refl
+  due_stops ([], _) ts rest (a, e, (b, (span, line, f), s)) = rw (e, f) refl
   due_stops (x ∷ xs, w) ts rest (a, (b, (v, held, at), s), t) = given_word_stops v ts b held at
