@@ -54,25 +54,18 @@ false_past_comma c on_comma on_word n x ts rest (a, inl e, (begins_at, (m, (span
 pub word_no_condition : (w : Word) (span : Span) (line : Line) (ts : List Token) → form_word w ≡ true → continues_condition (token (kinds.Word w) span line ∷ ts) ≡ false
 word_no_condition w span line ts e =
     let no = word_no_other w e in
-    let a : is (word words.And) (kinds.Word w) ≡ false = no.1 in
-    let b : is (word words.Or) (kinds.Word w) ≡ false = no.2 in
-    rw (a, b) refl
+    rw (no.1, no.2) refl
 
 word_no_simple : (w : Word) (span : Span) (line : Line) (ts : List Token) → form_word w ≡ true → continues_simple (token (kinds.Word w) span line ∷ ts) ≡ false
 word_no_simple w span line ts e =
     let no = word_no_other w e in
-    let a : is (word words.And) (kinds.Word w) ≡ false = no.1 in
-    let b : statement_more w ≡ false = no.3 in
-    rw (a, b) refl
+    rw (no.1, no.3) refl
 
 comma_no_simple : (w : Word) (span span' : Span) (line line' : Line) (ts : List Token) → form_word w ≡ true → continues_simple (token (kind_of_mark comma) span line ∷ token (kinds.Word w) span' line' ∷ ts) ≡ false
 comma_no_simple w span span' line line' ts e =
     let no = word_no_other w e in
-    let a : is (word words.And) (kinds.Word w) ≡ false = no.1 in
     let values = or_false (is_some (designator_of_word w)) (is_some (function_of w)) no.0 in
-    let b : is_some (designator_of_word w) ≡ false = values.0 in
-    let c : is_some (function_of w) ≡ false = values.1 in
-    rw (a, b, c) refl
+    rw (no.1, values.0, values.1) refl
 
 -- ---- an IF that isn't that of a FIND
 
