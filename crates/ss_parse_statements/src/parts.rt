@@ -47,13 +47,7 @@ pub fn positive(tokens: &[Token]) -> Reading<'_, u64>
     match tokens {
         [] => Err(syntax(tokens)),
         [first, rest @ ..] => match &first.kind {
-            TokenKind::Number(number) => {
-                if *number > 0 {
-                    Ok((number.unsigned_abs(), rest))
-                } else {
-                    Err(syntax(tokens))
-                }
-            }
+            TokenKind::Number(number) if *number > 0 => Ok((number.unsigned_abs(), rest)),
             _ => Err(syntax(tokens)),
         },
     }
