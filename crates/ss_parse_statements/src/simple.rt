@@ -14,7 +14,6 @@ use ss_base::Line;
 use ss_lex::{Token, Word};
 use ss_parse_expressions::classes::{WordClass, expect_class, skip_class};
 use ss_parse_expressions::expressions::sum;
-use ss_parse_expressions::failure::ParseFailure;
 use ss_parse_expressions::names::{name, names};
 use ss_parse_expressions::places::{target, targets};
 use ss_parse_expressions::steps::beside;
@@ -290,18 +289,14 @@ fn reset_form(alloc: Global, line: Line, tokens: &[Token], room: u8) -> Reading<
 
 /// The number of pictures of a PRINT, and its items.
 #[tactic(auto, unfolding(crate::specs::ReadSimple::print_head))]
-fn print_head(
-    alloc: Global,
-    tokens: &[Token],
-    room: u8,
-) -> Result<(u64, Vec<Expression>, &[Token]), ParseFailure>
-    ensures { HasGivenReading (λ x. ((x.0, map view_expression_tree x.1.items), x.2.now)) result (print_head room tokens.now) }
+fn print_head(alloc: Global, tokens: &[Token], room: u8) -> Reading<'_, (u64, Vec<Expression>)>
+    ensures { HasGivenReading (λ x. ((x.0.0, map view_expression_tree x.0.1.items), x.1.now)) result (print_head room tokens.now) }
 {
     let (count, rest) = positive(tokens)?;
     let rest = expect_word(rest, Word::Line)?;
     let (items, rest) = items(alloc, rest, room)?;
     let (items, rest) = beside(items, trigger(rest))?;
-    Ok((count, items, rest))
+    Ok(((count, items), rest))
 }
 
 /// The rest of a PRINT, after its first word.
@@ -309,7 +304,7 @@ fn print_head(
 fn print_form(alloc: Global, line: Line, tokens: &[Token], room: u8) -> Reading<'_, Statement>
     ensures { HasGivenReading (λ x. (view_statement_tree x.0, x.1.now)) result (print_at line room tokens.now) }
 {
-    let (count, items, rest) = print_head(alloc, tokens, room)?;
+    let ((count, items), rest) = print_head(alloc, tokens, room)?;
     let (items, (pictures, rest)) = beside(items, pictures(alloc, rest, count))?;
     let form = Statement::Print {
         line,
