@@ -1,6 +1,6 @@
 -- Parts of statements: what is read is spelled, and what is spelled is read.
 use Rattle.std.proofs.Common.{◌≡◌, ℕ, zero, suc, ◌<◌, ◌≤◌, pos, Bool, true, false, ◌||◌, List, [], ◌∷◌, length, Some, refl, ap, subst, ◌∙◌, arith, inl, inr}
-use Rattle.ss_parse_statements.proofs.Common.{has_word, Line, One_of, or_false, perhaps_listed, Reference_is, Sum_is, Target_is, the, Token, TokenKind, Word}
+use Rattle.ss_parse_statements.proofs.Common.{has_word, One_of, or_false, perhaps_listed, Reference_is, Sum_is, Target_is, the, Token, TokenKind, Word}
 use Rattle.ss_lex.specs.declared.word.Word.TheVariants as words
 use Rattle.ss_lex.specs.declared.token.TokenKind.TheVariants as kinds
 use Rattle.ss_tree.specs.Tree.{ExpressionTree, PositionTree, by_discipline, at_first, at_last, before, after, WhenTree, at_time, in_units, now}
