@@ -98,17 +98,14 @@ statement_no_find_if n x ts rest (begins_at, (m, (span, line, e), s)) =
       | inl there ↦
           let kind = is_true (word words.If) (kinds.Word (opening_word x)) there in
           let is : opening_word x ≡ words.If = cc in
-          let no : begins_outcome m ≡ false = within_condition n x m rest is s in
-          rw (e, there, no) refl
+          rw (e, there, within_condition n x m rest is s) refl
       | inr none ↦ rw (e, none) refl
     ]
 
 pub statement_stops : (n : ℕ) (x : StatementTree) (ts rest : List Token) → (noise ▷ Statement_from x n) ts rest → continues_statement ts ≡ false
 statement_stops n x ts rest (a, c, s) =
     let simple : continues_simple ts ≡ false = false_past_comma continues_simple (λ span span' line line' w r e. comma_no_simple w span span' line line' r e) (λ w span line r e. word_no_simple w span line r e) n x ts rest (a, c, s) in
-    let form : begins_find_if_form a ≡ false = statement_no_find_if n x a rest s in
-    let same : skip_comma ts ≡ a = skipped c in
-    both_false (begins_find_if ts) (continues_simple ts) (ap begins_find_if_form same ∙ form) simple
+    both_false (begins_find_if ts) (continues_simple ts) (ap begins_find_if_form (skipped c) ∙ statement_no_find_if n x a rest s) simple
   where
     skipped : noise ts a → skip_comma ts ≡ a
     skipped (inl e) = ap skip_comma e ∙ no_skip comma a (form_no_comma a (form_begins n x a rest s))

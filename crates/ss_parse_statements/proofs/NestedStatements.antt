@@ -226,9 +226,8 @@ module _ (k j : ℕ) (le : k ≤ j) (inner : Reads (suc k) (statement_in (suc k)
 
   find_if_starts : (ts a : List Token) (outcome : FindOutcome) (m : List Token) → noisy words.If ts a → Word_for outcome_of outcome a m → begins_find_if ts ≡ true
   find_if_starts ts a outcome m (b, c, (span, line, e)) (w, means, (span', line', f)) =
-      let same : skip_comma ts ≡ b = skipped c in
       let some : is_some (outcome_of w) ≡ true = rw means refl in
-      rw (same, e, f) some
+      rw (skipped c, e, f) some
     where
       skipped : noise ts b → skip_comma ts ≡ b
       skipped (inl g) = ap skip_comma (g ∙ e) ∙ sym e

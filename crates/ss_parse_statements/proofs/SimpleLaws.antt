@@ -139,9 +139,7 @@ module _ (n m : ℕ) (le : n ≤ m) where
   place_stops : (p : List ExpressionTree × WhenTree) (ts rest : List Token) → Due_is n m le p ts rest → continues_sum rest ≡ false → (begins (word words.Called) ts || continues_place ts) ≡ false
   place_stops p ts rest s stop =
       let both = or_false (begins (word words.Called) ts) (continues_sum ts) (due_stops n m le p ts rest s) in
-      let a : begins (word words.Called) ts ≡ false = both.0 in
-      let b : continues_place ts ≡ false = stops_place ts both.1 in
-      rw (a, b) refl
+      rw (both.0, stops_place ts both.1) refl
 
   a_reads : (line : Line) → Reads (suc n) (schedule_a_at line (suc n)) (schedule_a_at line (suc m)) (Made (λ p. schedule_new line p.0 p.1.0 p.1.1.0 p.1.1.1) A_parts) continues_sum
   unfolding schedule_a_at
