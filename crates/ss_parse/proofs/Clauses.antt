@@ -78,11 +78,9 @@ module _ (k : ℕ) where
           let no = clause_no_item w held in
           rw (e, f, no.1, no.0) refl
       go (inr (inl (span, line, e))) (w, m, held, (span', line', f)) =
-          let p : has_word alike.Article w ≡ false = (clause_no_item w held).0 in
-          rw (e, f, p) refl
+          rw (e, f, (clause_no_item w held).0) refl
       go (inr (inr (b, (span, line, e), (span'', line'', g)))) (w, m, held, (span', line', f)) =
-          let p : has_word alike.Article w ≡ false = (clause_no_item w held).0 in
-          rw (e, g, f, p) refl
+          rw (e, g, f, (clause_no_item w held).0) refl
 
   clause_list_reads : Reads k (list_of begins_clause clause) (list_of begins_clause clause) (separated_list Clause_is) (λ ts. begins_more begins_clause ts || (continues_items ts || continues_items ts))
   clause_list_reads = first_and_reads clause_reads (separated_item clause_reads begins_clause clause_begins clause_no_and) (λ ts x rest s. let no = clause_stops ts x rest s in (no, no)) clause_less
@@ -116,11 +114,7 @@ module _ (k : ℕ) where
           go _ e = refl
 
       stops : (ts : List Token) → continues_preamble ts ≡ false → (begins_clause ts || (begins_more begins_clause ts || (continues_items ts || continues_items ts))) ≡ false
-      stops ts stop =
-          let a : begins_clause ts ≡ false = no_clause ts stop in
-          let b : begins comma ts ≡ false = no_comma ts stop in
-          let c : begins (word words.And) ts ≡ false = over words.And refl ts stop in
-          rw (a, b, c) refl
+      stops ts stop = rw (no_clause ts stop, no_comma ts stop, over words.And refl ts stop) refl
 
 -- ---- the loop over clauses
 

@@ -140,7 +140,7 @@ module _ (k : ℕ) where
   parts_reads group line words.Temporary = fewer_reads (made_reads (expect_reads k (word words.Entities)) (λ u. temporary_entities line)) continues_preamble (λ ts stop. refl)
   parts_reads group line words.Event =
       fewer_reads (made_reads (marked_reads (word words.Notices) (perhaps_listed_reads (item_marked (word words.Include) (names_reads k)))) (event_notices line))
-      continues_preamble (λ ts stop. let a : begins (word words.Include) ts ≡ false = over words.Include refl ts stop in let b : (begins_more begins_name ts || (continues_never ts || continues_never ts)) ≡ false = over_list begins_name ts stop in both_false _ _ a b)
+      continues_preamble (λ ts stop. both_false _ _ (over words.Include refl ts stop) (over_list begins_name ts stop))
   parts_reads group line words.Every = every_reads group line
   parts_reads group line words.Normally = fewer_reads (made_reads (following_reads (noisy_mark_reads k (word words.Mode) refl) (marked_reads (word words.Is) (word_in_reads k mode_of_word)) (λ x ts rest s stop. refl)) (normally line)) continues_preamble (λ ts stop. refl)
   parts_reads group line words.The = fewer_reads (made_reads (marked_reads (word words.System) (marked_reads (word words.Owns) (items_reads k))) (system_owns line)) continues_preamble (λ ts stop. over_list begins_item ts stop)

@@ -47,9 +47,7 @@ kind_word w held ts stop = no_word kind_more w held ts (or_false (begins_among k
 
 kind_names : (w : Word) → kind_more w ≡ true → (ts : List Token) → continues_kind ts ≡ false → continues_listed w ts ≡ false
 kind_names w held ts stop =
-    let a : begins (word w) ts ≡ false = kind_word w held ts stop in
-    let b : begins_more begins_name ts ≡ false = (or_false (begins_among kind_more ts) (begins_more begins_name ts) stop).1 in
-    rw (a, b) refl
+    rw (kind_word w held ts stop, (or_false (begins_among kind_more ts) (begins_more begins_name ts) stop).1) refl
 
 module _ (k : ℕ) where
   names_after : (w : Word) → Reads k (maybe_list (begins (word w)) (after_dropped (expect (word w)) names)) (maybe_list (begins (word w)) (after_dropped (expect (word w)) names)) (perhaps_listed (Word_is w) Name_is) (continues_listed w)
