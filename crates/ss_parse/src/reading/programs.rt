@@ -95,17 +95,14 @@ fn section_kind(alloc: Global, word: Word, tokens: &[Token]) -> Reading<'_, Sect
 
 /// Names and their mode, after DEFINE.
 #[tactic(auto, unfolding(crate::specs::ReadPrograms::variables))]
-fn variables(
-    alloc: Global,
-    tokens: &[Token],
-) -> Result<(Vec<Name>, ModeWord, &[Token]), ParseFailure>
-    ensures { HasGivenReading (λ x. ((x.0.items, x.1), x.2.now)) result (variables tokens.now) }
+fn variables(alloc: Global, tokens: &[Token]) -> Reading<'_, (Vec<Name>, ModeWord)>
+    ensures { HasGivenReading (λ x. ((x.0.0.items, x.0.1), x.1.now)) result (variables tokens.now) }
 {
     let (names, rest) = names(alloc, tokens)?;
     let (names, rest) = beside(names, expect_word(rest, Word::As))?;
     let mode = variable_mode(skip_class(rest, WordClass::Article));
     let (names, (mode, rest)) = beside(names, mode)?;
-    Ok((names, mode, rest))
+    Ok(((names, mode), rest))
 }
 
 /// A DEFINE at the head of a section's body.
@@ -115,7 +112,7 @@ fn definition(alloc: Global, tokens: &[Token]) -> Reading<'_, LocalDefinition>
 {
     let line = line_at(tokens);
     let rest = expect_word(tokens, Word::Define)?;
-    let (names, mode, rest) = variables(alloc, rest)?;
+    let ((names, mode), rest) = variables(alloc, rest)?;
     Ok((LocalDefinition { line, names, mode }, rest))
 }
 
