@@ -120,7 +120,7 @@ module _ (k : ℕ) where
   pub order_no_mode : (x : OrderTree) (ts rest : List Token) → Order_is x ts rest → (begins_by (in_table mode_of_word) ts ≡ false) × (begins_class alike.Article ts ≡ false)
   order_no_mode fifo ts rest (a, inl e, (span, line, f)) = (ap (begins_by (in_table mode_of_word)) (e ∙ f), ap (begins_class alike.Article) (e ∙ f))
   order_no_mode fifo ts rest (a, inr (span, line, f), s) = (ap (begins_by (in_table mode_of_word)) f, ap (begins_class alike.Article) f)
-  order_no_mode _ ts rest (a, (span, line, f), s) = (ap (begins_by (in_table mode_of_word)) f, ap (begins_class alike.Article) f)
+  order_no_mode _ ts rest s = (ap (begins_by (in_table mode_of_word)) s.1.2, ap (begins_class alike.Article) s.1.2)
 
 -- ---- the loop over keys
 
