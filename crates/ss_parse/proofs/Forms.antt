@@ -8,7 +8,7 @@ use Rattle.ss_base.specs.declared.words.Weighting.TheVariants as weightings
 use Rattle.ss_tree.specs.Tree.{ClauseTree, PreambleTree, permanent_entities, temporary_entities, event_notices, every, normally, system_owns, define_variables, define_sets, priority_order, break_ties, statistics}
 use Rattle.ss_parse_expressions.specs.declared.classes.WordClass.TheVariants as alike
 use Rattle.ss_parse_expressions.specs.Shapes.{Shape, ◌▷◌, never, either_shape, Word_is, Name_is, Word_for, separated_list}
-use Rattle.ss_parse_expressions.specs.Reading.{word, begins, begins_by, expect, in_table, taken, closed, apply, begins_more}
+use Rattle.ss_parse_expressions.specs.Reading.{word, begins_by, expect, in_table, taken, closed, apply, begins_more}
 use Rattle.ss_parse_expressions.specs.ReadWords.{fail}
 use Rattle.ss_parse_expressions.proofs.Marks.{token_less, begins_table}
 use Rattle.ss_parse_statements.proofs.Beginnings.{both_false}
