@@ -140,23 +140,20 @@ module _ (ts : List Token) (over : Ended ts) where
   pub over_place : continues_place ts ≡ false
   over_place = stops_place ts over.no_sum
 
-  pub over_sums : continues_sums ts ≡ false
-  over_sums = let a : begins_more begins_sum ts ≡ false = over.no_sums in let b : continues_sum ts ≡ false = over.no_sum in rw (a, b) refl
-
   pub over_targets : continues_targets ts ≡ false
-  over_targets = let a : begins_more begins_target ts ≡ false = over.no_targets in let b : continues_place ts ≡ false = over_place in rw (a, b) refl
+  over_targets = rw (over.no_targets, over_place) refl
 
   pub over_given : (begins_class classes.Given ts || continues_sums ts) ≡ false
-  over_given = let a : begins_class classes.Given ts ≡ false = no_class statement_more classes.Given given_more ts over.no_more in let b : continues_sums ts ≡ false = over_sums in rw (a, b) refl
+  over_given = rw (no_class statement_more classes.Given given_more ts over.no_more, over.no_sums, over.no_sum) refl
 
   pub over_yielding : (begins (word words.Yielding) ts || continues_targets ts) ≡ false
-  over_yielding = let a : begins (word words.Yielding) ts ≡ false = over_word words.Yielding refl in let b : continues_targets ts ≡ false = over_targets in rw (a, b) refl
+  over_yielding = rw (over_word words.Yielding refl, over_targets) refl
 
   pub over_called : (begins (word words.Called) ts || continues_sum ts) ≡ false
-  over_called = let a : begins (word words.Called) ts ≡ false = over_word words.Called refl in let b : continues_sum ts ≡ false = over.no_sum in rw (a, b) refl
+  over_called = rw (over_word words.Called refl, over.no_sum) refl
 
   pub over_called_place : (begins (word words.Called) ts || continues_place ts) ≡ false
-  over_called_place = let a : begins (word words.Called) ts ≡ false = over_word words.Called refl in let b : continues_place ts ≡ false = over_place in rw (a, b) refl
+  over_called_place = rw (over_word words.Called refl, over_place) refl
 
 -- ---- parts of a statement, where so many levels may be opened after its first word
 
