@@ -228,20 +228,18 @@ fn every(
 ) -> Reading<'_, PreambleStatement>
     ensures { HasGivenReading (λ x. (view_preamble x.0, x.1.now)) result (every_at group line tokens.now) }
 {
-    match group {
-        None => Err(syntax(tokens)),
-        Some(kind) => {
-            let class = name(tokens)?;
-            let (clauses, rest) = clauses(alloc, after_first(tokens))?;
-            let statement = PreambleStatement::Every {
-                line,
-                kind,
-                class,
-                clauses,
-            };
-            Ok((statement, rest))
-        }
-    }
+    let Some(kind) = group else {
+        return Err(syntax(tokens));
+    };
+    let class = name(tokens)?;
+    let (clauses, rest) = clauses(alloc, after_first(tokens))?;
+    let statement = PreambleStatement::Every {
+        line,
+        kind,
+        class,
+        clauses,
+    };
+    Ok((statement, rest))
 }
 
 /// The rest of NORMALLY, after its first word.
