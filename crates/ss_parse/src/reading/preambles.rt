@@ -75,12 +75,9 @@ fn keys(alloc: Global, tokens: &[Token]) -> Reading<'_, Vec<NamedKey>>
     let mut all = alone(alloc, NamedKey { high, name: first })?;
     let mut rest = after_first(from);
     'more: while begins_noisy(rest, Word::Then) {
-        let (higher, after_dropped) = then_rank(rest)?;
-        let next = name(after_dropped)?;
-        all.push(NamedKey {
-            high: higher,
-            name: next,
-        })?;
+        let (high, after_dropped) = then_rank(rest)?;
+        let name = name(after_dropped)?;
+        all.push(NamedKey { high, name })?;
         rest = after_first(after_dropped);
     }
     Ok((all, rest))
@@ -104,12 +101,9 @@ fn found(alloc: Global, tokens: &[Token]) -> Reading<'_, Vec<NamedStatistic>>
     let mut all = alone(alloc, NamedStatistic { name: first, kind })?;
     'more: while begins_more_names(rest) {
         let from = skip_separator(rest);
-        let next = name(from)?;
-        let (measure, after) = statistic_kind(after_first(from))?;
-        all.push(NamedStatistic {
-            name: next,
-            kind: measure,
-        })?;
+        let name = name(from)?;
+        let (kind, after) = statistic_kind(after_first(from))?;
+        all.push(NamedStatistic { name, kind })?;
         rest = after;
     }
     Ok((all, rest))
