@@ -108,7 +108,7 @@ fn note_local(page: &mut Page<'_>, names: &Names, usages: &[Usage], usage: &Usag
 fn note_locals(page: &mut Page<'_>, names: &Names, usages: &[Usage]) -> Made<()> {
     let mut count: usize = 0;
     for usage in usages {
-        if count >= NOTED {
+        if count >= NOTED || page.is_full() {
             break;
         }
         if note_local(page, names, usages, usage)? {

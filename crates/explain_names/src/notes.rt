@@ -18,9 +18,6 @@ use ss_tree::program::{Program, SectionKind};
 use ss_tree::statement::Statement;
 use std::alloc::{AllocError, Global};
 
-/// The most bytes of notes after which no section more is noted, on a text of at most 100,000 bytes; a tenth for a longer one.
-const LONGEST: usize = 20_000;
-
 /// The most sections in which a STOP is looked for.
 const SECTIONS: usize = 2000;
 
@@ -288,10 +285,8 @@ fn add_of_section(page: &mut Page<'_>, read: &Read<'_>, number: usize, uses: &[U
 
 /// Adds notes on a program that breaks no rule. There are none where nothing looks like a mistake.
 pub fn add_notes(page: &mut Page<'_>, read: &Read<'_>) -> Made<()> {
-    let is_long = page.about.len() > 100_000;
-    let longest = if is_long { LONGEST / 10 } else { LONGEST };
     for (number, uses) in read.uses.iter().enumerate() {
-        if page.text.len() > longest {
+        if page.is_full() {
             return Ok(());
         }
         add_of_section(page, read, number, uses.as_slice())?;

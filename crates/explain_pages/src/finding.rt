@@ -36,8 +36,22 @@ impl Page<'_> {
         self.show(line)
     }
 
-    /// Adds a note on a line, and shows the line.
+    /// Whether there are notes enough: 20,000 bytes of them, or 400 on a text of more than 100,000 bytes, since a line is looked for
+    /// from the beginning of the text.
+    pub fn is_full(&self) -> bool {
+        let most: usize = if self.about.len() > 100_000 {
+            400
+        } else {
+            20_000
+        };
+        self.text.len() > most
+    }
+
+    /// Adds a note on a line, and shows the line. Nothing is added where there are notes enough.
     pub fn note(&mut self, line: u32, words: &str, parts: &[Part<'_>]) -> Made<()> {
+        if self.is_full() {
+            return Ok(());
+        }
         self.say("note: line {}", &[Line(line)])?;
         self.line(words, parts)?;
         self.show(line)
