@@ -1,12 +1,8 @@
 -- Lists that a loop builds, item by item.
-use Rattle.std.proofs.Common.{◌≡◌, ℕ, ◌+◌, ◌<◌, List, [], ◌∷◌, ◌++◌, length, get_or, map, take, refl, sym, ap, ◌∙◌, append_assoc, arith}
+use Rattle.std.proofs.Common.{◌≡◌, ℕ, ◌+◌, ◌<◌, List, [], ◌∷◌, ◌++◌, length, get_or, map, take, sym, ap, ◌∙◌, append_assoc, arith}
 use Rattle.std.specs.List.{flat_map}
-use Rattle.std.proofs.lemmas.List.{take_more, map-append, flat_map_more, length-map, length-take-le}
+use Rattle.std.proofs.lemmas.List.{append-nil, take_more, map-append, flat_map_more, length-map, length-take-le}
 use Rattle.ss_names_declarations.specs.Declarations.{flat_map_from}
-
-append_nil : {A : Type 0} (xs : List A) → xs ++ [] ≡ xs
-append_nil [] = refl
-append_nil (x ∷ xs) = ap (λ l. x ∷ l) (append_nil xs)
 
 -- the list so far, with the next item
 next_taken : {A B : Type 0} (f : A → B) (xs : List A) (i : ℕ) (x : A) → i < length xs → x ≡ get_or xs i x → map f (take (i + 1) xs) ≡ map f (take i xs) ++ f x ∷ []
@@ -25,7 +21,7 @@ adds_all view f xs i x start now after lt is e more =
 
 one_more : {A B : Type 0} (f : ℕ → A → List B) (n : ℕ) (xs : List A) (x : A) → flat_map_from f n (xs ++ x ∷ []) ≡ flat_map_from f n xs ++ f (n + length xs) x
 one_more f n [] x =
-    let k : n ≡ n + 0 = omega arith in append_nil (f n x) ∙ ap (λ m. f m x) k
+    let k : n ≡ n + 0 = omega arith in append-nil (f n x) ∙ ap (λ m. f m x) k
 one_more f n (y ∷ xs) x =
     let k : n + 1 + length xs ≡ n + length (y ∷ xs) = omega arith in
     ap (λ l. f n y ++ l) (one_more f (n + 1) xs x)
