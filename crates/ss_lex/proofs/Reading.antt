@@ -52,9 +52,6 @@ lines_fit (b ∷ bs) =
       | inr p ↦ rw p (omega (arith, ih, with_first_count b (lines_of bs)))
     ]
 
-pub text_none : (text : List ℕ) (count : ℕ) → count ≡ length (lines_of text) → IsTextReadTo text text 0 1 0 count []
-text_none text count e = record { counted = omega arith; place = omega arith; within = omega arith; found = λ more h. h; refused = λ refusal h. h }
-
 pub text_more : (text rest bytes after : List ℕ) (start line due due' count : ℕ) (tokens new : List Token) → IsTextReadTo text rest start line due count tokens → lines_of rest ≡ bytes ∷ lines_of after → length bytes + length after ≤ length rest → IsLineRead bytes start line (count - line) due tokens new due' → IsTextReadTo text after (start + (length bytes + 1)) (line + 1) due' count new
 text_more text rest bytes after start line due due' count tokens new r e n l =
     let one : length (lines_of rest) ≡ suc (length (lines_of after)) = ap length e in
@@ -72,12 +69,6 @@ text_more text rest bytes after start line due due' count tokens new r e n l =
           let s = l.refused (lines_of after) refusal left (subst (λ (k : ℕ). IsRefusedIn (lines_of after) due' new k (line + 1) refusal) next h) in
           r.refused refusal (subst (λ (ls : List (List ℕ)). IsRefusedIn ls due tokens start line refusal) (sym e) s);
     }
-
-pub text_refused : (text rest bytes after : List ℕ) (start line due count : ℕ) (tokens : List Token) (refusal : LexError) → IsTextReadTo text rest start line due count tokens → lines_of rest ≡ bytes ∷ lines_of after → IsLineRefused bytes start line (count - line) due tokens refusal → IsRefusedIn (lines_of text) 0 [] 0 1 refusal
-text_refused text rest bytes after start line due count tokens refusal r e l =
-    let one : length (lines_of rest) ≡ suc (length (lines_of after)) = ap length e in
-    let left : length (lines_of after) ≡ count - line = omega (arith, one, r.counted) in
-    r.refused refusal (subst (λ (ls : List (List ℕ)). IsRefusedIn ls due tokens start line refusal) (sym e) (l (lines_of after) left))
 
 pub text_all : (text rest : List ℕ) (start line due count : ℕ) (tokens : List Token) → IsTextReadTo text rest start line due count tokens → length rest ≡ 0 → AreTokensOf (lines_of text) 0 [] 0 1 tokens
 text_all text [] start line zero count tokens r e = subst (λ (ts : List Token). AreTokensOf (lines_of text) 0 [] 0 1 ts) (append-nil tokens) (r.found [] refl)
