@@ -2,7 +2,10 @@
 use Rattle.std.proofs.Common.{◌≡◌, ℕ, ◌+◌, ◌-◌, ◌<◌, ◌≤◌, Bool, true, false, ◌||◌, List, [], ◌∷◌, ◌++◌, length, nat_lt, Some, None, append_assoc, refl, sym, ap, ◌∙◌, arith, inl, inr}
 use Rattle.std.specs.Prelude.{if◌then◌else◌}
 use Rattle.std.specs.Option.{option_or}
+use Rattle.std.proofs.Math.Bool.{or-false}
 use Rattle.std.proofs.lemmas.List.{append-nil}
+use Rattle.std.proofs.lemmas.List.Folds.{list_any-append}
+use Rattle.std.proofs.lemmas.Bool.{cases_Bool, or_right}
 use Rattle.std.proofs.lemmas.Bool.Decides.{nat_tests}
 use Rattle.ss_lex.specs.declared.token.Token.{Token}
 use Rattle.ss_lex.specs.declared.meaning.PieceMeaning.{PieceMeaning}
@@ -13,7 +16,7 @@ use Rattle.ss_lex.specs.Pieces.{LinePiece, spelled, piece_meaning, fault_in, fir
 use Rattle.ss_lex.specs.Tokens.{token_in, tokens_of, is_trigger, has_kind, called_by}
 use Rattle.ss_lex.specs.Refusals.{refusal_for, means_trigger, has_trigger, to_trigger, cut_of, line_refusal}
 use Rattle.ss_lex.specs.Reading.{piece_at, pieces, step_of, trigger_step_of, due_from, refusal_from, fault_refusal, IsCodeLineRead, IsReadUpTo}
-use Rattle.ss_lex.proofs.Cutting.{which, cut_complete, pieces_sound, piece_place}
+use Rattle.ss_lex.proofs.Cutting.{cut_complete, pieces_sound, piece_place}
 
 -- ---- the piece at the front
 
@@ -64,27 +67,15 @@ trigger_here rest m after s t = ap has_trigger s.all ∙ ap (λ b. b || has_trig
 pub trigger_after : (rest : List ℕ) (m : PieceMeaning) (after : List ℕ) → Stepped rest m after → means_trigger m ≡ false → has_trigger (pieces rest) ≡ has_trigger (pieces after)
 trigger_after rest m after s t = ap has_trigger s.all ∙ ap (λ b. b || has_trigger (pieces after)) (ap means_trigger s.means ∙ t)
 
-any_append : (ts us : List Token) → has_kind is_trigger (ts ++ us) ≡ (has_kind is_trigger ts || has_kind is_trigger us)
-any_append [] us = refl
-any_append (t ∷ ts) us = ap (λ b. is_trigger t.kind || b) (any_append ts us) ∙ go (is_trigger t.kind) (has_kind is_trigger ts) (has_kind is_trigger us)
-  where
-    go : (a b c : Bool) → (a || (b || c)) ≡ ((a || b) || c)
-    go true b c = refl
-    go false b c = refl
-
 trigger_in : (m : PieceMeaning) (start line : ℕ) → has_kind is_trigger (token_in m start line) ≡ means_trigger m
 trigger_in meanings.Nothing start line = refl
-trigger_in (meanings.Token kind spelling) start line = go (is_trigger kind)
-  where
-    go : (b : Bool) → (b || false) ≡ b
-    go true = refl
-    go false = refl
+trigger_in (meanings.Token kind spelling) start line = or-false (is_trigger kind)
 trigger_in (meanings.Fault fault) start line = refl
 
 triggers_of : (ps : List LinePiece) (start line : ℕ) → has_kind is_trigger (tokens_of ps start line) ≡ has_trigger ps
 triggers_of [] start line = refl
 triggers_of (p ∷ ps) start line =
-    any_append (token_in (piece_meaning p) start line) (tokens_of ps (start + length (spelled p)) line)
+    list_any-append (λ (t : Token). is_trigger t.kind) (token_in (piece_meaning p) start line) (tokens_of ps (start + length (spelled p)) line)
     ∙ (λ i. trigger_in (piece_meaning p) start line i || triggers_of ps (start + length (spelled p)) line i)
 
 -- ---- how many pictures are called for
@@ -100,19 +91,19 @@ none_called before (t ∷ ts) e = go (is_trigger t.kind) (has_kind is_trigger ts
 
 from_none : (before ts : List Token) → due_from 0 before ts ≡ called_by before ts
 from_none before ts =
-    elim (which (has_kind is_trigger ts)) [
+    elim (cases_Bool (has_kind is_trigger ts)) [
       | inl p ↦ rw p refl
       | inr p ↦ rw p (sym (none_called before ts p))
     ]
 
 due_more : (due : ℕ) (before : List Token) (t : Token) (ts : List Token) → due_from due before (t ∷ ts) ≡ due_from (due_from due before (t ∷ [])) (before ++ t ∷ []) ts
 due_more due before t ts =
-    elim (which (has_kind is_trigger ts)) [
-      | inl q ↦ elim (which (is_trigger t.kind)) [
+    elim (cases_Bool (has_kind is_trigger ts)) [
+      | inl q ↦ elim (cases_Bool (is_trigger t.kind)) [
         | inl p ↦ rw (p, q) refl
         | inr p ↦ rw (p, q) refl
       ]
-      | inr q ↦ elim (which (is_trigger t.kind)) [
+      | inr q ↦ elim (cases_Bool (is_trigger t.kind)) [
         | inl p ↦ rw (p, q) refl
         | inr p ↦ rw (p, q) refl
       ]
@@ -129,16 +120,12 @@ no_trigger : (ps : List LinePiece) → has_trigger ps ≡ false → to_trigger p
 no_trigger [] e = refl
 no_trigger (p ∷ ps) e = rw e refl
 
-or_true : (a : Bool) → (a || true) ≡ true
-or_true true = refl
-or_true false = refl
-
 fault_to_trigger : (p : LinePiece) (ps : List LinePiece) → fault_in (piece_meaning p) ≡ None → first_fault (to_trigger (p ∷ ps)) ≡ first_fault (to_trigger ps)
 fault_to_trigger p ps e =
-    elim (which (has_trigger ps)) [
-      | inl q ↦ let t : (means_trigger (piece_meaning p) || has_trigger ps) ≡ true = ap (λ b. means_trigger (piece_meaning p) || b) q ∙ or_true (means_trigger (piece_meaning p)) in
+    elim (cases_Bool (has_trigger ps)) [
+      | inl q ↦ let t : (means_trigger (piece_meaning p) || has_trigger ps) ≡ true = or_right (means_trigger (piece_meaning p)) (has_trigger ps) q in
           ap (λ (b : Bool). first_fault (if b then p ∷ to_trigger ps else [])) t ∙ ap (λ o. option_or o (first_fault (to_trigger ps))) e
-      | inr q ↦ elim (which (means_trigger (piece_meaning p))) [
+      | inr q ↦ elim (cases_Bool (means_trigger (piece_meaning p))) [
         | inl r ↦ ap (λ (b : Bool). first_fault (if (b || has_trigger ps) then p ∷ to_trigger ps else [])) r ∙ ap (λ o. option_or o (first_fault (to_trigger ps))) e
         | inr r ↦ (λ i. first_fault (if (r i || q i) then p ∷ to_trigger ps else [])) ∙ ap first_fault (sym (no_trigger ps q))
       ]
@@ -189,11 +176,11 @@ read_fault bytes start line left old tokens rest after at due m fault r s f =
     let p = s.piece in
     let ps = pieces after in
     let is : piece_meaning p ≡ meanings.Fault fault = s.means ∙ fault_at m fault f in
-    sym r.first ∙ (ap (λ l. refusal_from due tokens l at line left) s.all ∙ elim (which (has_trigger ps)) [
+    sym r.first ∙ (ap (λ l. refusal_from due tokens l at line left) s.all ∙ elim (cases_Bool (has_trigger ps)) [
       | inl q ↦ rw (is, q, is) refl
       | inr q ↦
           let none : has_kind is_trigger (tokens_of ps (at + length (spelled p)) line) ≡ false = triggers_of ps (at + length (spelled p)) line ∙ q in
-          elim (which (nat_lt left due)) [
+          elim (cases_Bool (nat_lt left due)) [
             | inl c ↦ rw (is, q, none, c) refl
             | inr c ↦ rw (is, q, none, c) refl
           ]

@@ -1,20 +1,12 @@
 -- A line is cut in one way.
-use Rattle.std.proofs.Common.{◌≡◌, ℕ, zero, suc, ◌+◌, ◌<◌, ◌≤◌, Bool, true, false, ◌||◌, ◌&&◌, ◌==◌, List, [], ◌∷◌, ◌++◌, length, length-append, append_assoc, take, drop, refl, sym, ap, ◌∙◌, arith, inl, inr, ◌⊎◌}
+use Rattle.std.proofs.Common.{◌≡◌, ℕ, zero, suc, ◌+◌, ◌<◌, ◌≤◌, Bool, true, false, ◌&&◌, ◌==◌, List, [], ◌∷◌, ◌++◌, length, length-append, append_assoc, take, drop, refl, sym, ap, ◌∙◌, arith, inl, inr}
 use Rattle.std.specs.List.{prefix_len, list_all}
-use Rattle.std.proofs.lemmas.Bool.{eqb-true}
+use Rattle.std.proofs.lemmas.Bool.{and_parts, cases_Bool, eqb-true, or_cases}
 use Rattle.std.proofs.lemmas.List.{append-nil, drop-drop}
 use Rattle.ss_base.specs.Values.{is_text_byte}
 use Rattle.ss_lex.specs.Pieces.{LinePiece, separator, word, comment, open_comment, quoted, open_quoted, single, spelled, is_blank_byte, is_word_part, is_quotable, is_apostrophe, passes_first, opens_comment, is_apart, is_closed, IsFitBefore, IsCutInto, piece_meaning}
 use Rattle.ss_lex.specs.declared.meaning.PieceMeaning.TheVariants as meanings
 use Rattle.ss_lex.specs.Reading.{longer, comment_at, quotable_length, quoted_at, run_length, piece_at, cut, pieces}
-
-pub which : (b : Bool) → (b ≡ true) ⊎ (b ≡ false)
-which true = inl refl
-which false = inr refl
-
-pub both_true : (a b : Bool) → (a && b) ≡ true → (a ≡ true) × (b ≡ true)
-both_true true b e = (refl, e)
-both_true false b e = absurd cc
 
 -- ---- the longest run of bytes that pass a test
 
@@ -24,7 +16,7 @@ run_splits test (b ∷ bs) =
     let h = run_splits test bs in
     let k : 1 + prefix_len test bs ≡ suc (prefix_len test bs) = omega arith in
     let all : list_all test (take (prefix_len test bs) bs) ≡ true = h.1 in
-    elim (which (test b)) [
+    elim (cases_Bool (test b)) [
       | inl p ↦ rw (p, k) (ap (λ l. b ∷ l) h.0, rw (p, all) refl, h.2)
       | inr p ↦ rw p (refl, refl, p)
     ]
@@ -33,7 +25,7 @@ run_again : (test : ℕ → Bool) (w rest : List ℕ) → list_all test w ≡ tr
 run_again test [] [] all stop = (refl, refl)
 run_again test [] (r ∷ rest) all stop = rw stop (refl, refl)
 run_again test (b ∷ w) rest all stop =
-    elim (which (test b)) [
+    elim (cases_Bool (test b)) [
       | inl p ↦
           let tail : list_all test w ≡ true = rw p at all in
           let h = run_again test w rest tail stop in
@@ -79,7 +71,7 @@ comment_is (b ∷ bs) = go (opens_comment b bs) refl (comment_is bs)
   where
     go : (t : Bool) → opens_comment b bs ≡ t → IsComment bs (comment_at bs) → IsComment (b ∷ bs) (comment_at (b ∷ bs))
     go true e ih =
-        let two = both_true (is_apostrophe b) (passes_first is_apostrophe bs) e in
+        let two = and_parts (is_apostrophe b) (passes_first is_apostrophe bs) e in
         rw e (λ i. eqb-true b 39 two.0 i ∷ apostrophe_there bs two.1 i, refl)
     go false e ih = rw e (longer_comment b bs (comment_at bs) e ih)
 
@@ -125,9 +117,9 @@ closed_is [] = refl
 closed_is (b ∷ bs) =
     let ih = closed_is bs in
     let k : 1 + quotable_length bs ≡ suc (quotable_length bs) = omega arith in
-    elim (which (b == 34)) [
+    elim (cases_Bool (b == 34)) [
       | inl q ↦ let stop = quote_not_quotable b q in rw (stop, q) refl
-      | inr q ↦ elim (which (is_text_byte b)) [
+      | inr q ↦ elim (cases_Bool (is_text_byte b)) [
         | inl t ↦ let go : is_quotable b ≡ true = rw (q, t) refl in rw (go, k, q, t) ih
         | inr t ↦ let stop : is_quotable b ≡ false = rw t refl in rw (stop, q, t) refl
       ]
@@ -140,7 +132,7 @@ quote_there (c ∷ bs) e = ap (λ x. x ∷ bs) (eqb-true c 34 e)
 quoted_fits : (bs : List ℕ) → (34 ∷ bs ≡ spelled (quoted_at bs).0 ++ (quoted_at bs).1) × IsFitBefore (quoted_at bs).0 (quoted_at bs).1
 unfolding quoted_at
 quoted_fits bs =
-    elim (which (is_closed bs)) [
+    elim (cases_Bool (is_closed bs)) [
       | inl e ↦
           let h = run_splits is_quotable bs in
           let there = quote_there (drop (quotable_length bs) bs) (sym (closed_is bs) ∙ e) in
@@ -179,19 +171,19 @@ open_again body rest f b bs e =
 piece_fits : (b : ℕ) (bs : List ℕ) → ((b ∷ bs) ≡ spelled (piece_at b bs).0 ++ (piece_at b bs).1) × IsFitBefore (piece_at b bs).0 (piece_at b bs).1
 unfolding piece_at
 piece_fits b bs =
-    elim (which (is_blank_byte b)) [
+    elim (cases_Bool (is_blank_byte b)) [
       | inl p ↦ rw p (refl, p)
       | inr p ↦
-          elim (which (is_word_part b)) [
+          elim (cases_Bool (is_word_part b)) [
             | inl q ↦ let h = run_splits is_word_part bs in let all : list_all is_word_part (take (run_length bs) bs) ≡ true = h.1 in rw (p, q) (ap (λ l. b ∷ l) h.0, (omega arith, rw (q, all) refl, h.2))
             | inr q ↦
-                elim (which (opens_comment b bs)) [
+                elim (cases_Bool (opens_comment b bs)) [
                   | inl r ↦
-                      let two = both_true (is_apostrophe b) (passes_first is_apostrophe bs) r in
+                      let two = and_parts (is_apostrophe b) (passes_first is_apostrophe bs) r in
                       let h = comment_fits (drop 1 bs) (comment_at (drop 1 bs)) (comment_is (drop 1 bs)) in
                       rw (p, q, r) ((λ i. eqb-true b 39 two.0 i ∷ apostrophe_there bs two.1 i) ∙ h.0, h.1)
                   | inr r ↦
-                      elim (which (b == 34)) [
+                      elim (cases_Bool (b == 34)) [
                         | inl s ↦ let h = quoted_fits bs in rw (p, q, r, s) (ap (λ x. x ∷ bs) (eqb-true b 34 s) ∙ h.0, h.1)
                         | inr s ↦ rw (p, q, r, s) (refl, (p, q, s, r))
                       ]
@@ -219,20 +211,16 @@ cut_sound (suc n) (b ∷ bs) le =
     ((piece_at b bs).1, h.0, h.1, cut_sound n (piece_at b bs).1 (omega (arith, ap length h.0, length-append (spelled (piece_at b bs).0) (piece_at b bs).1)))
 
 -- what fits is cut
-or_true : (a b : Bool) → (a || b) ≡ true → (a ≡ true) ⊎ (b ≡ true)
-or_true true b e = inl refl
-or_true false b e = inr e
-
 word_no_separator : (b : ℕ) → is_word_part b ≡ true → is_blank_byte b ≡ false
 word_no_separator b w = go (is_blank_byte b) refl
   where
     go : (t : Bool) → is_blank_byte b ≡ t → is_blank_byte b ≡ false
     go false e = e
     go true e =
-        elim (or_true (b == 32) _ e) [
+        elim (or_cases (b == 32) _ e) [
           | inl p ↦ let wrong = rw (eqb-true b 32 p) at w in absurd cc
           | inr p ↦
-              elim (or_true (b == 9) _ p) [
+              elim (or_cases (b == 9) _ p) [
                 | inl q ↦ let wrong = rw (eqb-true b 9 q) at w in absurd cc
                 | inr q ↦ let wrong = rw (eqb-true b 13 q) at w in absurd cc
               ]
@@ -254,7 +242,7 @@ piece_again (single c) rest f b bs e =
 piece_again (word []) rest f b bs e = absurd (omega (arith, f.0))
 piece_again (word (c ∷ w)) rest f b bs e =
     let h = split b c bs (w ++ rest) e in
-    let all = both_true (is_word_part c) (list_all is_word_part w) f.1 in
+    let all = and_parts (is_word_part c) (list_all is_word_part w) f.1 in
     let u : is_word_part b ≡ true = ap is_word_part h.0 ∙ all.0 in
     let t : is_blank_byte b ≡ false = word_no_separator b u in
     let g = run_again is_word_part w rest all.1 f.2 in

@@ -1,5 +1,6 @@
 -- Reading a text, from line to line.
 use Rattle.std.proofs.Common.{◌≡◌, ℕ, zero, suc, ◌+◌, ◌-◌, ◌<◌, ◌≤◌, max, List, [], ◌∷◌, ◌++◌, length, Option, Some, MatchOption, append_assoc, refl, sym, ap, subst, ◌∙◌, arith, inl, inr, ◌==◌}
+use Rattle.std.proofs.lemmas.Bool.{cases_Bool}
 use Rattle.std.proofs.lemmas.List.{append-nil}
 use Rattle.ss_lex.specs.declared.token.Token.{Token}
 use Rattle.ss_lex.specs.declared.error.LexError.{LexError}
@@ -7,7 +8,7 @@ use Rattle.ss_lex.specs.Lines.{with_byte_first, lines_of}
 use Rattle.ss_lex.specs.Tokens.{tokens_of, called_by, picture_at, AreTokensOf}
 use Rattle.ss_lex.specs.Refusals.{line_refusal, IsRefusedIn}
 use Rattle.ss_lex.specs.Reading.{pieces, IsCodeLineRead, IsLineRead, IsLineRefused, IsTextReadTo}
-use Rattle.ss_lex.proofs.Cutting.{which, pieces_sound}
+use Rattle.ss_lex.proofs.Cutting.{pieces_sound}
 use Rattle.ss_lex.proofs.TextLaws.{line_sound}
 
 -- ---- a line
@@ -47,7 +48,7 @@ pub lines_fit : (text : List ℕ) → length (lines_of text) ≤ length text
 lines_fit [] = omega arith
 lines_fit (b ∷ bs) =
     let ih = lines_fit bs in
-    elim (which (b == 10)) [
+    elim (cases_Bool (b == 10)) [
       | inl p ↦ rw p (omega (arith, ih))
       | inr p ↦ rw p (omega (arith, ih, with_first_count b (lines_of bs)))
     ]
