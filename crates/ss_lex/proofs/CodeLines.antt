@@ -68,9 +68,8 @@ pub trigger_after : (rest : List ℕ) (m : PieceMeaning) (after : List ℕ) → 
 trigger_after rest m after s t = ap has_trigger s.all ∙ ap (λ b. b || has_trigger (pieces after)) (ap means_trigger s.means ∙ t)
 
 trigger_in : (m : PieceMeaning) (start line : ℕ) → has_kind is_trigger (token_in m start line) ≡ means_trigger m
-trigger_in meanings.Nothing start line = refl
 trigger_in (meanings.Token kind spelling) start line = or-false (is_trigger kind)
-trigger_in (meanings.Fault fault) start line = refl
+trigger_in _ start line = refl
 
 triggers_of : (ps : List LinePiece) (start line : ℕ) → has_kind is_trigger (tokens_of ps start line) ≡ has_trigger ps
 triggers_of [] start line = refl
@@ -110,9 +109,8 @@ due_more due before t ts =
     ]
 
 due_step : (due : ℕ) (before : List Token) (m : PieceMeaning) (start line : ℕ) (ts : List Token) → due_from due before (token_in m start line ++ ts) ≡ due_from (due_from due before (token_in m start line)) (before ++ token_in m start line) ts
-due_step due before meanings.Nothing start line ts = ap (λ l. due_from due l ts) (sym (append-nil before))
 due_step due before (meanings.Token kind spelling) start line ts = due_more due before (record { kind = kind; span = record { start = start; length = spelling }; line = record { 0 = line } }) ts
-due_step due before (meanings.Fault fault) start line ts = ap (λ l. due_from due l ts) (sym (append-nil before))
+due_step due before _ start line ts = ap (λ l. due_from due l ts) (sym (append-nil before))
 
 -- ---- what is wrong first
 
@@ -166,9 +164,8 @@ read_more bytes start line left old tokens new rest after at due due' m r s f n 
     }
 
 fault_at : (m : PieceMeaning) (f : Fault) → fault_in m ≡ Some f → m ≡ meanings.Fault f
-fault_at meanings.Nothing f e = absurd cc
-fault_at (meanings.Token kind spelling) f e = absurd cc
 fault_at (meanings.Fault g) f e = cc
+fault_at _ f e = absurd cc
 
 pub read_fault : (bytes : List ℕ) (start line left : ℕ) (old tokens : List Token) (rest after : List ℕ) (at due : ℕ) (m : PieceMeaning) (fault : Fault) → IsReadUpTo bytes start line left old tokens rest at due → Stepped rest m after → fault_in m ≡ Some fault → line_refusal (pieces bytes) old start line left ≡ Some (fault_refusal fault after due left line)
 unfolding refusal_from

@@ -54,11 +54,7 @@ longer_comment b bs (comment body, rest) e (h, k) =
 longer_comment b bs (open_comment body, rest) e (h, k, r) =
     let test : opens_comment b body ≡ false = ap (λ l. opens_comment b l) (sym h) ∙ e in
     (ap (λ l. b ∷ l) h, rw test k, r)
-longer_comment b bs (separator c, rest) e h = absurd h
-longer_comment b bs (word w, rest) e h = absurd h
-longer_comment b bs (quoted w, rest) e h = absurd h
-longer_comment b bs (open_quoted w, rest) e h = absurd h
-longer_comment b bs (single c, rest) e h = absurd h
+longer_comment b bs (_, rest) e h = absurd h
 
 apostrophe_there : (bs : List ℕ) → passes_first is_apostrophe bs ≡ true → bs ≡ 39 ∷ drop 1 bs
 apostrophe_there [] e = absurd cc
@@ -78,11 +74,7 @@ comment_is (b ∷ bs) = go (opens_comment b bs) refl (comment_is bs)
 comment_fits : (bs : List ℕ) (c : LinePiece × List ℕ) → IsComment bs c → (39 ∷ 39 ∷ bs ≡ spelled c.0 ++ c.1) × IsFitBefore c.0 c.1
 comment_fits bs (comment body, rest) (h, k) = (ap (λ l. 39 ∷ 39 ∷ l) (h ∙ sym (append_assoc body (39 ∷ 39 ∷ []) rest)), k)
 comment_fits bs (open_comment body, rest) (h, k, r) = (ap (λ l. 39 ∷ 39 ∷ l) (h ∙ sym (append-nil body) ∙ ap (λ r. body ++ r) (sym r)), (k, r))
-comment_fits bs (separator c, rest) h = absurd h
-comment_fits bs (word w, rest) h = absurd h
-comment_fits bs (quoted w, rest) h = absurd h
-comment_fits bs (open_quoted w, rest) h = absurd h
-comment_fits bs (single c, rest) h = absurd h
+comment_fits bs (_, rest) h = absurd h
 
 -- what fits is read
 comment_again : (body rest : List ℕ) → is_apart (body ++ 39 ∷ []) ≡ true → comment_at (body ++ 39 ∷ 39 ∷ rest) ≡ (comment body, rest)
@@ -193,13 +185,8 @@ piece_fits b bs =
 
 -- a piece takes a byte at least
 spelled_some : (p : LinePiece) (rest : List ℕ) → IsFitBefore p rest → 0 < length (spelled p)
-spelled_some (separator b) rest f = omega arith
 spelled_some (word w) rest f = f.0
-spelled_some (comment body) rest f = omega arith
-spelled_some (open_comment body) rest f = omega arith
-spelled_some (quoted body) rest f = omega arith
-spelled_some (open_quoted body) rest f = omega arith
-spelled_some (single b) rest f = omega arith
+spelled_some _ rest f = omega arith
 
 cut_sound : (n : ℕ) (bytes : List ℕ) → length bytes ≤ n → IsCutInto (cut n bytes) bytes
 cut_sound zero [] le = refl
@@ -285,12 +272,7 @@ comment_ends r b bs e t = rw (e, t) refl
 
 longer_rest : (b : ℕ) (c : LinePiece × List ℕ) → (longer b c).1 ≡ c.1
 longer_rest b (comment body, rest) = refl
-longer_rest b (open_comment body, rest) = refl
-longer_rest b (separator c, rest) = refl
-longer_rest b (word w, rest) = refl
-longer_rest b (quoted w, rest) = refl
-longer_rest b (open_quoted w, rest) = refl
-longer_rest b (single c, rest) = refl
+longer_rest b (_, rest) = refl
 
 pub comment_goes_on : (r : List ℕ) (b : ℕ) (bs : List ℕ) → r ≡ b ∷ bs → opens_comment b bs ≡ false → (comment_at r).1 ≡ (comment_at bs).1
 unfolding comment_at
@@ -303,11 +285,7 @@ comment_stops r e = rw e refl
 means_nothing : (bs : List ℕ) (c : LinePiece × List ℕ) → IsComment bs c → piece_meaning c.0 ≡ meanings.Nothing
 means_nothing bs (comment body, rest) h = refl
 means_nothing bs (open_comment body, rest) h = refl
-means_nothing bs (separator c, rest) h = refl
-means_nothing bs (word w, rest) h = absurd h
-means_nothing bs (quoted w, rest) h = absurd h
-means_nothing bs (open_quoted w, rest) h = absurd h
-means_nothing bs (single c, rest) h = absurd h
+means_nothing bs (_, rest) h = absurd h
 
 pub comment_meaning : (bs : List ℕ) → piece_meaning (comment_at bs).0 ≡ meanings.Nothing
 comment_meaning bs = means_nothing bs (comment_at bs) (comment_is bs)
