@@ -1,7 +1,7 @@
 -- A line is cut in one way.
 use Rattle.std.proofs.Common.{◌≡◌, ℕ, zero, suc, ◌+◌, ◌<◌, ◌≤◌, Bool, true, false, ◌&&◌, ◌==◌, List, [], ◌∷◌, ◌++◌, length, length-append, append_assoc, take, drop, refl, sym, ap, ◌∙◌, arith, inl, inr}
 use Rattle.std.specs.List.{prefix_len, list_all}
-use Rattle.std.proofs.lemmas.Bool.{and_parts, cases_Bool, eqb-true, or_cases}
+use Rattle.std.proofs.lemmas.Bool.{and_parts, cases_Bool, eqb-true, false_from_ne_true, or_cases}
 use Rattle.std.proofs.lemmas.List.{append-nil, drop-drop}
 use Rattle.ss_base.specs.Values.{is_text_byte}
 use Rattle.ss_lex.specs.Pieces.{LinePiece, separator, word, comment, open_comment, quoted, open_quoted, single, spelled, is_blank_byte, is_word_part, is_quotable, is_apostrophe, passes_first, opens_comment, is_apart, is_closed, IsFitBefore, IsCutInto, piece_meaning}
@@ -56,9 +56,9 @@ longer_comment b bs (open_comment body, rest) e (h, k, r) =
     (ap (λ l. b ∷ l) h, rw test k, r)
 longer_comment b bs (_, rest) e h = absurd h
 
-apostrophe_there : (bs : List ℕ) → passes_first is_apostrophe bs ≡ true → bs ≡ 39 ∷ drop 1 bs
-apostrophe_there [] e = absurd cc
-apostrophe_there (c ∷ bs) e = ap (λ x. x ∷ bs) (eqb-true c 39 e)
+byte_there : (c : ℕ) (bs : List ℕ) → passes_first (λ b. b == c) bs ≡ true → bs ≡ c ∷ drop 1 bs
+byte_there c [] e = absurd cc
+byte_there c (b ∷ bs) e = ap (λ x. x ∷ bs) (eqb-true b c e)
 
 comment_is : (bs : List ℕ) → IsComment bs (comment_at bs)
 unfolding comment_at
@@ -68,7 +68,7 @@ comment_is (b ∷ bs) = go (opens_comment b bs) refl (comment_is bs)
     go : (t : Bool) → opens_comment b bs ≡ t → IsComment bs (comment_at bs) → IsComment (b ∷ bs) (comment_at (b ∷ bs))
     go true e ih =
         let two = and_parts (is_apostrophe b) (passes_first is_apostrophe bs) e in
-        rw e (λ i. eqb-true b 39 two.0 i ∷ apostrophe_there bs two.1 i, refl)
+        rw e (λ i. eqb-true b 39 two.0 i ∷ byte_there 39 bs two.1 i, refl)
     go false e ih = rw e (longer_comment b bs (comment_at bs) e ih)
 
 comment_fits : (bs : List ℕ) (c : LinePiece × List ℕ) → IsComment bs c → (39 ∷ 39 ∷ bs ≡ spelled c.0 ++ c.1) × IsFitBefore c.0 c.1
@@ -117,17 +117,13 @@ closed_is (b ∷ bs) =
       ]
     ]
 
-quote_there : (bs : List ℕ) → passes_first (λ b. b == 34) bs ≡ true → bs ≡ 34 ∷ drop 1 bs
-quote_there [] e = absurd cc
-quote_there (c ∷ bs) e = ap (λ x. x ∷ bs) (eqb-true c 34 e)
-
 quoted_fits : (bs : List ℕ) → (34 ∷ bs ≡ spelled (quoted_at bs).0 ++ (quoted_at bs).1) × IsFitBefore (quoted_at bs).0 (quoted_at bs).1
 unfolding quoted_at
 quoted_fits bs =
     elim (cases_Bool (is_closed bs)) [
       | inl e ↦
           let h = run_splits is_quotable bs in
-          let there = quote_there (drop (quotable_length bs) bs) (sym (closed_is bs) ∙ e) in
+          let there = byte_there 34 (drop (quotable_length bs) bs) (sym (closed_is bs) ∙ e) in
           let after : drop 1 (drop (quotable_length bs) bs) ≡ drop (quotable_length bs + 1) bs = drop-drop 1 (quotable_length bs) bs in
           let split : bs ≡ take (quotable_length bs) bs ++ 34 ∷ drop (quotable_length bs + 1) bs = h.0 ∙ ap (λ l. take (quotable_length bs) bs ++ l) (there ∙ ap (λ l. 34 ∷ l) after) in
           rw e (ap (λ l. 34 ∷ l) (split ∙ sym (append_assoc (take (quotable_length bs) bs) (34 ∷ []) (drop (quotable_length bs + 1) bs))), h.1)
@@ -173,7 +169,7 @@ piece_fits b bs =
                   | inl r ↦
                       let two = and_parts (is_apostrophe b) (passes_first is_apostrophe bs) r in
                       let h = comment_fits (drop 1 bs) (comment_at (drop 1 bs)) (comment_is (drop 1 bs)) in
-                      rw (p, q, r) ((λ i. eqb-true b 39 two.0 i ∷ apostrophe_there bs two.1 i) ∙ h.0, h.1)
+                      rw (p, q, r) ((λ i. eqb-true b 39 two.0 i ∷ byte_there 39 bs two.1 i) ∙ h.0, h.1)
                   | inr r ↦
                       elim (cases_Bool (b == 34)) [
                         | inl s ↦ let h = quoted_fits bs in rw (p, q, r, s) (ap (λ x. x ∷ bs) (eqb-true b 34 s) ∙ h.0, h.1)
@@ -199,19 +195,14 @@ cut_sound (suc n) (b ∷ bs) le =
 
 -- what fits is cut
 word_no_separator : (b : ℕ) → is_word_part b ≡ true → is_blank_byte b ≡ false
-word_no_separator b w = go (is_blank_byte b) refl
-  where
-    go : (t : Bool) → is_blank_byte b ≡ t → is_blank_byte b ≡ false
-    go false e = e
-    go true e =
-        elim (or_cases (b == 32) _ e) [
-          | inl p ↦ let wrong = rw (eqb-true b 32 p) at w in absurd cc
-          | inr p ↦
-              elim (or_cases (b == 9) _ p) [
-                | inl q ↦ let wrong = rw (eqb-true b 9 q) at w in absurd cc
-                | inr q ↦ let wrong = rw (eqb-true b 13 q) at w in absurd cc
-              ]
-        ]
+word_no_separator b w =
+    false_from_ne_true (is_blank_byte b) (λ e. elim (or_cases (b == 32) _ e) [
+      | inl p ↦ (let wrong = rw (eqb-true b 32 p) at w in absurd cc)
+      | inr p ↦ elim (or_cases (b == 9) _ p) [
+        | inl q ↦ (let wrong = rw (eqb-true b 9 q) at w in absurd cc)
+        | inr q ↦ (let wrong = rw (eqb-true b 13 q) at w in absurd cc)
+      ]
+    ])
 
 piece_again : (p : LinePiece) (rest : List ℕ) → IsFitBefore p rest → (b : ℕ) (bs : List ℕ) → b ∷ bs ≡ spelled p ++ rest → piece_at b bs ≡ (p, rest)
 unfolding piece_at
