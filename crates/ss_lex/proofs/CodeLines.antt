@@ -61,11 +61,8 @@ trigger_step rest after t some e =
     let after_is : after ≡ (step_of rest).1 = ap (λ (p : Bool × List ℕ). p.1) e in
     (stepped rest (step_of rest).0 after some (ap (λ l. ((step_of rest).0, l)) after_is), ap (λ (p : Bool × List ℕ). p.0) e)
 
-pub trigger_here : (rest : List ℕ) (m : PieceMeaning) (after : List ℕ) → Stepped rest m after → means_trigger m ≡ true → has_trigger (pieces rest) ≡ true
-trigger_here rest m after s t = ap has_trigger s.all ∙ ap (λ b. b || has_trigger (pieces after)) (ap means_trigger s.means ∙ t)
-
-pub trigger_after : (rest : List ℕ) (m : PieceMeaning) (after : List ℕ) → Stepped rest m after → means_trigger m ≡ false → has_trigger (pieces rest) ≡ has_trigger (pieces after)
-trigger_after rest m after s t = ap has_trigger s.all ∙ ap (λ b. b || has_trigger (pieces after)) (ap means_trigger s.means ∙ t)
+pub trigger_next : (rest : List ℕ) (m : PieceMeaning) (after : List ℕ) {t : Bool} → Stepped rest m after → means_trigger m ≡ t → has_trigger (pieces rest) ≡ (t || has_trigger (pieces after))
+trigger_next rest m after s e = ap has_trigger s.all ∙ ap (λ b. b || has_trigger (pieces after)) (ap means_trigger s.means ∙ e)
 
 trigger_in : (m : PieceMeaning) (start line : ℕ) → has_kind is_trigger (token_in m start line) ≡ means_trigger m
 trigger_in (meanings.Token kind spelling) start line = or-false (is_trigger kind)
