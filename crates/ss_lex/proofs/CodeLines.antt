@@ -5,7 +5,7 @@ use Rattle.std.specs.Option.{option_or}
 use Rattle.std.proofs.Math.Bool.{or-false}
 use Rattle.std.proofs.lemmas.List.{append-nil}
 use Rattle.std.proofs.lemmas.List.Folds.{list_any-append}
-use Rattle.std.proofs.lemmas.Bool.{cases_Bool, or_right}
+use Rattle.std.proofs.lemmas.Bool.{cases_Bool, or_parts}
 use Rattle.std.proofs.lemmas.Bool.Decides.{nat_tests}
 use Rattle.ss_lex.specs.declared.token.Token.{Token}
 use Rattle.ss_lex.specs.declared.meaning.PieceMeaning.{PieceMeaning}
@@ -78,12 +78,9 @@ triggers_of (p ∷ ps) start line =
 
 none_called : (before ts : List Token) → has_kind is_trigger ts ≡ false → called_by before ts ≡ 0
 none_called before [] e = refl
-none_called before (t ∷ ts) e = go (is_trigger t.kind) (has_kind is_trigger ts) refl refl e
-  where
-    go : (a b : Bool) → is_trigger t.kind ≡ a → has_kind is_trigger ts ≡ b → (a || b) ≡ false → called_by before (t ∷ ts) ≡ 0
-    go true b p q e = absurd cc
-    go false true p q e = absurd cc
-    go false false p q e = rw (q, p) refl
+none_called before (t ∷ ts) e =
+    let two = or_parts (is_trigger t.kind) (has_kind is_trigger ts) e in
+    rw (two.1, two.0) refl
 
 from_none : (before ts : List Token) → due_from 0 before ts ≡ called_by before ts
 from_none before ts =
@@ -117,13 +114,9 @@ no_trigger (p ∷ ps) e = rw e refl
 
 fault_to_trigger : (p : LinePiece) (ps : List LinePiece) → fault_in (piece_meaning p) ≡ None → first_fault (to_trigger (p ∷ ps)) ≡ first_fault (to_trigger ps)
 fault_to_trigger p ps e =
-    elim (cases_Bool (has_trigger ps)) [
-      | inl q ↦ let t : (means_trigger (piece_meaning p) || has_trigger ps) ≡ true = or_right (means_trigger (piece_meaning p)) (has_trigger ps) q in
-          ap (λ (b : Bool). first_fault (if b then p ∷ to_trigger ps else [])) t ∙ ap (λ o. option_or o (first_fault (to_trigger ps))) e
-      | inr q ↦ elim (cases_Bool (means_trigger (piece_meaning p))) [
-        | inl r ↦ ap (λ (b : Bool). first_fault (if (b || has_trigger ps) then p ∷ to_trigger ps else [])) r ∙ ap (λ o. option_or o (first_fault (to_trigger ps))) e
-        | inr r ↦ (λ i. first_fault (if (r i || q i) then p ∷ to_trigger ps else [])) ∙ ap first_fault (sym (no_trigger ps q))
-      ]
+    elim (cases_Bool (means_trigger (piece_meaning p) || has_trigger ps)) [
+      | inl t ↦ ap (λ (b : Bool). first_fault (if b then p ∷ to_trigger ps else [])) t ∙ ap (λ o. option_or o (first_fault (to_trigger ps))) e
+      | inr t ↦ ap (λ (b : Bool). first_fault (if b then p ∷ to_trigger ps else [])) t ∙ ap first_fault (sym (no_trigger ps (or_parts (means_trigger (piece_meaning p)) (has_trigger ps) t).1))
     ]
 
 refusal_step : (due : ℕ) (before : List Token) (p : LinePiece) (ps : List LinePiece) (at line left : ℕ) → fault_in (piece_meaning p) ≡ None → refusal_from due before (p ∷ ps) at line left ≡ refusal_from (due_from due before (token_in (piece_meaning p) at line)) (before ++ token_in (piece_meaning p) at line) ps (at + length (spelled p)) line left
