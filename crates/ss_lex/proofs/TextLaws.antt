@@ -1,6 +1,5 @@
 -- The tokens of lines: there is one list of them, or one refusal.
 use Rattle.std.proofs.Common.{◌≡◌, ℕ, zero, suc, ◌+◌, ◌≤◌, Bool, true, false, ◌||◌, List, [], ◌∷◌, ◌++◌, length, nat_lt, Option, Some, None, MatchOption, refl, sym, ap, subst, ◌∙◌, arith, inl, inr, ◌⊎◌}
-use Rattle.std.specs.Prelude.{if◌then◌else◌}
 use Rattle.std.specs.Option.{option_or}
 use Rattle.std.proofs.lemmas.Bool.{cond_both}
 use Rattle.std.proofs.lemmas.Bool.Decides.{nat_tests}
@@ -39,7 +38,7 @@ none_to_trigger [] e = refl
 none_to_trigger (p ∷ ps) e =
     let two = or_none (fault_in (piece_meaning p)) (first_fault ps) e in
     let ih = none_to_trigger ps two.1 in
-    cond_both (means_trigger (piece_meaning p) || has_trigger ps) _ _ (λ qs. first_fault qs ≡ None) (λ _. λ i. option_or (two.0 i) (ih i)) (λ _. refl)
+    cond_both (means_trigger (piece_meaning p) || has_trigger ps) (p ∷ to_trigger ps) [] (λ qs. first_fault qs ≡ None) (λ _. λ i. option_or (two.0 i) (ih i)) (λ _. refl)
 
 line_none : (ps : List LinePiece) (before : List Token) (start line left : ℕ) → first_fault ps ≡ None → called_by before (tokens_of ps start line) ≤ left → line_refusal ps before start line left ≡ None
 line_none ps before start line left f le =
