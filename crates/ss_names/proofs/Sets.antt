@@ -8,7 +8,7 @@ use Rattle.std.proofs.lemmas.Map.Keys.{IsDistinct-push}
 use Rattle.ss_base.specs.declared.layout.Owner.{Owner}
 use Rattle.ss_names_declarations.specs.NameTable.{entry_if, is_one_of, place_among, place_in, same_name, value_for, with_name}
 use Rattle.ss_names_declarations.specs.declared.declaration.Declared.TheVariants as declared
-use Rattle.ss_names_declarations.proofs.Entries.{number, value_append}
+use Rattle.ss_names_declarations.proofs.Entries.{number, or_assoc, or_none, value_append}
 use Rattle.ss_names.specs.declared.entry.DefinedOrder.{DefinedOrder}
 use Rattle.ss_names.specs.Entries.{given_by, member_by, order_by, owner_entry, owner_named, set_names, set_by, set_of}
 use Rattle.ss_names.specs.Filling.{merged, merged_if, merged_with, no_set, set_part, with_set}
@@ -71,14 +71,6 @@ sets_folded known names (e ∷ es) d =
     ap (λ sets. fold (with_set names) sets es) (set_changed known names e d) ∙ sets_folded (said_more known e) names es d
 
 -- ---- the properties of a set in the end
-
-or_none : {A : Type 0} (o : Option A) → option_or o None ≡ o
-or_none None = refl
-or_none (Some x) = refl
-
-or_assoc : {A : Type 0} (a b c : Option A) → option_or (option_or a b) c ≡ option_or a (option_or b c)
-or_assoc None b c = refl
-or_assoc (Some x) b c = refl
 
 merged_none : (s : Set) → merged s no_set ≡ s
 merged_none s = λ i. record { owner = or_none s.owner i; member = or_none s.member i; order = or_none s.order i }

@@ -154,11 +154,11 @@ module _ {V : Type 0} where
   value_append (e ∷ xs) ys name =
       ap (cond (same_name name e.0) (Some e.1)) (value_append xs ys name) ∙ one_or_more (same_name name e.0) e.1 (value_for xs name) (value_for ys name)
 
-  or_assoc : (a b c : Option V) → option_or (option_or a b) c ≡ option_or a (option_or b c)
+  pub or_assoc : (a b c : Option V) → option_or (option_or a b) c ≡ option_or a (option_or b c)
   or_assoc None b c = refl
   or_assoc (Some a) b c = refl
 
-  or_none : (a : Option V) → option_or a None ≡ a
+  pub or_none : (a : Option V) → option_or a None ≡ a
   or_none None = refl
   or_none (Some a) = refl
 
