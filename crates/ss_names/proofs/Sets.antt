@@ -1,15 +1,13 @@
 -- The sets: the properties of each, by one declaration after the other.
 use Rattle.std.proofs.Common.{◌≡◌, ℕ, suc, Bool, true, false, cond, List, [], ◌∷◌, ◌++◌, length, map, Option, Some, None, option_map, refl, sym, ap, ◌∙◌}
-use Rattle.ss_names.proofs.Common.{ClassKind, Declaration, Declared, fold-append, length-set, NameBytes, option_or, Set, slice_get}
+use Rattle.ss_names.proofs.Common.{ClassKind, Declaration, Declared, fold-append, length-set, NameBytes, Set, slice_get}
 use Rattle.std.specs.List.{AllByRecursion as Every, IsDistinct, fold, position_or_len}
 use Rattle.std.proofs.Math.Path.{fun_ext}
 use Rattle.std.proofs.lemmas.Cmp.{nat_list_eq_equiv}
 use Rattle.std.proofs.lemmas.Map.Keys.{IsDistinct-push}
-use Rattle.ss_base.specs.declared.layout.Owner.{Owner}
 use Rattle.ss_names_declarations.specs.NameTable.{entry_if, is_one_of, place_among, place_in, same_name, value_for, with_name}
 use Rattle.ss_names_declarations.specs.declared.declaration.Declared.TheVariants as declared
 use Rattle.ss_names_declarations.proofs.Entries.{number, or_assoc, or_none, value_append}
-use Rattle.ss_names.specs.declared.entry.DefinedOrder.{DefinedOrder}
 use Rattle.ss_names.specs.Entries.{given_by, member_by, order_by, owner_entry, owner_named, set_names, set_by, set_of}
 use Rattle.ss_names.specs.Filling.{merged, merged_if, merged_with, no_set, set_part, with_set}
 

@@ -1,5 +1,5 @@
 -- Names that are short enough to be spellings.
-use Rattle.std.proofs.Common.{◌≡◌, ℕ, ◌≤◌, Bool, true, false, ◌&&◌, nat_le, nat_lt, List, [], ◌∷◌, length, get_or, OnOk, OnErr, Result, Ok, Err, Option, Some, None, refl, sym, ap, ◌∙◌, true≢false}
+use Rattle.std.proofs.Common.{◌≡◌, ℕ, ◌≤◌, Bool, true, false, ◌&&◌, nat_le, nat_lt, List, [], ◌∷◌, length, get_or, OnOk, OnErr, Result, Ok, Err, Option, Some, None, refl, sym, ap, ◌∙◌, true≢false, arith}
 use Rattle.std.specs.Prelude.{if◌then◌else◌}
 use Rattle.ss_names.proofs.Common.{entry_beside, keys_append, keys_of, NameBytes, place_in, same_name, value_for, with_first}
 use Rattle.std.specs.Cmp.Lexicographic.{bytes_decides}
