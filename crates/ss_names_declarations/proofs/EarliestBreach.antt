@@ -41,32 +41,17 @@ module _ {E : Type 0} (order : E → ℕ × ℕ) where
   -- the earlier of three, from either end
   of_three : (a : Option E) (b c : E) → earlier_of order a (earlier order (Some b) c) ≡ earlier order (earlier order a b) c
   of_three None b c = of_none (earlier order (Some b) c)
-  of_three (Some x) b c = ⊎_elim
-      (λ (cb : precedes (order c) (order b) ≡ true). ⊎_elim
-      (λ (bx : precedes (order b) (order x) ≡ true).
-      let cx : precedes (order c) (order x) ≡ true = onward (order c) (order b) (order x) cb bx in
-      ap (λ (t : Bool). earlier_of order (Some x) (cond t (Some c) (Some b))) cb ∙
-      ap (λ (t : Bool). cond t (Some c) (Some x)) cx ∙
-      sym (ap (λ (t : Bool). cond t (Some c) (Some b)) cb) ∙
-      sym (ap (λ (t : Bool). earlier order (cond t (Some b) (Some x)) c) bx))
-      (λ (bx : precedes (order b) (order x) ≡ false).
-      ap (λ (t : Bool). earlier_of order (Some x) (cond t (Some c) (Some b))) cb ∙
-      sym (ap (λ (t : Bool). earlier order (cond t (Some b) (Some x)) c) bx))
-      (cases_Bool (precedes (order b) (order x))))
-      (λ (cb : precedes (order c) (order b) ≡ false). ⊎_elim
-      (λ (bx : precedes (order b) (order x) ≡ true).
-      ap (λ (t : Bool). earlier_of order (Some x) (cond t (Some c) (Some b))) cb ∙
-      ap (λ (t : Bool). cond t (Some b) (Some x)) bx ∙
-      sym (ap (λ (t : Bool). cond t (Some c) (Some b)) cb) ∙
-      sym (ap (λ (t : Bool). earlier order (cond t (Some b) (Some x)) c) bx))
-      (λ (bx : precedes (order b) (order x) ≡ false).
-      let cx : precedes (order c) (order x) ≡ false = chain (order c) (order b) (order x) cb bx in
-      ap (λ (t : Bool). earlier_of order (Some x) (cond t (Some c) (Some b))) cb ∙
-      ap (λ (t : Bool). cond t (Some b) (Some x)) bx ∙
-      sym (ap (λ (t : Bool). cond t (Some c) (Some x)) cx) ∙
-      sym (ap (λ (t : Bool). earlier order (cond t (Some b) (Some x)) c) bx))
-      (cases_Bool (precedes (order b) (order x))))
-      (cases_Bool (precedes (order c) (order b)))
+  of_three (Some x) b c =
+      elim (cases_Bool (precedes (order c) (order b))) [
+        | inl cb ↦ elim (cases_Bool (precedes (order b) (order x))) [
+          | inl bx ↦ (let cx : precedes (order c) (order x) ≡ true = onward (order c) (order b) (order x) cb bx in rw (bx, cb, cx) refl)
+          | inr bx ↦ rw (bx, cb) refl
+        ]
+        | inr cb ↦ elim (cases_Bool (precedes (order b) (order x))) [
+          | inl bx ↦ rw (cb, bx, cb) refl
+          | inr bx ↦ (let cx : precedes (order c) (order x) ≡ false = chain (order c) (order b) (order x) cb bx in rw (cb, bx, cx) refl)
+        ]
+      ]
 
   of_three_maybe : (a : Option E) (b : E) (o : Option E) → earlier_of order (earlier order a b) o ≡ earlier_of order a (earlier_of order (Some b) o)
   of_three_maybe a b None = refl
