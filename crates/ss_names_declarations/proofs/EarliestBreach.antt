@@ -73,12 +73,9 @@ module _ {E : Type 0} (order : E → ℕ × ℕ) where
 
   -- ---- the least
 
-  -- one breach more, where it comes before what was found, or where it does not
-  taken : (found y : E) (ys : List E) → precedes (order y) (order found) ≡ true → fold (earlier order) (Some y) ys ≡ fold (earlier order) (Some found) (y ∷ ys)
+  -- one breach more, which comes before what was found or does not
+  taken : (found y : E) (ys : List E) {t : Bool} → precedes (order y) (order found) ≡ t → fold (earlier order) (cond t (Some y) (Some found)) ys ≡ fold (earlier order) (Some found) (y ∷ ys)
   taken found y ys t = sym (ap (λ (c : Bool). fold (earlier order) (cond c (Some y) (Some found)) ys) t)
-
-  kept : (found y : E) (ys : List E) → precedes (order y) (order found) ≡ false → fold (earlier order) (Some found) ys ≡ fold (earlier order) (Some found) (y ∷ ys)
-  kept found y ys t = sym (ap (λ (c : Bool). fold (earlier order) (cond c (Some y) (Some found)) ys) t)
 
   least_from : (found : E) (xs : List E) (b : E) → fold (earlier order) (Some found) xs ≡ Some b → (precedes (order found) (order b) ≡ false) × AllByRecursion (λ c. precedes (order c) (order b) ≡ false) xs
   least_from found [] b e = (subst (λ x. precedes (order found) (order x) ≡ false) (same_Some found b e) (not_itself (order found)), tt)
@@ -87,7 +84,7 @@ module _ {E : Type 0} (order : E → ℕ × ℕ) where
       let r = least_from y ys b (taken found y ys t ∙ e) in
       (chain (order found) (order y) (order b) (one_way (order y) (order found) t) r.0, (r.0, r.1)))
       (λ (t : precedes (order y) (order found) ≡ false).
-      let r = least_from found ys b (kept found y ys t ∙ e) in
+      let r = least_from found ys b (taken found y ys t ∙ e) in
       (r.0, (chain (order y) (order found) (order b) t r.0, r.1)))
       (cases_Bool (precedes (order y) (order found)))
 
@@ -107,7 +104,7 @@ module _ {E : Type 0} (order : E → ℕ × ℕ) where
       let low : (order b).0 ≤ (order y).0 = no_later y ys b (taken found y ys t ∙ e) in
       let high : (order y).0 ≤ (order found).0 = rule_first (order y) (order found) t in
       omega arith)
-      (λ (t : precedes (order y) (order found) ≡ false). no_later found ys b (kept found y ys t ∙ e))
+      (λ (t : precedes (order y) (order found) ≡ false). no_later found ys b (taken found y ys t ∙ e))
       (cases_Bool (precedes (order y) (order found)))
 
   abbrev reaches : E → E → Bool
@@ -173,7 +170,7 @@ module _ {E : Type 0} (order : E → ℕ × ℕ) where
       let other : is_of_rule order b found ≡ false = of_other_rule (is_of_rule order b found) (is_of_rule order b y) b found y (filter (is_of_rule order b) ys) refl refl low t sorted in
       passed b found y ys other (first_from y ys b rest there))
       (λ (t : precedes (order y) (order found) ≡ false).
-      let there : fold (earlier order) (Some found) ys ≡ Some b = kept found y ys t ∙ e in
+      let there : fold (earlier order) (Some found) ys ≡ Some b = taken found y ys t ∙ e in
       let low : (order b).0 ≤ (order found).0 = no_later found ys b there in
       let rest : is_in_order order (filter (is_of_rule order b) (found ∷ ys)) ≡ true = without_second (is_of_rule order b found) (is_of_rule order b y) found y (filter (is_of_rule order b) ys) sorted in
       passed_second b found y ys low t (first_from found ys b rest there))
