@@ -13,8 +13,9 @@ use Rattle.ss_lex.proofs.TextLaws.{line_sound}
 
 -- ---- a line
 
-pub code_read : (bytes : List ℕ) (start line left : ℕ) (old new : List Token) (due : ℕ) → IsCodeLineRead bytes start line left old new due → IsLineRead bytes start line left 0 old new due
-code_read bytes start line left old new due r =
+pub code_read : (bytes : List ℕ) (start line left due : ℕ) (old new : List Token) (due' : ℕ) → due ≡ 0 → IsCodeLineRead bytes start line left old new due' → IsLineRead bytes start line left due old new due'
+code_read bytes start line left (suc n) old new due z r = absurd (omega arith)
+code_read bytes start line left zero old new due z r =
     let here = tokens_of (pieces bytes) start line in
     let sound = line_sound (pieces bytes) old start line left r.sound in
     record {
@@ -23,8 +24,9 @@ code_read bytes start line left old new due r =
       refused = λ lines refusal n h. (pieces bytes, pieces_sound bytes, subst (λ (o : Option LexError). MatchOption o (IsRefusedIn lines (called_by old here) (old ++ here) (start + length bytes + 1) (line + 1) refusal) (λ first. refusal ≡ first)) (sym (ap (line_refusal (pieces bytes) old start line) n ∙ r.sound)) (subst (λ (p : ℕ × List Token). IsRefusedIn lines p.0 p.1 (start + length bytes + 1) (line + 1) refusal) (λ i. (r.called i, r.tokens i)) h));
     }
 
-pub code_refused : (bytes : List ℕ) (start line left : ℕ) (old : List Token) (refusal : LexError) → line_refusal (pieces bytes) old start line left ≡ Some refusal → IsLineRefused bytes start line left 0 old refusal
-code_refused bytes start line left old refusal e =
+pub code_refused : (bytes : List ℕ) (start line left due : ℕ) (old : List Token) (refusal : LexError) → due ≡ 0 → line_refusal (pieces bytes) old start line left ≡ Some refusal → IsLineRefused bytes start line left due old refusal
+code_refused bytes start line left (suc n) old refusal z e = absurd (omega arith)
+code_refused bytes start line left zero old refusal z e =
     λ lines n. (pieces bytes, pieces_sound bytes, subst (λ (o : Option LexError). MatchOption o (IsRefusedIn lines (called_by old (tokens_of (pieces bytes) start line)) (old ++ tokens_of (pieces bytes) start line) (start + length bytes + 1) (line + 1) refusal) (λ first. refusal ≡ first)) (sym (ap (line_refusal (pieces bytes) old start line) n ∙ e)) refl)
 
 pub picture_read : (bytes : List ℕ) (start line left due : ℕ) (old new : List Token) → 0 < due → due ≤ left + 1 → new ≡ old ++ picture_at bytes start line ∷ [] → IsLineRead bytes start line left due old new (due - 1)
