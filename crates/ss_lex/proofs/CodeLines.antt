@@ -1,5 +1,5 @@
 -- Reading a line of code, from piece to piece.
-use Rattle.std.proofs.Common.{◌≡◌, ℕ, ◌+◌, ◌-◌, ◌<◌, ◌≤◌, Bool, true, false, ◌||◌, List, [], ◌∷◌, ◌++◌, length, nat_lt, Some, None, append_assoc, refl, sym, ap, ◌∙◌, arith, inl, inr}
+use Rattle.std.proofs.Common.{◌≡◌, ℕ, ◌+◌, ◌-◌, ◌<◌, ◌≤◌, Bool, true, false, ◌||◌, ◌==◌, List, [], ◌∷◌, ◌++◌, length, nat_lt, Some, None, append_assoc, refl, sym, ap, ◌∙◌, arith, inl, inr}
 use Rattle.std.specs.Prelude.{if◌then◌else◌}
 use Rattle.std.specs.Option.{option_or}
 use Rattle.std.proofs.Math.Bool.{or-false}
@@ -34,9 +34,9 @@ pub record Stepped (rest : List ℕ) (m : PieceMeaning) (after : List ℕ) : Typ
   pub place : length (spelled piece) + length after ≡ length rest
   pub less : length after < length rest
 
-pub stepped : (rest : List ℕ) (m : PieceMeaning) (after : List ℕ) → 0 < length rest → (m, after) ≡ step_of rest → Stepped rest m after
+pub stepped : (rest : List ℕ) (m : PieceMeaning) (after : List ℕ) → false ≡ (length rest == 0) → (m, after) ≡ step_of rest → Stepped rest m after
 unfolding step_of
-stepped [] m after some e = absurd (omega arith)
+stepped [] m after some e = absurd cc
 stepped (b ∷ bs) m after some e =
     let place = piece_place b bs in
     let after_is : after ≡ (piece_at b bs).1 = ap (λ (p : PieceMeaning × List ℕ). p.1) e in
@@ -56,7 +56,7 @@ none_left [] e = refl
 none_left (b ∷ bs) e = absurd (omega arith)
 
 -- whether the piece at the front is a trigger word, and what follows it
-pub trigger_step : (rest after : List ℕ) (t : Bool) → 0 < length rest → (t, after) ≡ trigger_step_of rest → Stepped rest (step_of rest).0 after × (t ≡ means_trigger (step_of rest).0)
+pub trigger_step : (rest after : List ℕ) (t : Bool) → false ≡ (length rest == 0) → (t, after) ≡ trigger_step_of rest → Stepped rest (step_of rest).0 after × (t ≡ means_trigger (step_of rest).0)
 trigger_step rest after t some e =
     let after_is : after ≡ (step_of rest).1 = ap (λ (p : Bool × List ℕ). p.1) e in
     (stepped rest (step_of rest).0 after some (ap (λ l. ((step_of rest).0, l)) after_is), ap (λ (p : Bool × List ℕ). p.0) e)
