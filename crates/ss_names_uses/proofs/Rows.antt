@@ -101,13 +101,11 @@ places_more f k (x ∷ ys) y =
     let there : (k + 1) + length ys ≡ k + suc (length ys) = omega arith in
     ap (λ l. f k x ++ l) (places_more f (k + 1) ys y ∙ ap (λ (n : ℕ). in_places f (k + 1) ys ++ f n y) there) ∙ sym (append_assoc (f k x) (in_places f (k + 1) ys) (f (k + suc (length ys)) y))
 
-plus_zero : (n : ℕ) → 0 + n ≡ n
-plus_zero n = omega arith
-
 place_added : {Y : Type 0} (f : ℕ → Y → List Use) (ys : List Y) (y : Y) (i : ℕ) (old now new : List Use) → length ys ≡ i → now ≡ old ++ in_places f 0 ys → new ≡ now ++ f i y → new ≡ old ++ in_places f 0 (ys ++ y ∷ [])
 place_added f ys y i old now new counted h e =
+    let place : 0 + length ys ≡ i = omega arith in
     e ∙ ap (λ l. l ++ f i y) h ∙ append_assoc old (in_places f 0 ys) (f i y) ∙
-    ap (λ l. old ++ l) (ap (λ (n : ℕ). in_places f 0 ys ++ f n y) (sym (plus_zero (length ys) ∙ counted)) ∙ sym (places_more f 0 ys y))
+    ap (λ l. old ++ l) (ap (λ (n : ℕ). in_places f 0 ys ++ f n y) (sym place) ∙ sym (places_more f 0 ys y))
 
 -- the uses of the next in its place come last
 pub next_place : {X Y : Type 0} (f : ℕ → Y → List Use) (v : X → Y) (xs : List X) (i : ℕ) (x : X) (old now new : List Use) → i < length xs → x ≡ get_or xs i x → now ≡ old ++ in_places f 0 (map v (take i xs)) → new ≡ now ++ f i (v x) → new ≡ old ++ in_places f 0 (map v (take (i + 1) xs))
@@ -126,17 +124,16 @@ in_statement_row : (ts : List StatementTree) → in_row (statement_row ts) ≡ i
 in_statement_row [] = refl
 in_statement_row (t ∷ ts) = ap (λ us. in_statement t ++ us) (in_statement_row ts)
 
+in_two_rows : (ts es : List StatementTree) → in_row (statement_row ts) ++ in_row (statement_row es) ≡ in_body ts ++ in_body es
+in_two_rows ts es = λ i. in_statement_row ts i ++ in_statement_row es i
+
 pub inner_if : (l : Line) (c : Condition) (t e : Vec Statement) → in_inner (view_statement_tree (statements.If l c t e)) ≡ in_body (map view_statement_tree t.items) ++ in_body (map view_statement_tree e.items)
 inner_if l c t e =
-    ap in_inner (view_if_tree_made l c t e) ∙
-    ap (λ us. us ++ in_row (statement_row (map view_statement_tree e.items))) (in_statement_row (map view_statement_tree t.items)) ∙
-    ap (λ us. in_body (map view_statement_tree t.items) ++ us) (in_statement_row (map view_statement_tree e.items))
+    ap in_inner (view_if_tree_made l c t e) ∙ in_two_rows (map view_statement_tree t.items) (map view_statement_tree e.items)
 
 pub inner_find_if : (l : Line) (h : Head) (o : FindOutcome) (t e : Vec Statement) → in_inner (view_statement_tree (statements.FindIf l h o t e)) ≡ in_body (map view_statement_tree t.items) ++ in_body (map view_statement_tree e.items)
 inner_find_if l h o t e =
-    ap in_inner (view_find_if_made l h o t e) ∙
-    ap (λ us. us ++ in_row (statement_row (map view_statement_tree e.items))) (in_statement_row (map view_statement_tree t.items)) ∙
-    ap (λ us. in_body (map view_statement_tree t.items) ++ us) (in_statement_row (map view_statement_tree e.items))
+    ap in_inner (view_find_if_made l h o t e) ∙ in_two_rows (map view_statement_tree t.items) (map view_statement_tree e.items)
 
 pub inner_loop : (l : Line) (h : LoopHead) (b : Vec Statement) → in_inner (view_statement_tree (statements.Loop l h b)) ≡ in_body (map view_statement_tree b.items)
 inner_loop l h b = ap in_inner (view_loop_tree_made l h b) ∙ in_statement_row (map view_statement_tree b.items)
