@@ -1,17 +1,15 @@
 -- Entries by their places and by their names, and the first of each name.
 use Rattle.std.proofs.Common.{◌≡◌, ℕ, zero, suc, ◌+◌, ◌<◌, Bool, true, false, not, cond, nat_lt, List, [], ◌∷◌, ◌++◌, length, Option, Some, None, is_some, refl, sym, ap, subst, ◌∙◌, arith}
+use Rattle.ss_names_declarations.proofs.Common.{entry_beside, first_entries, is_some-lookup, keys_of, place_in, same_name, value_for, values_of, with_first}
 use Rattle.std.specs.Prelude.{slice_get, option_map}
 use Rattle.std.specs.List.{AllByRecursion as Every, IsDistinct, fold, list_any, position_or_len}
 use Rattle.std.specs.Option.{option_or}
-use Rattle.std.specs.Map.{keys_of, values_of}
 use Rattle.std.specs.Cmp.Lexicographic.{bytes_decides}
 use Rattle.std.proofs.lemmas.Bool.Decides.{nat_tests}
 use Rattle.std.proofs.lemmas.Cmp.{nat_list_eq_equiv}
 use Rattle.std.proofs.lemmas.Map.Entries.{lookup_from_place}
 use Rattle.std.proofs.lemmas.Map.Keys.{IsDistinct-push}
-use Rattle.std.proofs.lemmas.Map.Made.{is_some-lookup}
 use Rattle.std.proofs.lemmas.Option.{slice_get-map}
-use Rattle.ss_names_declarations.specs.NameTable.{entry_beside, first_entries, place_in, same_name, value_for, with_first}
 
 -- ---- by places
 

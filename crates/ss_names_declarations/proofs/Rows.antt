@@ -1,8 +1,7 @@
 -- Lists that a loop builds, item by item.
 use Rattle.std.proofs.Common.{◌≡◌, ℕ, ◌+◌, ◌<◌, List, [], ◌∷◌, ◌++◌, length, get_or, map, take, sym, ap, ◌∙◌, append_assoc, arith}
-use Rattle.std.specs.List.{flat_map}
+use Rattle.ss_names_declarations.proofs.Common.{flat_map, flat_map_from}
 use Rattle.std.proofs.lemmas.List.{append-nil, take_more, map-append, flat_map_more, length-map, length-take-le}
-use Rattle.ss_names_declarations.specs.Declarations.{flat_map_from}
 
 -- the list so far, with the next item
 next_taken : {A B : Type 0} (f : A → B) (xs : List A) (i : ℕ) (x : A) → i < length xs → x ≡ get_or xs i x → map f (take (i + 1) xs) ≡ map f (take i xs) ++ f x ∷ []

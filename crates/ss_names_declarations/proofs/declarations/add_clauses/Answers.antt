@@ -1,5 +1,4 @@
-use Rattle.ss_tree.specs.View.{view_clause}
-use Rattle.ss_names_declarations.specs.Declarations.{in_clause}
+use Rattle.ss_names_declarations.proofs.Common.{in_clause, view_clause}
 use Rattle.ss_names_declarations.proofs.Rows.{adds_all}
 use Rattle.ss_names_declarations.proofs.declarations.add_clauses.Goals as goal
 

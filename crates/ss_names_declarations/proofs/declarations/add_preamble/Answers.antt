@@ -1,5 +1,4 @@
-use Rattle.ss_tree.specs.View.{view_preamble}
-use Rattle.ss_names_declarations.specs.Declarations.{in_preamble_statement}
+use Rattle.ss_names_declarations.proofs.Common.{in_preamble_statement, view_preamble}
 use Rattle.ss_names_declarations.proofs.Rows.{adds_numbered}
 use Rattle.ss_names_declarations.proofs.declarations.add_preamble.Goals as goal
 

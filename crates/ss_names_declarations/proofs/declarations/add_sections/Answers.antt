@@ -1,5 +1,4 @@
-use Rattle.ss_tree.specs.View.{view_section}
-use Rattle.ss_names_declarations.specs.Declarations.{in_section}
+use Rattle.ss_names_declarations.proofs.Common.{in_section, view_section}
 use Rattle.ss_names_declarations.proofs.Rows.{adds_numbered}
 use Rattle.ss_names_declarations.proofs.declarations.add_sections.Goals as goal
 

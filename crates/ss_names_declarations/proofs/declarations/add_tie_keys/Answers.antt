@@ -1,5 +1,4 @@
-use Rattle.ss_tree.specs.declared.preamble.NamedKey.{NamedKey}
-use Rattle.ss_names_declarations.specs.Declarations.{at_line}
+use Rattle.ss_names_declarations.proofs.Common.{at_line, NamedKey}
 use Rattle.ss_names_declarations.specs.declared.declaration.Declared.TheVariants as d
 use Rattle.ss_names_declarations.proofs.Rows.{adds_one}
 use Rattle.ss_names_declarations.proofs.declarations.add_tie_keys.Goals as goal
