@@ -1,20 +1,13 @@
 -- Reading a line of code, from piece to piece.
 use Rattle.std.proofs.Common.{◌≡◌, ℕ, ◌+◌, ◌-◌, ◌<◌, ◌≤◌, Bool, true, false, ◌||◌, ◌==◌, List, [], ◌∷◌, ◌++◌, length, nat_lt, Some, None, append_assoc, refl, sym, ap, ◌∙◌, arith, inl, inr}
+use Rattle.ss_lex.proofs.Common.{append-nil, called_by, cases_Bool, cut_of, fault_in, first_fault, has_kind, has_trigger, is_trigger, line_refusal, LinePiece, means_trigger, nat_tests, option_or, or_parts, piece_meaning, refusal_for, spelled, to_trigger, Token, token_in, tokens_of}
 use Rattle.std.specs.Prelude.{if◌then◌else◌}
-use Rattle.std.specs.Option.{option_or}
 use Rattle.std.proofs.Math.Bool.{or-false}
-use Rattle.std.proofs.lemmas.List.{append-nil}
 use Rattle.std.proofs.lemmas.List.Folds.{list_any-append}
-use Rattle.std.proofs.lemmas.Bool.{cases_Bool, or_parts}
-use Rattle.std.proofs.lemmas.Bool.Decides.{nat_tests}
-use Rattle.ss_lex.specs.declared.token.Token.{Token}
 use Rattle.ss_lex.specs.declared.meaning.PieceMeaning.{PieceMeaning}
 use Rattle.ss_lex.specs.declared.meaning.PieceMeaning.TheVariants as meanings
 use Rattle.ss_lex.specs.declared.meaning.Fault.{Fault}
 use Rattle.ss_lex.specs.declared.error.LexError.TheVariants as errors
-use Rattle.ss_lex.specs.Pieces.{LinePiece, spelled, piece_meaning, fault_in, first_fault}
-use Rattle.ss_lex.specs.Tokens.{token_in, tokens_of, is_trigger, has_kind, called_by}
-use Rattle.ss_lex.specs.Refusals.{refusal_for, means_trigger, has_trigger, to_trigger, cut_of, line_refusal}
 use Rattle.ss_lex.specs.Reading.{piece_at, pieces, step_of, trigger_step_of, due_from, refusal_from, fault_refusal, IsCodeLineRead, IsReadUpTo}
 use Rattle.ss_lex.proofs.Cutting.{cut_complete, pieces_sound, piece_place}
 

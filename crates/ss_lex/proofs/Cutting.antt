@@ -1,10 +1,7 @@
 -- A line is cut in one way.
 use Rattle.std.proofs.Common.{◌≡◌, ℕ, zero, suc, ◌+◌, ◌<◌, ◌≤◌, Bool, true, false, ◌&&◌, ◌==◌, List, [], ◌∷◌, ◌++◌, length, length-append, append_assoc, take, drop, refl, sym, ap, ◌∙◌, arith, inl, inr}
-use Rattle.std.specs.List.{prefix_len, list_all}
-use Rattle.std.proofs.lemmas.Bool.{and_parts, cases_Bool, eqb-true, false_from_ne_true, or_cases}
-use Rattle.std.proofs.lemmas.List.{append-nil, drop-drop}
+use Rattle.ss_lex.proofs.Common.{and_parts, append-nil, cases_Bool, comment, drop-drop, eqb-true, false_from_ne_true, is_apart, is_apostrophe, is_blank_byte, is_closed, is_quotable, is_word_part, IsCutInto, IsFitBefore, LinePiece, list_all, open_comment, open_quoted, opens_comment, or_cases, passes_first, piece_meaning, prefix_len, quoted, separator, single, spelled, word}
 use Rattle.ss_base.specs.Values.{is_text_byte}
-use Rattle.ss_lex.specs.Pieces.{LinePiece, separator, word, comment, open_comment, quoted, open_quoted, single, spelled, is_blank_byte, is_word_part, is_quotable, is_apostrophe, passes_first, opens_comment, is_apart, is_closed, IsFitBefore, IsCutInto, piece_meaning}
 use Rattle.ss_lex.specs.declared.meaning.PieceMeaning.TheVariants as meanings
 use Rattle.ss_lex.specs.Reading.{longer, comment_at, quotable_length, quoted_at, run_length, piece_at, cut, pieces}
 

@@ -1,10 +1,8 @@
 -- How many pictures a trigger word calls for, from token to token.
 use Rattle.std.proofs.Common.{◌≡◌, ℕ, Bool, true, false, ◌||◌, List, [], ◌∷◌, ◌++◌, refl, sym, ap, ◌∙◌, inl, inr}
+use Rattle.ss_lex.proofs.Common.{cases_Bool, first_number, has_kind, is_print, is_print_or_trigger, is_trigger, number_due, number_in_token, or_parts, or_right, Token}
 use Rattle.std.specs.Prelude.{if◌then◌else◌}
-use Rattle.std.proofs.lemmas.Bool.{cases_Bool, or_parts, or_right}
 use Rattle.std.proofs.lemmas.List.Recursion.{or_push}
-use Rattle.ss_lex.specs.declared.token.Token.{Token}
-use Rattle.ss_lex.specs.Tokens.{is_trigger, is_print, number_in_token, first_number, is_print_or_trigger, has_kind, number_due}
 use Rattle.ss_lex.specs.Collecting.{ends_in_print, number_after, IsSummary}
 
 -- where no token is PRINT or a trigger word, the last is no PRINT

@@ -1,10 +1,6 @@
 -- Lines and their ends.
 use Rattle.std.proofs.Common.{◌≡◌, ℕ, zero, suc, ◌+◌, ◌-◌, ◌<◌, false, ◌==◌, List, [], ◌∷◌, length, get_or, take, drop, refl, sym, ap, ◌∙◌, arith, inl, inr}
-use Rattle.std.specs.List.{prefix_len}
-use Rattle.std.proofs.lemmas.Bool.{cases_Bool}
-use Rattle.std.proofs.lemmas.Bool.Decides.{nat_tests}
-use Rattle.ss_lex.specs.Lines.{with_byte_first, lines_of, picture_of}
-use Rattle.ss_lex.specs.Reading.{is_in_line}
+use Rattle.ss_lex.proofs.Common.{cases_Bool, is_in_line, lines_of, nat_tests, picture_of, prefix_len, with_byte_first}
 
 -- ---- the carriage return at the end
 

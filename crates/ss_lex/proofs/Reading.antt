@@ -1,13 +1,6 @@
 -- Reading a text, from line to line.
 use Rattle.std.proofs.Common.{◌≡◌, ℕ, zero, suc, ◌+◌, ◌-◌, ◌<◌, ◌≤◌, max, List, [], ◌∷◌, ◌++◌, length, Option, Some, MatchOption, append_assoc, refl, sym, ap, subst, ◌∙◌, arith, inl, inr, ◌==◌}
-use Rattle.std.proofs.lemmas.Bool.{cases_Bool}
-use Rattle.std.proofs.lemmas.List.{append-nil}
-use Rattle.ss_lex.specs.declared.token.Token.{Token}
-use Rattle.ss_lex.specs.declared.error.LexError.{LexError}
-use Rattle.ss_lex.specs.Lines.{with_byte_first, lines_of}
-use Rattle.ss_lex.specs.Tokens.{tokens_of, called_by, picture_at, AreTokensOf}
-use Rattle.ss_lex.specs.Refusals.{line_refusal, IsRefusedIn}
-use Rattle.ss_lex.specs.Reading.{pieces, IsCodeLineRead, IsLineRead, IsLineRefused, IsTextReadTo}
+use Rattle.ss_lex.proofs.Common.{append-nil, AreTokensOf, called_by, cases_Bool, IsCodeLineRead, IsLineRead, IsLineRefused, IsRefusedIn, IsTextReadTo, LexError, line_refusal, lines_of, picture_at, pieces, Token, tokens_of, with_byte_first}
 use Rattle.ss_lex.proofs.Cutting.{pieces_sound}
 use Rattle.ss_lex.proofs.TextLaws.{line_sound}
 

@@ -1,6 +1,5 @@
 use Rattle.std.proofs.Common.{sym, ap, ◌∙◌}
-use Rattle.std.proofs.lemmas.Bool.{eqb-true}
-use Rattle.ss_lex.specs.Refusals.{has_trigger}
+use Rattle.ss_lex.proofs.Common.{eqb-true, has_trigger}
 use Rattle.ss_lex.proofs.CodeLines.{trigger_step, trigger_next, none_left}
 use Rattle.ss_lex.proofs.code.has_trigger.Goals as goal
 
