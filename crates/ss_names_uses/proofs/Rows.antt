@@ -1,10 +1,9 @@
 -- The uses of rows of the tree, by rows as lists, and lists that a loop builds.
 use Rattle.std.proofs.Common.{◌≡◌, append_assoc, Bool, true, false, ℕ, suc, ◌+◌, ◌<◌, List, [], ◌∷◌, ◌++◌, length, get_or, take, map, refl, sym, ap, ◌∙◌, arith}
+use Rattle.ss_names_uses.proofs.Common.{count, expression_row, ExpressionTree, flat_map, in_body, in_expression, in_inner, in_item, in_itself, in_named, in_numbers, in_places, in_row, in_statement, in_terms, place_use, row_length, Sign, statement_row, StatementTree, term_row, view_expression_tree, view_named, view_statement_tree, view_term}
 use Rattle.std.proofs.lemmas.List.{append-nil, take_more, map-append, flat_map_more, length-map, length-take-le}
-use Rattle.std.specs.List.{flat_map}
 use Rattle.std.specs.Global.{Vec, Box}
 use Rattle.ss_base.specs.declared.line.Line.{Line}
-use Rattle.ss_base.specs.declared.words.Sign.{Sign}
 use Rattle.ss_tree.specs.declared.expression.Function.{Function}
 use Rattle.ss_tree.specs.declared.expression.Named.{Named}
 use Rattle.ss_tree.specs.declared.expression.Term.{Term}
@@ -16,14 +15,11 @@ use Rattle.ss_tree.specs.declared.head.LoopHead.{LoopHead}
 use Rattle.ss_tree.specs.declared.statement.FindOutcome.{FindOutcome}
 use Rattle.ss_tree.specs.declared.statement.Statement.{Statement}
 use Rattle.ss_tree.specs.declared.statement.Statement.TheVariants as statements
-use Rattle.ss_tree.specs.Tree.{ExpressionTree, StatementTree, expression_row, term_row, statement_row}
-use Rattle.ss_tree.specs.View.{view_expression_tree, view_named, view_statement_tree, view_term}
 use Rattle.ss_tree.specs.Views.{view_named_made, view_call_made, view_product_made, view_sum_made, view_if_tree_made, view_loop_tree_made, view_find_if_made}
 use Rattle.ss_names_uses.specs.declared.used.Role.{Role}
 use Rattle.ss_names_uses.specs.declared.used.Role.TheVariants as roles
 use Rattle.ss_names_uses.specs.declared.used.CountNeed.TheVariants as counts
 use Rattle.ss_names_uses.specs.declared.used.Use.{Use}
-use Rattle.ss_names_uses.specs.Uses.{row_length, place_use, count, in_expression, in_numbers, in_terms, in_named, in_item, in_places, in_itself, in_inner, in_row, in_statement, in_body}
 
 -- ---- rows
 

@@ -1,5 +1,4 @@
-use Rattle.ss_tree.specs.View.{view_test_tree}
-use Rattle.ss_names_uses.specs.Uses.{in_test}
+use Rattle.ss_names_uses.proofs.Common.{in_test, view_test_tree}
 use Rattle.ss_names_uses.proofs.Rows.{next_noted}
 use Rattle.ss_names_uses.proofs.conditions.add_tests.Goals as goal
 

@@ -1,8 +1,5 @@
 use Rattle.std.proofs.Common.{rules, ◌≡◌, ◌∷◌, [], true, length, append_assoc}
-use Rattle.ss_base.specs.declared.words.Sign.{Sign}
-use Rattle.ss_tree.specs.Tree.{ExpressionTree}
-use Rattle.ss_tree.specs.View.{view_expression_tree, view_term}
-use Rattle.ss_names_uses.specs.Uses.{in_expression}
+use Rattle.ss_names_uses.proofs.Common.{ExpressionTree, in_expression, Sign, view_expression_tree, view_term}
 use Rattle.ss_names_uses.proofs.Rows.{in_named_made, in_call_made, in_product_made, in_sum_made, next_noted}
 use Rattle.ss_names_uses.proofs.expressions.+adding.Goals as goal
 

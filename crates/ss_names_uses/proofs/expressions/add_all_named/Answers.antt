@@ -1,6 +1,5 @@
 use Rattle.std.proofs.Common.{false}
-use Rattle.ss_tree.specs.View.{view_named}
-use Rattle.ss_names_uses.specs.Uses.{in_named}
+use Rattle.ss_names_uses.proofs.Common.{in_named, view_named}
 use Rattle.ss_names_uses.proofs.Rows.{next_noted}
 use Rattle.ss_names_uses.proofs.expressions.add_all_named.Goals as goal
 

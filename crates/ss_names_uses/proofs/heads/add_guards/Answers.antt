@@ -1,5 +1,4 @@
-use Rattle.ss_tree.specs.View.{view_guard_tree}
-use Rattle.ss_names_uses.specs.Uses.{in_guard}
+use Rattle.ss_names_uses.proofs.Common.{in_guard, view_guard_tree}
 use Rattle.ss_names_uses.proofs.Rows.{next_noted}
 use Rattle.ss_names_uses.proofs.heads.add_guards.Goals as goal
 

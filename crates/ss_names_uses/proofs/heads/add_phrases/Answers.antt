@@ -1,5 +1,4 @@
-use Rattle.ss_tree.specs.View.{view_phrase_tree}
-use Rattle.ss_names_uses.specs.Uses.{in_phrase}
+use Rattle.ss_names_uses.proofs.Common.{in_phrase, view_phrase_tree}
 use Rattle.ss_names_uses.proofs.Rows.{next_noted}
 use Rattle.ss_names_uses.proofs.heads.add_phrases.Goals as goal
 

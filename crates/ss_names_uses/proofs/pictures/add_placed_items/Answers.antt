@@ -1,5 +1,4 @@
-use Rattle.ss_tree.specs.View.{view_expression_tree}
-use Rattle.ss_names_uses.specs.Uses.{in_item_at}
+use Rattle.ss_names_uses.proofs.Common.{in_item_at, view_expression_tree}
 use Rattle.ss_names_uses.proofs.Rows.{next_place}
 use Rattle.ss_names_uses.proofs.pictures.add_placed_items.Goals as goal
 
