@@ -1,7 +1,7 @@
 -- One step of a pass, and one turn of a loop.
 use Rattle.std.proofs.Common.{◌≡◌, ℕ, ◌+◌, ◌<◌, false, cond, List, [], ◌∷◌, ◌++◌, length, get_or, map, take, Option, Some, None, is_some, refl, sym, ap, ◌∙◌}
 use Rattle.ss_names.proofs.Common.{Attribute, Declared, fold, Mode, NameBytes, Table, value_for}
-use Rattle.std.proofs.lemmas.List.{map_push, take_more}
+use Rattle.std.proofs.lemmas.List.{map_more}
 use Rattle.std.proofs.lemmas.List.Sums.{fold_more}
 use Rattle.ss_names.specs.Filling.{field_pushed, table_fields, mode_named, row_pushed, with_fields}
 
@@ -33,10 +33,6 @@ attribute_pushed seen t name class n mode entries rows s none len is e r =
 
 -- ---- loops
 
--- one more item
-next_one : {X : Type 0} (xs : List X) (i : ℕ) (x : X) → i < length xs → x ≡ get_or xs i x → take (i + 1) xs ≡ take i xs ++ x ∷ []
-next_one xs i x lt is = take_more xs i x lt ∙ ap (λ y. take i xs ++ y ∷ []) (sym is)
-
 -- a loop that takes one step for each item
 pub step_more : {X S : Type 0} (f : S → X → S) (start now after : S) (xs : List X) (i : ℕ) (x : X) → i < length xs → x ≡ get_or xs i x → now ≡ fold f start (take i xs) → after ≡ f now x → after ≡ fold f start (take (i + 1) xs)
 step_more f start now after xs i x lt is n a =
@@ -45,4 +41,4 @@ step_more f start now after xs i x lt is n a =
 -- a loop that adds the image of each item
 pub mapped_after : {X A : Type 0} (f : X → A) (xs : List X) (i : ℕ) (x : X) (y : A) (before after : List A) → i < length xs → x ≡ get_or xs i x → before ≡ map f (take i xs) → y ≡ f x → after ≡ before ++ y ∷ [] → after ≡ map f (take (i + 1) xs)
 mapped_after f xs i x y before after lt is b e a =
-    a ∙ (λ k. b k ++ e k ∷ []) ∙ sym (ap (map f) (next_one xs i x lt is) ∙ map_push f (take i xs) x)
+    a ∙ (λ k. b k ++ e k ∷ []) ∙ ap (λ z. map f (take i xs) ++ f z ∷ []) is ∙ sym (map_more f xs i x lt)
