@@ -53,12 +53,12 @@ returns-in-Event c =
 
 pub returns-in-RankKey : goal.returns-in-RankKey
 returns-in-RankKey c =
-    on_ok_weaker c.push_rank_key.result
+    on_ok_weaker c.push_key.result
     (λ e. stepped add_names c.names.view_is c.in-RankKey.is (λ i. record (view_table c.names.inside) { rank_keys = e i }))
-    c.push_rank_key.ensures
+    c.push_key.ensures
 
 pub returns-in-TieKey : goal.returns-in-TieKey
 returns-in-TieKey c =
-    on_ok_weaker c.push_tie_key.result
+    on_ok_weaker c.push_key-in-TieKey.result
     (λ e. stepped add_names c.names.view_is c.in-TieKey.is (λ i. record (view_table c.names.inside) { tie_keys = e i }))
-    c.push_tie_key.ensures
+    c.push_key-in-TieKey.ensures
