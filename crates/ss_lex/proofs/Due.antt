@@ -36,7 +36,7 @@ number_due-push (u ∷ ts) t =
     ]
   where
     any_push : (vs : List Token) → has_kind is_print_or_trigger (vs ++ t ∷ []) ≡ (has_kind is_print_or_trigger vs || is_print_or_trigger t.kind)
-    any_push vs = or_push (has_kind is_print_or_trigger) (λ v. is_print_or_trigger v.kind) refl (λ v vs. refl) vs t
+    any_push vs = or_push (has_kind is_print_or_trigger) (λ v. is_print_or_trigger v.kind) refl (λ v ws. refl) vs t
 
     zero_at : (vs : List Token) → is_print_or_trigger t.kind ≡ true → number_after vs t.kind ≡ 0
     zero_at vs p = ap (λ (b : Bool). if b then 0 else (if ends_in_print vs then number_in_token t.kind else number_due vs)) p
