@@ -7,7 +7,7 @@ ghost use Rattle.ss_tree.specs.Names.{NameBytes};
 ghost use Rattle.ss_tree.specs.declared.preamble.NamedKey.{NamedKey as KeySeen};
 ghost use Rattle.ss_tree.specs.declared.preamble.NamedStatistic.{NamedStatistic as StatisticSeen};
 ghost use Rattle.ss_names_declarations.specs.declared.declaration.Declared.TheVariants as d;
-ghost use Rattle.ss_names_declarations.specs.Declarations.{at_line, declared_as, in_clause, rule_of, in_set_order, in_preamble_statement, in_section_head, in_definition, in_section, flat_map_from, declarations};
+ghost use Rattle.ss_names_declarations.specs.Declarations.{at_line, declared_as, parameter_declaration, in_clause, rule_of, in_set_order, in_preamble_statement, in_section_head, in_definition, in_section, flat_map_from, declarations};
 
 use crate::declaration::{Declaration, Declared, SetRule};
 use ss_base::{Line, Name};
@@ -316,6 +316,18 @@ fn add_preamble(
     Ok(())
 }
 
+// Adds the parameters of the section of this number.
+fn add_parameters(
+    out: &mut Vec<Declaration>,
+    line: Line,
+    section: usize,
+    names: &[Name],
+) -> Result<(), AllocError>
+    ensures { OnOk result (out.new.items ≡ out.old.items ++ map (parameter_declaration line section) names.now) }
+{
+    add_names(out, line, &Listed::Parameter(section), names)
+}
+
 // Adds what the head of the section of this number declares.
 fn add_head(
     out: &mut Vec<Declaration>,
@@ -339,8 +351,8 @@ fn add_head(
                 yielding: yielding.len(),
             };
             add(out, line, routine)?;
-            add_names(out, line, &Listed::Parameter(section), given)?;
-            add_names(out, line, &Listed::Parameter(section), yielding)
+            add_parameters(out, line, section, given)?;
+            add_parameters(out, line, section, yielding)
         }
         SectionKind::Event {
             name,
@@ -354,7 +366,7 @@ fn add_head(
                 saving: *saving,
             };
             add(out, line, event)?;
-            add_names(out, line, &Listed::Parameter(section), given)
+            add_parameters(out, line, section, given)
         }
     }
 }
