@@ -1,6 +1,5 @@
 -- The names of other crates, and of definitions here, that several proofs of this crate cite, passed on from one place. Declares nothing.
 pub use Rattle.ss_names_declarations.specs.Declarations.{at_line, flat_map_from, in_clause, in_definition, in_preamble_statement, in_section}
-pub use Rattle.ss_names_declarations.specs.NameTable.{entry_beside, first_entries, place_in, same_name, value_for, with_first}
 pub use Rattle.ss_tree.specs.View.{view_clause, view_definition, view_preamble, view_section}
 pub use Rattle.ss_tree.specs.declared.preamble.NamedKey.{NamedKey}
 pub use Rattle.std.proofs.lemmas.Map.Made.{is_some-lookup}

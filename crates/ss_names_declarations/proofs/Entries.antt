@@ -1,6 +1,7 @@
 -- Entries by their places and by their names, and the first of each name.
 use Rattle.std.proofs.Common.{◌≡◌, ℕ, zero, suc, ◌+◌, ◌<◌, Bool, true, false, not, cond, nat_lt, List, [], ◌∷◌, ◌++◌, length, Option, Some, None, is_some, refl, sym, ap, subst, ◌∙◌, arith}
-use Rattle.ss_names_declarations.proofs.Common.{entry_beside, first_entries, is_some-lookup, keys_of, place_in, same_name, value_for, values_of, with_first}
+use Rattle.ss_names_declarations.proofs.Common.{is_some-lookup, keys_of, values_of}
+use Rattle.ss_names_declarations.specs.NameTable.{entry_beside, first_entries, place_in, same_name, value_for, with_first}
 use Rattle.std.specs.Prelude.{slice_get, option_map}
 use Rattle.std.specs.List.{AllByRecursion as Every, IsDistinct, fold, list_any, position_or_len}
 use Rattle.std.specs.Option.{option_or}

@@ -304,6 +304,7 @@ fn add_statement(
 }
 
 // Adds what a preamble declares.
+#[tactic(auto, using(crate::proofs::Rows::one_more, std::proofs::lemmas::Grind::common_steps))]
 fn add_preamble(
     out: &mut Vec<Declaration>,
     preamble: &[PreambleStatement],
@@ -399,6 +400,7 @@ fn add_section(
 }
 
 // Adds what the sections of a program declare.
+#[tactic(auto, using(crate::proofs::Rows::one_more, std::proofs::lemmas::Grind::common_steps))]
 fn add_sections(out: &mut Vec<Declaration>, sections: &[Section]) -> Result<(), AllocError>
     ensures { OnOk result (out.new.items ≡ out.old.items ++ flat_map_from in_section 0 (map view_section sections.now)) }
 {
