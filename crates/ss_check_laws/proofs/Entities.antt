@@ -1,41 +1,37 @@
 -- Classes by what their names mean, and CREATE, DESTROY, FILE and REMOVE.
-use Rattle.std.proofs.Common.{◌≡◌, ℕ, true, false, List, [], ◌∷◌, ◌++◌, length, get_or, map, Option, Some, None, is_some, Contains, refl, sym, ap, subst, ◌∙◌}
+use Rattle.std.proofs.Common.{◌≡◌, ℕ, true, List, [], ◌∷◌, length, get_or, map, Option, Some, None, is_some, Contains, refl, sym, ap, subst, ◌∙◌}
 use Rattle.std.specs.List.{AllByRecursion as Every}
 use Rattle.ss_check_laws.proofs.Common.{AreValid, ClassKind, ClassNeed, CountedClass, got, Integer, is_kind, IsLinked, IsResolvedClass, Line, Meaning, NameBytes, NamedClass, same_Some, Scope, use_breaks, value_for, Variable}
 use Rattle.ss_names_meaning.specs.Classes.{class_named, variable_named, class_number, count_of, counted}
 use Rattle.ss_program.specs.Program.{Fetch, ToVariable, ByDiscipline, AsFirst, AsLast}
-use Rattle.ss_program.specs.WellTyped.{CanTakeMode, HasMode, IsTypedStatement, TypedScope as Place, IsTypedPosition, is_created_singly}
-use Rattle.ss_tree.specs.Tree.{create_every, create_statement, destroy_statement, ExpressionTree, file_statement, NamedTree, remove_end, remove_statement, PositionTree, by_discipline, at_first, at_last, before, after as after_member}
+use Rattle.ss_program.specs.WellTyped.{CanTakeMode, HasMode, TypedScope as Place, IsTypedPosition, is_created_singly}
+use Rattle.ss_tree.specs.Tree.{ExpressionTree, NamedTree, PositionTree, by_discipline, at_first, at_last, before, after as after_member}
 use Rattle.ss_base.specs.declared.layout.ClassKind.TheVariants as kinds
-use Rattle.ss_base.specs.declared.words.End.{End}
 use Rattle.ss_names_uses.specs.declared.used.ClassNeed.TheVariants as needs
 use Rattle.ss_names_uses.specs.declared.used.Role.TheVariants as roles
 use Rattle.ss_names_uses.specs.Uses as uses
 use Rattle.ss_names.specs.declared.meaning.Meaning.TheVariants as meanings
 use Rattle.ss_names.specs.Entries.{count_name}
 use Rattle.ss_names_meaning.specs.Answers.{◌>>=◌, each}
-use Rattle.ss_names_meaning.specs.Statements.{entity_called, new_place, position, simple_statement}
-use Rattle.ss_names_laws.proofs.Results.{held}
-use Rattle.ss_check_laws.proofs.Steps.{GoesWell, two_parts, three_parts}
+use Rattle.ss_names_meaning.specs.Statements.{entity_called, new_place, position}
+use Rattle.std.proofs.lemmas.Option.{cond_some}
+use Rattle.ss_check_laws.proofs.Steps.{GoesWell, after_one, after_two}
 use Rattle.ss_check_laws.proofs.Expressions.{number_kept}
-use Rattle.ss_check_laws.proofs.Lists.{after, after_one, after_two}
-use Rattle.ss_check_laws.proofs.Classes.{permanent_kind}
-use Rattle.ss_check_laws.proofs.Parts.{classes_resolve, sets_resolve}
+use Rattle.ss_check_laws.proofs.Classes.{classes_resolve, permanent_kind}
 use Rattle.ss_check_laws.proofs.Values.{takes_number}
 
 -- ---- kinds
 
 -- a class whose entities come one by one
-single_kind : (kind : ClassKind) → is_kind needs.Single kind ≡ true → is_created_singly (Some kind) ≡ true
+pub single_kind : (kind : ClassKind) → is_kind needs.Single kind ≡ true → is_created_singly (Some kind) ≡ true
 single_kind kinds.Permanent h = h
-single_kind kinds.Temporary h = h
-single_kind kinds.Notice h = h
+single_kind _ h = h
 
 -- ---- names of classes
 
 class_meant : (need : ClassNeed) (o : Option Meaning) (n : ℕ) → class_number need o ≡ Some n → (kind : ClassKind) × (x : ℕ) × (o ≡ Some (meanings.Class n kind x)) × (is_kind need kind ≡ true)
 class_meant need (Some (meanings.Class class kind x)) n e =
-    let h = held (is_kind need kind) class n e in
+    let h = cond_some (is_kind need kind) class n e in
     (kind, x, ap (λ (c : ℕ). Some (meanings.Class c kind x)) h.1, h.0)
 class_meant need _ n e = absurd cc
 
@@ -67,19 +63,7 @@ module _ (s : Scope) (g : Place) (linked : IsLinked s g) (line : Line) where
   old_resolves need name None c k = (Fetch c.0.variable, refl, (c.5 refl).0)
   old_resolves need name (Some e) c k = number_kept s g linked line e k
 
-  -- ---- CREATE and DESTROY
-
-  pub create_resolves : (name : NameBytes) (called : Option NamedTree) → AreValid s g.is_main (uses.in_new line needs.Single name called) → GoesWell (IsTypedStatement g) (simple_statement s (create_statement line name called))
-  unfolding simple_statement
-  create_resolves name called k =
-      let c = classes_resolve s g linked line needs.Single name (is_some called) (k.0, tt) in
-      after (IsTypedStatement g) _ _ c.0 c.2 (after_one (IsTypedStatement g) _ _ (new_resolves needs.Single name called c k.1) (λ x h. (ap is_created_singly c.3 ∙ single_kind c.1 c.4, h)))
-
-  pub destroy_resolves : (name : NameBytes) (called : Option ExpressionTree) → AreValid s g.is_main (uses.in_old line needs.Single name called) → GoesWell (IsTypedStatement g) (simple_statement s (destroy_statement line name called))
-  unfolding simple_statement
-  destroy_resolves name called k =
-      let c = classes_resolve s g linked line needs.Single name (is_some called) (k.0, tt) in
-      after (IsTypedStatement g) _ _ c.0 c.2 (after_one (IsTypedStatement g) _ _ (old_resolves needs.Single name called c k.1) (λ x h. (ap is_created_singly c.3 ∙ single_kind c.1 c.4, h)))
+  -- ---- CREATE EVERY
 
   counted_there : (name : NameBytes) → use_breaks s g.is_main (uses.class_used line needs.Permanent name true) ≡ None → GoesWell (Contains g.program.counts) (counted s name)
   counted_there name k =
@@ -91,43 +75,17 @@ module _ (s : Scope) (g : Place) (linked : IsLinked s g) (line : Line) where
       let meant = linked.table.meanings (count_name name) (meanings.Count count.0) count.1 in
       (count.0, ap count_of count.1, subst (λ (all : List CountedClass). Contains all count.0) (sym linked.counts) meant.0)
 
-  all_counted : (names : List NameBytes) → AreValid s g.is_main (map (λ (name : NameBytes). uses.class_used line needs.Permanent name true) names) → GoesWell (Every (Contains g.program.counts)) (each (counted s) names)
+  pub all_counted : (names : List NameBytes) → AreValid s g.is_main (map (λ (name : NameBytes). uses.class_used line needs.Permanent name true) names) → GoesWell (Every (Contains g.program.counts)) (each (counted s) names)
   unfolding each
   all_counted [] k = ([], refl, tt)
   all_counted (name ∷ names) k =
       after_two (Every (Contains g.program.counts)) _ _ _ (counted_there name k.0) (all_counted names k.1) (λ y ys h hs. (h, hs))
 
-  pub create_every_resolves : (names : List NameBytes) → AreValid s g.is_main (map (λ (name : NameBytes). uses.class_used line needs.Permanent name true) names) → GoesWell (IsTypedStatement g) (simple_statement s (create_every line names))
-  unfolding simple_statement
-  create_every_resolves names k = after_one (IsTypedStatement g) _ _ (all_counted names k) (λ ys h. h)
-
   -- ---- FILE and REMOVE
 
-  position_resolves : (t : PositionTree) → AreValid s g.is_main (uses.in_position line t) → GoesWell (IsTypedPosition g) (position s t)
+  pub position_resolves : (t : PositionTree) → AreValid s g.is_main (uses.in_position line t) → GoesWell (IsTypedPosition g) (position s t)
   position_resolves by_discipline k = (ByDiscipline, refl, tt)
   position_resolves at_first k = (AsFirst, refl, tt)
   position_resolves at_last k = (AsLast, refl, tt)
   position_resolves (before e) k = after_one (IsTypedPosition g) _ _ (number_kept s g linked line e k) (λ x h. h)
   position_resolves (after_member e) k = after_one (IsTypedPosition g) _ _ (number_kept s g linked line e k) (λ x h. h)
-
-  pub file_resolves : (e : ExpressionTree) (t : PositionTree) (n : NamedTree) → AreValid s g.is_main (uses.in_expression line true e ++ uses.in_position line t ++ uses.in_named line roles.Set false n) →
-      GoesWell (IsTypedStatement g) (simple_statement s (file_statement line e t n))
-  unfolding simple_statement
-  file_resolves e t n k =
-      let p = three_parts s g.is_main (uses.in_expression line true e) (uses.in_position line t) (uses.in_named line roles.Set false n) k in
-      let x = number_kept s g linked line e p.0 in
-      after (IsTypedStatement g) _ _ x.0 x.1 (after_two (IsTypedStatement g) _ _ _ (position_resolves t p.1) (sets_resolve s g linked line n p.2) (λ u v h f. (x.2, h, f)))
-
-  pub remove_end_resolves : (end : End) (n set : NamedTree) → AreValid s g.is_main (uses.in_named line roles.Target true n ++ uses.in_named line roles.Set false set) →
-      GoesWell (IsTypedStatement g) (simple_statement s (remove_end line end n set))
-  unfolding simple_statement
-  remove_end_resolves end n set k =
-      let p = two_parts s g.is_main (uses.in_named line roles.Target true n) (uses.in_named line roles.Set false set) k in
-      after_two (IsTypedStatement g) _ _ _ (takes_number s g linked line n p.0) (sets_resolve s g linked line set p.1) (λ x v h f. (h, f))
-
-  pub remove_resolves : (e : ExpressionTree) (n : NamedTree) → AreValid s g.is_main (uses.in_expression line true e ++ uses.in_named line roles.Set false n) →
-      GoesWell (IsTypedStatement g) (simple_statement s (remove_statement line e n))
-  unfolding simple_statement
-  remove_resolves e n k =
-      let p = two_parts s g.is_main (uses.in_expression line true e) (uses.in_named line roles.Set false n) k in
-      after_two (IsTypedStatement g) _ _ _ (number_kept s g linked line e p.0) (sets_resolve s g linked line n p.1) (λ x v h f. (h, f))

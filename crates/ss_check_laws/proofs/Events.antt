@@ -1,18 +1,18 @@
 -- The event routines of a program that breaks no rule.
-use Rattle.std.proofs.Common.{◌≡◌, ◌≢◌, ℕ, zero, suc, ◌+◌, ◌<◌, ◌≤◌, Bool, true, false, List, [], ◌∷◌, length, get_or, take, map, flat_map, slice_get, option_map, Option, Some, None, is_some, IfSome, refl, sym, ap, subst, subst₂, ◌∙◌, nat_eq, nat_le, add-zero, take-append-drop, length-take, get_or-take, arith}
-use Rattle.ss_check_laws.proofs.Common.{and_parts, at_item, at_place, attribute_mode, class_layout, ClassKind, cond_some, CountedClass, declarations, disciplines, Done, each_at, each_empty, each_made, Event, event_by, EventSection, every_first, from_places, get_or_from_slice_get, given_by, Global, got, hidden_by, in_parts, Integer, is_layout, is_main, is_sound, keys_of, known_mode, layout, leb-true, Line, local_mode, Meaning, meaning_mode, Mode, mode_of_attribute, mode_of_use, NameBytes, none-some, numbers_at, option_and_then, option_map_or, place_in, PlainClass, PlainLayout, Program, ResolvedLayout, same_Some, Scope, scope_of, set_layout, slice_get-get_or, slice_get_within, statistics, Table, table, tie_keys, Use, value_for}
+use Rattle.std.proofs.Common.{◌≡◌, ◌≢◌, ℕ, zero, suc, ◌+◌, ◌<◌, ◌≤◌, Bool, true, false, List, [], ◌∷◌, length, get_or, take, map, flat_map, slice_get, option_map, Option, Some, None, is_some, IfSome, refl, sym, ap, subst, subst₂, ◌∙◌, nat_eq, nat_le, take-append-drop, length-take, get_or-take, arith, ◌++◌}
+use Rattle.ss_check_laws.proofs.Common.{at_item, at_place, attribute_mode, class_by, class_layout, ClassKind, cond-true, CountedClass, declarations, Declared, Done, each_at, each_empty, each_made, Event, event_by, EventSection, every_first, flat_map_from, from_places, get_or_from_slice_get, given_by, Global, goes, hidden_by, holds_unless, in_parts, Integer, is_main, keys_of, known_mode, leb-true, Line, local_mode, Meaning, meaning_mode, Mode, mode_of_attribute, mode_of_use, NameBytes, none-some, numbers_at, option_and_then, option_map_or, place_in, PlainClass, PlainLayout, Program, ResolvedLayout, same_Some, Scope, scope_of, slice_get-get_or, slice_get_within, Table, table, Use, value_for}
 use Rattle.std.specs.List.{AllByRecursion as Every, list_any}
 use Rattle.std.proofs.lemmas.List.{length-take-le}
 use Rattle.std.proofs.lemmas.Map.Entries.{length-keys_of}
 use Rattle.ss_check_rules.specs.Refusal.{use_breaks, eventless, eventless_of, in_preamble}
 use Rattle.ss_names_declarations.proofs.Entries.{firsts_once, place_from, there, entry_of_key, key_at, place_of_value, value_at, value_from_place}
-use Rattle.ss_names_meaning.specs.Answers.{each, upto, ◌>>=◌}
-use Rattle.ss_names_meaning.specs.Resolved.{event_from, local_modes, Parts, class_variable, event_of_class, saved}
+use Rattle.ss_names_meaning.specs.Answers.{each, ◌>>=◌}
+use Rattle.ss_names_meaning.specs.Resolved.{event_from, local_modes, class_variable, event_of_class, saved}
 use Rattle.ss_names_scopes.specs.Locals.{locals_of, defined, local_used, moded_in}
 use Rattle.ss_program.specs.WellTyped.{IsTypedBlock, IsTypedEvent, AreTypedKeys, IsPlain}
 use Rattle.ss_base.specs.declared.layout.ClassKind.TheVariants as kinds
-use Rattle.ss_base.specs.declared.layout.RankKey.{RankKey}
 use Rattle.ss_tree.specs.Tree as tree
+use Rattle.ss_names_declarations.specs.declared.declaration.Declared.TheVariants as d
 use Rattle.ss_names_uses.specs.Uses as uses
 use Rattle.ss_names_uses.specs.declared.used.CountNeed.TheVariants as counts
 use Rattle.ss_names_uses.specs.declared.used.ModeOf.TheVariants as modes
@@ -20,17 +20,15 @@ use Rattle.ss_names.specs.declared.meaning.Meaning.TheVariants as m
 use Rattle.ss_check_rules.specs.Counts.{suits_count}
 use Rattle.ss_check_rules.specs.declared.error.CheckError.TheVariants as errors
 use Rattle.ss_names_laws.specs.ValidTables.{IsNamedClass, parameters_of}
-use Rattle.ss_names_laws.proofs.Parts.{class_parts, numbers_length}
-use Rattle.ss_check_laws.proofs.Steps.{agree, holds_unless}
+use Rattle.ss_names_laws.proofs.Parts.{class_parts, numbers_length, parts_of}
+use Rattle.ss_names_laws.proofs.Each.{at_number}
+use Rattle.ss_names_laws.proofs.Sources.{DeclaresClass, every_made, IsEventSection, IsMade}
+use Rattle.ss_names_laws.proofs.Steps.{none_listed, some_there}
+use Rattle.ss_check_laws.proofs.Steps.{agree}
 use Rattle.ss_check_laws.proofs.Ranks.{IsNotice, notice_is_ranked, ranks_are_notices}
-use Rattle.ss_check_laws.proofs.Routines.{IsUnbroken, IsWhole, Keeps, body_good, laid_with, none_listed, preamble_kept, program_with, section, section_modes, section_valid, uses_kept}
-use Rattle.ss_check_laws.proofs.TableSections.{ClassesFit, classes_declared, events_quiet, every_declared, head_of}
+use Rattle.ss_check_laws.proofs.Routines.{IsUnbroken, IsWhole, Keeps, body_good, laid_with, preamble_kept, program_with, section, section_modes, section_valid, uses_kept}
 
 -- ---- steps
-
-some_there : {A : Type 0} (o : Option A) → is_some o ≡ true → (x : A) × (o ≡ Some x)
-some_there None e = absurd cc
-some_there (Some x) e = (x, refl)
 
 equal_takes : {A : Type 0} (n : ℕ) (xs ys : List A) → ((i : ℕ) → i < n → (z : A) × (slice_get xs i ≡ Some z) × (slice_get ys i ≡ Some z)) → take n xs ≡ take n ys
 equal_takes zero xs ys h = refl
@@ -42,19 +40,9 @@ equal_takes (suc n) (x ∷ xs) (y ∷ ys) h =
     let rest = equal_takes n xs ys (λ i lt. h (suc i) (omega arith)) in
     λ j. first j ∷ rest j
 
-places_at : {A : Type 0} (P : Use → Type 0) (f : ℕ → A → List Use) (n : ℕ) (xs : List A) (i : ℕ) (x : A) → Every P (uses.in_places f n xs) → slice_get xs i ≡ Some x → Every P (f (n + i) x)
-places_at P f n [] i x h e = absurd (none-some x e)
-places_at P f n (y ∷ xs) zero x h e =
-    subst₂ (λ j z. Every P (f j z)) (sym (add-zero n)) (same_Some y x e) (in_parts P (f n y) (uses.in_places f (n + 1) xs) h).0
-places_at P f n (y ∷ xs) (suc i) x h e =
-    let next : n + 1 + i ≡ n + suc i = omega arith in
-    subst (λ j. Every P (f j x)) next (places_at P f (n + 1) xs i x (in_parts P (f n y) (uses.in_places f (n + 1) xs) h).1 e)
-
-event_is : (t : Table) (section : ℕ → Option Parts) (class : ℕ) (name : NameBytes) (known : EventSection) (keys : List RankKey) (variable : Option ℕ) (parts : Parts) →
-    slice_get (keys_of t.classes) class ≡ Some name → value_for t.events name ≡ Some known → nat_le known.given (length (get_or t.fields class [])) ≡ true →
-    tie_keys t class name ≡ Some keys → saved t name known.saving ≡ Some variable → section known.section ≡ Some parts →
-    event_from t section class ≡ Some (event_of_class class keys known.given variable parts)
-event_is t section class name known keys variable parts a b c d e f = rw (a, b, c, d, e, f) refl
+as_numbered : {A : Type 0} (f : ℕ → A → List Use) (n : ℕ) (xs : List A) → uses.in_places f n xs ≡ flat_map_from f n xs
+as_numbered f n [] = refl
+as_numbered f n (x ∷ xs) = ap (λ l. f n x ++ l) (as_numbered f (n + 1) xs)
 
 module _ (p : tree.ProgramTree) (x : ResolvedLayout) (k : IsUnbroken p x) where
   abbrev t : Table
@@ -62,21 +50,9 @@ module _ (p : tree.ProgramTree) (x : ResolvedLayout) (k : IsUnbroken p x) where
 
   -- ---- classes
 
-  pub laid_classes : (each (class_layout t) (upto (length t.classes)) ≡ Some x.layout.classes) × (is_sound x.layout ≡ true)
-  laid_classes =
-      let l = got (layout t) _ x k.valid.laid in
-      let o = got (disciplines t) _ x l.2 in
-      let s = got (statistics t) _ x o.2 in
-      let cs = got (each (class_layout t) (upto (length t.classes))) _ l.0 l.1 in
-      let ss = got (each set_layout t.sets) _ l.0 cs.2 in
-      let plain : PlainLayout = record { classes = cs.0; sets = ss.0 } in
-      let made = cond_some (is_layout plain) plain l.0 ss.2 in
-      let same : plain ≡ x.layout = made.1 ∙ ap (λ (r : ResolvedLayout). r.layout) (same_Some _ x s.2) in
-      (cs.1 ∙ ap (λ (z : PlainLayout). Some z.classes) same, subst (λ z. is_sound z ≡ true) same (and_parts (is_sound plain) _ made.0).0)
-
   pub class_there : (class : ℕ) (name : NameBytes) (kind : ClassKind) → slice_get t.classes class ≡ Some (name, kind) → (c : PlainClass) × (slice_get x.layout.classes class ≡ Some c) × (c.kind ≡ kind)
   class_there class name kind e =
-      let at = numbers_at (class_layout t) (length t.classes) x.layout.classes class laid_classes.0 (slice_get_within t.classes class (name, kind) e) in
+      let at = numbers_at (class_layout t) (length t.classes) x.layout.classes class (parts_of t x k.valid.laid).are_classes (slice_get_within t.classes class (name, kind) e) in
       (at.0, at.1, same_Some at.0.kind kind (sym (class_parts t class at.0 at.2).0 ∙ value_at t.classes class name kind e))
 
   -- a class of notices is in the order of rank
@@ -91,38 +67,33 @@ module _ (p : tree.ProgramTree) (x : ResolvedLayout) (k : IsUnbroken p x) where
   -- ---- EVENT sections
 
   -- a class of notices has one
-  abbrev HasEvent : NameBytes → ClassKind → Type 0
-  HasEvent name kind = kind ≡ kinds.Notice → is_some (value_for t.events name) ≡ true
+  abbrev HasEvent : NameBytes × ClassKind → Type 0
+  HasEvent e = e.1 ≡ kinds.Notice → is_some (value_for t.events e.0) ≡ true
 
   has_event : (line : Line) (name : NameBytes) → eventless t line name ≡ [] → is_some (value_for t.events name) ≡ true
   has_event line name e = holds_unless (is_some (value_for t.events name)) (errors.NoEventRoutine line) (none_listed _ e)
 
-  class_has_event : (line : Line) (kind : ClassKind) (name : NameBytes) → eventless_of t line kind name ≡ [] → HasEvent name kind
-  class_has_event line kinds.Notice name e f = has_event line name e
-  class_has_event line kinds.Permanent name e f = absurd cc
-  class_has_event line kinds.Temporary name e f = absurd cc
+  class_has_event : (name : NameBytes) (kind : ClassKind) (s : tree.PreambleTree) → in_preamble t s ≡ [] → DeclaresClass name kind s → HasEvent (name, kind)
+  class_has_event name kind (tree.event_notices line names) e a f =
+      has_event line name (at_item (λ z. eventless t line z ≡ []) names name (each_empty (eventless t line) names e) a)
+  class_has_event name kind (tree.every line own class clauses) e a f =
+      subst (λ n. is_some (value_for t.events n) ≡ true) a.0 (has_event line class (subst (λ z. eventless_of t line z class ≡ []) (a.1 ∙ f) e))
+  class_has_event name kind _ e a f = absurd a
 
-  have_events : (s : tree.PreambleTree) → in_preamble t s ≡ [] → ClassesFit HasEvent s
-  have_events (tree.event_notices line names) e =
-      λ name a f. has_event line name (at_item (λ z. eventless t line z ≡ []) names name (each_empty (eventless t line) names e) a)
-  have_events (tree.every line kind class clauses) e = class_has_event line kind class e
-  have_events _ e = tt
+  classes_have_events : (w : Declared) → IsMade p w → Every HasEvent (class_by w)
+  classes_have_events (d.Class name kind) h =
+      (class_has_event name kind h.1 (at_place (λ z. in_preamble t z ≡ []) p.preamble h.0 h.1 (preamble_kept p x k) h.2) h.3, tt)
+  classes_have_events _ h = tt
 
-  all_have_events : Every (λ (e : NameBytes × ClassKind). HasEvent e.0 e.1) t.classes
-  all_have_events = classes_declared HasEvent p (λ i s e. have_events s (at_place (λ z. in_preamble t z ≡ []) p.preamble i s (preamble_kept p x k) e))
+  all_have_events : Every HasEvent t.classes
+  all_have_events = every_first HasEvent (given_by class_by (declarations p)) (every_made p HasEvent class_by classes_have_events)
 
-  -- its class, what it is given, and whether it saves its notice
-  abbrev pub IsEventSection : NameBytes × EventSection → Type 0
-  IsEventSection e =
-      (s : tree.SectionTree) × (given : List NameBytes) × (slice_get p.sections e.1.section ≡ Some s) × (s.kind ≡ tree.event e.0 given e.1.saving) × (e.1.given ≡ length given)
+  of_event : (w : Declared) → IsMade p w → Every (IsEventSection p) (event_by w)
+  of_event (d.Event name section given saving) h = (h.1, tt)
+  of_event _ h = tt
 
-  event_head : (n : ℕ) (s : tree.SectionTree) (kind : tree.SectionKindTree) → slice_get p.sections n ≡ Some s → s.kind ≡ kind → Every IsEventSection (event_by (head_of n kind))
-  event_head n s tree.main e f = tt
-  event_head n s (tree.routine name given yielding) e f = tt
-  event_head n s (tree.event name given saving) e f = ((s, given, e, f, refl), tt)
-
-  of_events : Every IsEventSection t.events
-  of_events = every_first IsEventSection (given_by event_by (declarations p)) (every_declared IsEventSection event_by events_quiet p (λ n s e. event_head n s s.kind e refl))
+  of_events : Every (IsEventSection p) t.events
+  of_events = every_first (IsEventSection p) (given_by event_by (declarations p)) (every_made p (IsEventSection p) event_by of_event)
 
   -- a class of notices with its EVENT section
   pub record HasSection (class : ℕ) : Type 0 where
@@ -132,17 +103,17 @@ module _ (p : tree.ProgramTree) (x : ResolvedLayout) (k : IsUnbroken p x) where
     pub named : IsNamedClass t class laid
     pub known : EventSection
     pub event : value_for t.events named.name ≡ Some known
-    pub section : IsEventSection (named.name, known)
+    pub section : IsEventSection p (named.name, known)
 
   has_section : (class : ℕ) → IsNotice t.classes class → HasSection class
   has_section class h =
       let c = class_there class h.0 kinds.Notice h.1 in
       let n = k.valid.classes class c.0 c.1 in
       let same : h.0 ≡ n.name = same_Some h.0 n.name (sym (key_at t.classes class h.0 kinds.Notice h.1) ∙ n.there) in
-      let event = at_place (λ (e : NameBytes × ClassKind). HasEvent e.0 e.1) t.classes class (h.0, kinds.Notice) all_have_events h.1 refl in
+      let event = at_place HasEvent t.classes class (h.0, kinds.Notice) all_have_events h.1 refl in
       let known = some_there (value_for t.events n.name) (subst (λ name. is_some (value_for t.events name) ≡ true) same event) in
       let at = place_of_value t.events n.name known.0 known.1 in
-      record { laid = c.0; there = c.1; notice = c.2; named = n; known = known.0; event = known.1; section = at_place IsEventSection t.events at.0 (n.name, known.0) of_events at.1.1 }
+      record { laid = c.0; there = c.1; notice = c.2; named = n; known = known.0; event = known.1; section = at_place (IsEventSection p) t.events at.0 (n.name, known.0) of_events at.1.1 }
 
   pub event_kept : (n : ℕ) (s : tree.SectionTree) (name : NameBytes) (given : List NameBytes) (saving : Bool) → slice_get p.sections n ≡ Some s → s.kind ≡ tree.event name given saving → Keeps p x k s (uses.in_event s.line name given)
   event_kept n s name given saving e f = subst (λ kind. Keeps p x k s (uses.in_kind s.line kind)) f (uses_kept p x k n s e).0
@@ -193,9 +164,8 @@ module _ (p : tree.ProgramTree) (x : ResolvedLayout) (k : IsUnbroken p x) where
         let a = there (get_or t.fields class []) i (omega (arith, leb-true (length given) (length (get_or t.fields class [])) limit)) in
         let field = each_at (mode_of_attribute t) (get_or t.fields class []) n.laid.fields i a.0 n.named.fields a.1 in
         let attribute : mode_of_use sc (modes.Attribute name i) ≡ Some field.0 = ap (λ o. attribute_mode t o i) placed ∙ ap (option_and_then (mode_of_attribute t)) a.1 ∙ field.2 in
-        let same_place : 0 + i ≡ i = omega arith in
         let places = in_parts holds (map (uses.parameter_use s.line) given) (uses.in_places (uses.as_attribute s.line name) 0 given) head.1.1 in
-        let used = subst (λ j. Every holds (uses.as_attribute s.line name j g.0)) same_place (places_at holds (uses.as_attribute s.line name) 0 given i g.0 places.1 g.1) in
+        let used = at_number (uses.as_attribute s.line name) (Every holds) (in_parts holds) given i g.0 (subst (Every holds) (as_numbered (uses.as_attribute s.line name) 0 given) places.1) g.1 in
         let same = agree (mode_of_use sc (modes.Named g.0)) (mode_of_use sc (modes.Attribute name i)) mode.0 field.0 (errors.Mode s.line) used.0 named attribute in
         (mode.0, mode.1, field.1 ∙ ap Some (sym same))
 
@@ -233,9 +203,11 @@ module _ (p : tree.ProgramTree) (x : ResolvedLayout) (k : IsUnbroken p x) where
         let cut : take n.known.given parts.0.modes ≡ take n.known.given n.laid.fields = (λ j. take (n.section.4 j) parts.0.modes) ∙ given_are.1 ∙ (λ j. take (sym n.section.4 j) n.laid.fields) in
         let short = given_are.0 in
         let same_count = n.section.4 in
-        let count : length (take n.known.given parts.0.modes) ≡ n.known.given = length-take-le n.known.given parts.0.modes (omega arith) in (
-          event_of_class class keys.0 n.known.given variable.0 parts.0,
-          event_is t (section p x k) class name n.known keys.0 variable.0 parts.0 n.named.there n.event most keys.1 variable.1 parts.1,
+        let count : length (take n.known.given parts.0.modes) ≡ n.known.given = length-take-le n.known.given parts.0.modes (omega arith) in
+        let event = event_of_class class keys.0 n.known.given variable.0 parts.0 in (
+          event,
+          goes _ _ name event n.named.there (goes _ _ n.known event n.event (goes _ _ n.known.given event (cond-true _ (Some n.known.given) None most)
+              (goes _ _ keys.0 event keys.1 (goes _ _ variable.0 event variable.1 (goes _ _ parts.0 event parts.1 refl))))),
           refl,
           λ q b.
               let laid : slice_get q.layout.classes class ≡ Some n.laid = ap (λ (l : PlainLayout). slice_get l.classes class) b.layout.layout ∙ n.there in
@@ -259,6 +231,5 @@ module _ (p : tree.ProgramTree) (x : ResolvedLayout) (k : IsUnbroken p x) where
   pub events_there : (es : List Event) × (each (event_from t (section p x k)) t.ranks ≡ Some es) × Every (λ e. (q : Program) → IsWhole p x k q → IsTypedEvent q e) es
   events_there =
       let good = λ (e : Event). (q : Program) → IsWhole p x k q → IsTypedEvent q e in
-      let found = each_made (event_from t (section p x k)) good t.ranks (from_places (λ class. (e : Event) × (event_from t (section p x k) class ≡ Some e) × good e) t.ranks (λ i class e.
-      let r = event_there i class e in (r.0, r.1, r.3))) in
-      (found.0, found.1, found.3)
+      each_made (event_from t (section p x k)) good t.ranks (from_places (λ class. (e : Event) × (event_from t (section p x k) class ≡ Some e) × good e) t.ranks (λ i class e.
+      let r = event_there i class e in (r.0, r.1, r.3)))

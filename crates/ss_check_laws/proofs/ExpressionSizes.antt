@@ -29,7 +29,6 @@ of_less _ of = omega arith
 
 value_in : (m : Meaning) (e : Expression) → Within expression_nodes (1 + of_nodes m (Some e)) (value_of_entity m e)
 value_in (meanings.Statistic None statistic) e = omega arith
-value_in meanings.NoticeTime e = omega arith
 value_in _ e = omega arith
 
 alone : (m : Meaning) (n : ℕ) → Within expression_nodes (1 + n) (value_alone m)
@@ -52,7 +51,6 @@ shown_small m of = shown (value_small m of)
 pub place_small : (m : Meaning) (of : Option Expression) → Within place_nodes (1 + of_nodes m of) (place_of m of)
 place_small meanings.NoticeTime None = omega arith
 place_small _ None = omega arith
-place_small (meanings.Attribute class field mode) (Some e) = omega arith
 place_small meanings.NoticeTime (Some e) = omega arith
 place_small _ (Some e) = omega arith
 

@@ -1,24 +1,21 @@
 -- Expressions whose uses break no rule resolve, and are well typed.
-use Rattle.std.proofs.Common.{◌≡◌, ℕ, Bool, true, false, List, Option, Some, None, refl, sym, ap, subst, ◌∙◌, arith}
+use Rattle.std.proofs.Common.{◌≡◌, Bool, true, false, Option, Some, None, refl, sym, ap, subst, ◌∙◌, arith, rules}
 use Rattle.std.specs.Prelude.{◌==◌}
-use Rattle.ss_check_laws.proofs.Common.{Alpha, AreValid, Designator, eqb-true, false≢true, Global, has_value, Integer, is_mean, IsLinked, Line, Meaning, meaning_mode, Mode, mode_of_meaning, mode_of_use, Multiply, none-some, One, place_use, row_length, Scope, Two, use_breaks}
+use Rattle.ss_check_laws.proofs.Common.{Alpha, AreValid, eqb-true, false≢true, Global, goes, has_value, holds_unless, Integer, is_mean, IsLinked, Line, Meaning, meaning_mode, Mode, mode_of_meaning, mode_of_use, Multiply, none-some, One, row_length, Scope, Two}
 use Rattle.ss_names_meaning.specs.Expressions.{meaning_with_entity, subscript, expression, factors, one, resolved_operator, resolved_value, terms, two}
-use Rattle.ss_program.specs.Program.{Expression, Fetch, Constant, Attribute, OfSystemSet, OfSet, OfMember, Clock, TimeOf, Figure, FigureOf, Signed, Unary, Calculate}
+use Rattle.ss_program.specs.Program.{Expression, Fetch, Constant, Attribute, OfSystemSet, OfSet, OfMember, Clock, TimeOf, Figure, FigureOf, Calculate}
 use Rattle.ss_program.specs.WellTyped.{HasMode, TypedScope as Place}
 use Rattle.ss_tree.specs.Tree.{and_expression, and_term, ExpressionRow, ExpressionTree, named, no_expression, no_term, parenthesised, TermRow, number, text, call, product, signed, sum}
 use Rattle.ss_base.specs.declared.value.Value.TheVariants.{Whole, Text}
-use Rattle.ss_tree.specs.declared.expression.Function.{Function}
-use Rattle.ss_base.specs.declared.words.Operator.{Operator}
 use Rattle.ss_names_uses.specs.Uses as uses
 use Rattle.ss_names_uses.specs.declared.used.Role.TheVariants as roles
 use Rattle.ss_names.specs.declared.meaning.Meaning.TheVariants as meanings
-use Rattle.ss_check_rules.specs.Counts.{argument_count}
 use Rattle.ss_check_rules.specs.declared.error.CheckError.TheVariants as errors
 use Rattle.ss_names_meaning.specs.Answers.{◌>>=◌}
 use Rattle.ss_check_laws.specs.BodyLaws.{ExpressionsResolve, IsResolved}
-use Rattle.ss_check_laws.proofs.Steps.{goes, holds_unless, two_parts, two_steps}
+use Rattle.ss_check_laws.proofs.Steps.{after, after_one, after_two, GoesWell, two_parts}
 use Rattle.ss_check_laws.proofs.Linked.{IsHere}
-use Rattle.ss_check_laws.proofs.Places.{EntityFits, Number, Numbers, NumberTerms, OwnerHas, in_role, named_statistic_fits, named_with, number_mode, owner_fits, said_is}
+use Rattle.ss_check_laws.proofs.Places.{EntityFits, Number, Numbers, NumberTerms, OwnerHas, in_role, named_statistic_fits, number_mode, owner_fits, said_is}
 
 module _ (s : Scope) (g : Place) where
   -- ---- numbers
@@ -30,85 +27,35 @@ module _ (s : Scope) (g : Place) where
   pub as_number : (e : ExpressionTree) → IsResolved s g true e → Number s g e
   as_number e r = (r.0, r.2, subst (HasMode g r.0) (r.5 refl) r.3)
 
-  number_resolves : (b : Bool) (z : _) → IsResolved s g b (number z)
-  unfolding expression
-  number_resolves b z = (Constant (Whole z), Integer, refl, refl, refl, λ t. refl)
-
-  text_resolves : (line : Line) (b : Bool) (t : List ℕ) → AreValid s g.is_main (uses.in_expression line b (text t)) → IsResolved s g b (text t)
-  unfolding expression
-  text_resolves line true t h = absurd (none-some (errors.Mode line) (sym h.0))
-  text_resolves line false t h = (Constant (Text t), Alpha, refl, refl, refl, λ f. absurd (false≢true f))
-
-  parenthesised_resolves : (b : Bool) (e : ExpressionTree) → IsResolved s g b e → IsResolved s g b (parenthesised e)
-  unfolding expression
-  parenthesised_resolves b e r = r
-
   -- ---- signs, products and sums
 
-  abbrev IsNumber : Option Expression → Type 0
-  IsNumber o = (x : Expression) × (o ≡ Some x) × HasMode g x Integer
+  abbrev IsWhole : Expression → Type 0
+  IsWhole x = HasMode g x Integer
 
-  signed_number : (sign : _) (e : ExpressionTree) → Number s g e → Number s g (signed sign e)
-  unfolding expression
-  signed_number sign e n = (Signed sign n.0, goes (expression s e) (λ x. Some (Signed sign x)) n.0 (Signed sign n.0) n.1 refl, (refl, n.2))
-
-  factors_number : (left : Expression) → HasMode g left Integer → (es : ExpressionRow) → Numbers s g es → IsNumber (factors s left es)
+  factors_number : (left : Expression) → HasMode g left Integer → (es : ExpressionRow) → Numbers s g es → GoesWell IsWhole (factors s left es)
   unfolding factors
   factors_number left h no_expression n = (left, refl, h)
-  factors_number left h (and_expression e es) n =
-      let r : IsNumber (factors s (Calculate Multiply left n.0.0) es) = factors_number (Calculate Multiply left n.0.0) (refl, h, n.0.2) es n.1 in
-      (r.0, goes (expression s e) (λ x. factors s (Calculate Multiply left x) es) n.0.0 r.0 n.0.1 r.1, r.2)
+  factors_number left h (and_expression e es) n = after IsWhole _ _ n.0.0 n.0.1 (factors_number (Calculate Multiply left n.0.0) (refl, h, n.0.2) es n.1)
 
-  terms_number : (left : Expression) → HasMode g left Integer → (es : TermRow) → NumberTerms s g es → IsNumber (terms s left es)
+  terms_number : (left : Expression) → HasMode g left Integer → (es : TermRow) → NumberTerms s g es → GoesWell IsWhole (terms s left es)
   unfolding terms
   terms_number left h no_term n = (left, refl, h)
-  terms_number left h (and_term sign e es) n =
-      let r : IsNumber (terms s (Calculate (resolved_operator sign) left n.0.0) es) = terms_number (Calculate (resolved_operator sign) left n.0.0) (refl, h, n.0.2) es n.1 in
-      (r.0, goes (expression s e) (λ x. terms s (Calculate (resolved_operator sign) left x) es) n.0.0 r.0 n.0.1 r.1, r.2)
-
-  product_number : (e : ExpressionTree) (es : ExpressionRow) → Number s g e → Numbers s g es → Number s g (product e es)
-  unfolding expression
-  product_number e es n ns =
-      let r : IsNumber (factors s n.0 es) = factors_number n.0 n.2 es ns in
-      (r.0, goes (expression s e) (λ left. factors s left es) n.0 r.0 n.1 r.1, r.2)
-
-  sum_number : (e : ExpressionTree) (es : TermRow) → Number s g e → NumberTerms s g es → Number s g (sum e es)
-  unfolding expression
-  sum_number e es n ns =
-      let r : IsNumber (terms s n.0 es) = terms_number n.0 n.2 es ns in
-      (r.0, goes (expression s e) (λ left. terms s left es) n.0 r.0 n.1 r.1, r.2)
+  terms_number left h (and_term sign e es) n = after IsWhole _ _ n.0.0 n.0.1 (terms_number (Calculate (resolved_operator sign) left n.0.0) (refl, h, n.0.2) es n.1)
 
   -- ---- functions
 
-  one_argument : (es : ExpressionRow) → row_length es ≡ 1 → Numbers s g es → IsNumber (one s es)
+  one_argument : (es : ExpressionRow) → row_length es ≡ 1 → Numbers s g es → GoesWell IsWhole (one s es)
   unfolding one
-  one_argument no_expression h n = absurd (omega (arith, h))
   one_argument (and_expression e no_expression) h n = n.0
-  one_argument (and_expression e (and_expression f es)) h n = absurd (omega (arith, h))
+  one_argument _ h n = absurd (omega (arith, h))
 
-  abbrev ArePair : Option (Expression × Expression) → Type 0
-  ArePair o = (p : Expression × Expression) × (o ≡ Some p) × HasMode g p.0 Integer × HasMode g p.1 Integer
+  abbrev ArePair : Expression × Expression → Type 0
+  ArePair p = HasMode g p.0 Integer × HasMode g p.1 Integer
 
-  two_arguments : (es : ExpressionRow) → row_length es ≡ 2 → Numbers s g es → ArePair (two s es)
+  two_arguments : (es : ExpressionRow) → row_length es ≡ 2 → Numbers s g es → GoesWell ArePair (two s es)
   unfolding two
-  two_arguments no_expression h n = absurd (omega (arith, h))
-  two_arguments (and_expression e no_expression) h n = absurd (omega (arith, h))
-  two_arguments (and_expression e (and_expression f no_expression)) h n =
-      let p : Expression × Expression = (n.0.0, n.1.0.0) in
-      (p, two_steps (expression s e) (expression s f) (λ x y. Some (x, y)) n.0.0 n.1.0.0 p n.0.1 n.1.0.1 refl, n.0.2, n.1.0.2)
-  two_arguments (and_expression e (and_expression f (and_expression d es))) h n = absurd (omega (arith, h))
-
-  calculated : (o : Operator) (es : ExpressionRow) → ArePair (two s es) → IsNumber (two s es >>= λ p. Some (Calculate o p.0 p.1))
-  calculated o es p =
-      let x : Expression = Calculate o p.0.0 p.0.1 in
-      (x, goes (two s es) (λ q. Some (Calculate o q.0 q.1)) p.0 x p.1 refl, (refl, p.2, p.3))
-
-  call_number : (f : Function) (es : ExpressionRow) → row_length es ≡ argument_count f → Numbers s g es → Number s g (call f es)
-  unfolding expression
-  call_number (One op) es h n =
-      let r : IsNumber (one s es) = one_argument es h n in
-      (Unary op r.0, goes (one s es) (λ x. Some (Unary op x)) r.0 (Unary op r.0) r.1 refl, (refl, r.2))
-  call_number (Two op) es h n = calculated op es (two_arguments es h n)
+  two_arguments (and_expression e (and_expression f no_expression)) h n = after_two ArePair _ _ _ n.0 n.1.0 (λ x y i j. (i, j))
+  two_arguments _ h n = absurd (omega (arith, h))
 
 module _ (s : Scope) (g : Place) (k : IsLinked s g) where
   -- ---- what is named
@@ -119,12 +66,8 @@ module _ (s : Scope) (g : Place) (k : IsLinked s g) where
   -- all but sets, routines and MEANs have a value
   pub meant_value : (m : Meaning) (of : Option Expression) → IsHere s g k m → EntityFits s g m of → has_value m ≡ true → is_mean m ≡ false → HasValue m of
   meant_value (meanings.Variable v mode) None i f h n = (Fetch v, mode, refl, refl, i.0)
-  meant_value (meanings.Variable v mode) (Some e) i f h n = absurd f
   meant_value (meanings.Class class kind variable) None i f h n = (Fetch (Global variable), Integer, refl, refl, i.0.0)
-  meant_value (meanings.Class class kind variable) (Some e) i f h n = absurd f
   meant_value (meanings.Count count) None i f h n = (Fetch (Global count.variable), Integer, refl, refl, i.1)
-  meant_value (meanings.Count count) (Some e) i f h n = absurd f
-  meant_value (meanings.Attribute class field mode) None i f h n = absurd f
   meant_value (meanings.Attribute class field mode) (Some e) i f h n = (Attribute class field e, mode, refl, refl, (i.0, f))
   meant_value (meanings.OfSet query set) None i f h n = (OfSystemSet query set, Integer, refl, refl, (refl, owner_fits s g k set i None f))
   meant_value (meanings.OfSet query set) (Some e) i f h n =
@@ -138,46 +81,48 @@ module _ (s : Scope) (g : Place) (k : IsLinked s g) where
       let p = named_statistic_fits s g k n i (Some e) f in
       (FigureOf fold n e, Integer, refl, refl, (refl, p.0, p.1))
   meant_value meanings.Clock None i f h n = (Clock, Integer, refl, refl, refl)
-  meant_value meanings.Clock (Some e) i f h n = absurd f
-  meant_value meanings.NoticeTime None i f h n = absurd f
   meant_value meanings.NoticeTime (Some e) i f h n = (TimeOf e, Integer, refl, refl, (refl, f))
-  meant_value _ of i f h n = absurd cc
+  meant_value _ _ i f h n = absurd (search rules)
 
   module _ (line : Line) where
-    named_resolves : (b : Bool) (d : Designator) (es : ExpressionRow) → use_breaks s g.is_main (place_use line roles.Value b d (row_length es)) ≡ None → Numbers s g es → IsResolved s g b (named d es)
-    unfolding expression
-    named_resolves b d es h n =
-        let p = in_role s g k line roles.Value has_value d es b refl refl h n in
-        let of = p.5.1 in
-        let v = meant_value p.0 of p.3 p.5.4 p.2 p.4.value in
-        let q : Meaning × Option Expression = (p.0, of) in (
-          v.0,
-          v.1,
-          goes (subscript s es) (λ e. meaning_with_entity s d e >>= λ r. resolved_value r.0 r.1) p.5.0 v.0 p.5.2
-              (goes (meaning_with_entity s d p.5.0) (λ r. resolved_value r.0 r.1) q v.0 (named_with s g d p.5.0 p.0 of p.1 p.5.3) v.2),
-          v.4,
-          said_is s d ∙ ap meaning_mode p.1 ∙ v.3,
-          number_mode b p.0 v.1 v.3 p.4.mode,
-        )
-
     -- ---- expressions
 
     mutual
+      unfolding expression
+
       pub resolves : (b : Bool) (e : ExpressionTree) → AreValid s g.is_main (uses.in_expression line b e) → IsResolved s g b e
-      resolves b (number z) h = number_resolves s g b z
-      resolves b (text t) h = text_resolves s g line b t h
-      resolves b (named d es) h = named_resolves b d es h.0 (numbers es h.1)
-      resolves b (call f es) h =
-          from_number s g b (call f es)
-          (call_number s g f es (eqb-true (row_length es) (argument_count f) (holds_unless (row_length es == argument_count f) (errors.Arguments line) h.0)) (numbers es h.1)) refl
-      resolves b (parenthesised e) h = parenthesised_resolves s g b e (resolves b e h)
+      resolves b (number z) h = (Constant (Whole z), Integer, refl, refl, refl, λ t. refl)
+      resolves true (text t) h = absurd (none-some (errors.Mode line) (sym h.0))
+      resolves false (text t) h = (Constant (Text t), Alpha, refl, refl, refl, λ f. absurd (false≢true f))
+      resolves b (named d es) h =
+          let p = in_role s g k line roles.Value has_value d es b refl refl h.0 (numbers es h.1) in
+          let of = p.5.1 in
+          let v = meant_value p.0 of p.3 p.5.4 p.2 p.4.value in
+          let q : Meaning × Option Expression = (p.0, of) in (
+            v.0,
+            v.1,
+            goes (subscript s es) (λ e. meaning_with_entity s d e >>= λ r. resolved_value r.0 r.1) p.5.0 v.0 p.5.2
+                (goes (meaning_with_entity s d p.5.0) (λ r. resolved_value r.0 r.1) q v.0 (goes _ _ p.0 q p.1 (goes _ _ of q p.5.3 refl)) v.2),
+            v.4,
+            said_is s d ∙ ap meaning_mode p.1 ∙ v.3,
+            number_mode b p.0 v.1 v.3 p.4.mode,
+          )
+      resolves b (call (One op) es) h =
+          let n = one_argument s g es (eqb-true (row_length es) 1 (holds_unless (row_length es == 1) (errors.Arguments line) h.0)) (numbers es h.1) in
+          from_number s g b (call (One op) es) (after_one (IsWhole s g) _ _ n (λ x i. (refl, i))) refl
+      resolves b (call (Two op) es) h =
+          let n = two_arguments s g es (eqb-true (row_length es) 2 (holds_unless (row_length es == 2) (errors.Arguments line) h.0)) (numbers es h.1) in
+          from_number s g b (call (Two op) es) (after_one (IsWhole s g) _ _ n (λ p i. (refl, i.0, i.1))) refl
+      resolves b (parenthesised e) h = resolves b e h
       resolves b (product e es) h =
           let p = two_parts s g.is_main (uses.in_expression line true e) (uses.in_numbers line es) h in
-          from_number s g b (product e es) (product_number s g e es (as_number s g e (resolves true e p.0)) (numbers es p.1)) refl
-      resolves b (signed sign e) h = from_number s g b (signed sign e) (signed_number s g sign e (as_number s g e (resolves true e h))) refl
+          let n = as_number s g e (resolves true e p.0) in
+          from_number s g b (product e es) (after (IsWhole s g) _ _ n.0 n.1 (factors_number s g n.0 n.2 es (numbers es p.1))) refl
+      resolves b (signed sign e) h = from_number s g b (signed sign e) (after_one (IsWhole s g) _ _ (as_number s g e (resolves true e h)) (λ x i. (refl, i))) refl
       resolves b (sum e es) h =
           let p = two_parts s g.is_main (uses.in_expression line true e) (uses.in_terms line es) h in
-          from_number s g b (sum e es) (sum_number s g e es (as_number s g e (resolves true e p.0)) (number_terms es p.1)) refl
+          let n = as_number s g e (resolves true e p.0) in
+          from_number s g b (sum e es) (after (IsWhole s g) _ _ n.0 n.1 (terms_number s g n.0 n.2 es (number_terms es p.1))) refl
 
       pub numbers : (es : ExpressionRow) → AreValid s g.is_main (uses.in_numbers line es) → Numbers s g es
       numbers no_expression h = tt

@@ -1,33 +1,23 @@
 -- Heads of loops whose uses break no rule resolve, and are well typed.
-use Rattle.std.proofs.Common.{◌≡◌, true, false, List, ◌++◌, Option, Some, None, refl, subst}
+use Rattle.std.proofs.Common.{◌≡◌, true, false, ◌++◌, Option, Some, None, refl, subst}
 use Rattle.std.specs.Prelude.{is_some, IfSome}
-use Rattle.std.specs.List.{AllByRecursion as Every, flat_map}
-use Rattle.ss_check_laws.proofs.Common.{after_member, AreValid, class_named, condition, expression, ExpressionTree, for_head, from_end, from_member, guarded, GuardTree, HeadTree, Integer, is_variable, IsLinked, Line, LoopHeadTree, meaning_of_name, Name, NameBytes, no_expression, over_class, over_members, over_range, PhraseTree, Scope, set_named, StartTree, Variable, variable_named, variable_of}
-use Rattle.ss_check_laws.specs.BodyLaws.{IsResolvedForHead, IsResolvedHead, HeadsResolve}
-use Rattle.ss_names_meaning.specs.Answers.{each, ◌>>=◌, if_there}
+use Rattle.std.specs.List.{flat_map}
+use Rattle.ss_check_laws.proofs.Common.{after_member, AreValid, ClassKind, expression, Expression, ExpressionTree, for_head, from_end, from_member, goes, guarded, GuardTree, HeadTree, Integer, is_variable, IsLinked, Line, meaning_of_name, Name, NameBytes, no_expression, over_class, over_members, over_range, phrases_of, PhraseTree, Scope, StartTree, Variable, variable_named, variable_of}
+use Rattle.ss_check_laws.specs.BodyLaws.{IsResolvedForHead, HeadsResolve}
+use Rattle.ss_names_meaning.specs.Answers.{if_there}
 use Rattle.ss_names_meaning.specs.Heads.{resolved_phrase, called_variable, guard, head, resolved_start}
-use Rattle.ss_names_uses.specs.Uses.{in_named, in_expression, in_guard, in_head, in_loop_head, in_option, in_phrase, in_start, loop_variable}
-use Rattle.ss_program.specs.Program.{ToVariable, AtEnd, From, After, Head, Numbers, Members, Each, Phrase, Guard}
-use Rattle.ss_program.specs.WellTyped.{CanTakeMode, HasMode, kind_of_class, TypedScope as Place, IsTypedCondition, IsTypedPhrase, IsTypedStart}
+use Rattle.ss_names_uses.specs.Uses.{in_named, in_expression, in_guard, in_head, in_option, in_phrase, in_start, loop_variable}
+use Rattle.ss_program.specs.Program.{ToVariable, AtEnd, Guard}
+use Rattle.ss_program.specs.WellTyped.{CanTakeMode, HasMode, kind_of_class, TypedScope as Place, IsTypedCondition, IsTypedPhrase, IsTypedStart, IsTypedHead}
 use Rattle.ss_names_uses.specs.declared.used.ClassNeed.TheVariants as needs
 use Rattle.ss_names_uses.specs.declared.used.Role.TheVariants as roles
-use Rattle.ss_check_laws.proofs.Steps.{GoesWell, each_resolves, goes, three_parts, two_parts}
+use Rattle.ss_check_laws.proofs.Steps.{GoesWell, each_resolves, three_parts, two_parts, after, after_one, after_two}
 use Rattle.ss_check_laws.proofs.Linked.{variable_here}
 use Rattle.ss_check_laws.proofs.Places.{in_role, number_mode}
 use Rattle.ss_check_laws.proofs.Expressions.{number_kept}
-use Rattle.ss_check_laws.proofs.Targets.{set_resolves}
-use Rattle.ss_check_laws.proofs.Conditions.{condition_resolves}
-use Rattle.ss_check_laws.proofs.Classes.{class_resolves, permanent_kind}
-
--- ---- steps
-
-three_steps : {A B C D : Type 0} (o : Option A) (p : Option B) (q : Option C) (next : A → B → C → Option D) (a : A) (b : B) (c : C) (x : D) →
-    o ≡ Some a → p ≡ Some b → q ≡ Some c → next a b c ≡ Some x → (o >>= λ u. p >>= λ v. q >>= λ t. next u v t) ≡ Some x
-three_steps o p q next a b c x h e f i = rw (h, e, f) i
-
-four_steps : {A B C D E : Type 0} (o : Option A) (p : Option B) (q : Option C) (r : Option D) (next : A → B → C → D → Option E) (a : A) (b : B) (c : C) (d : D) (x : E) →
-    o ≡ Some a → p ≡ Some b → q ≡ Some c → r ≡ Some d → next a b c d ≡ Some x → (o >>= λ u. p >>= λ v. q >>= λ t. r >>= λ z. next u v t z) ≡ Some x
-four_steps o p q r next a b c d x h e f i j = rw (h, e, f, i) j
+use Rattle.ss_check_laws.proofs.Targets.{sets_resolve}
+use Rattle.ss_check_laws.proofs.Conditions.{conditions_resolve}
+use Rattle.ss_check_laws.proofs.Classes.{classes_resolve, permanent_kind}
 
 module _ (s : Scope) (g : Place) (k : IsLinked s g) (line : Line) where
   -- ---- variables of loops
@@ -49,40 +39,30 @@ module _ (s : Scope) (g : Place) (k : IsLinked s g) (line : Line) where
   -- ---- phrases and guards
 
   phrase_resolves : (p : PhraseTree) → AreValid s g.is_main (in_phrase line p) → GoesWell (IsTypedPhrase g) (resolved_phrase s p)
-  phrase_resolves p h =
-      let r = condition_resolves s g k line p.condition h in
-      let made : Phrase = record { kind = p.kind; condition = r.0 } in
-      (made, goes (condition s p.condition) (λ tests. Some (record { kind = p.kind; condition = tests })) r.0 made r.1 refl, r.2)
-
-  phrases_resolve : (ps : List PhraseTree) → AreValid s g.is_main (flat_map (in_phrase line) ps) → GoesWell (Every (IsTypedPhrase g)) (each (resolved_phrase s) ps)
-  phrases_resolve ps h = each_resolves s g.is_main (resolved_phrase s) (in_phrase line) (IsTypedPhrase g) phrase_resolves ps h
+  phrase_resolves p h = after_one (IsTypedPhrase g) _ _ (conditions_resolve s g k line p.condition h) (λ x t. t)
 
   guard_resolves : (t : GuardTree) → AreValid s g.is_main (in_guard line t) → GoesWell (λ (x : Guard). IsTypedCondition g x.condition) (guard s t)
-  guard_resolves t h =
-      let r = condition_resolves s g k line t.condition h in
-      let made : Guard = record { kind = t.kind; condition = r.0 } in
-      (made, goes (condition s t.condition) (λ tests. Some (record { kind = t.kind; condition = tests })) r.0 made r.1 refl, r.2)
+  guard_resolves t h = after_one (λ (x : Guard). IsTypedCondition g x.condition) _ _ (conditions_resolve s g k line t.condition h) (λ x r. r)
 
   -- ---- parts of heads
 
   step_resolves : (o : Option ExpressionTree) → AreValid s g.is_main (in_option (in_expression line true) o) → GoesWell (λ z. IfSome z (λ x. HasMode g x Integer)) (if_there (expression s) o)
   step_resolves None h = (None, refl, tt)
-  step_resolves (Some e) h =
-      let n = number_kept s g k line e h in
-      (Some n.0, goes (expression s e) (λ x. Some (Some x)) n.0 (Some n.0) n.1 refl, n.2)
+  step_resolves (Some e) h = after_one (λ (z : Option Expression). IfSome z (λ x. HasMode g x Integer)) _ _ (number_kept s g k line e h) (λ x i. i)
 
   start_resolves : (t : StartTree) → AreValid s g.is_main (in_start line t) → GoesWell (IsTypedStart g) (resolved_start s t)
   start_resolves from_end h = (AtEnd, refl, tt)
-  start_resolves (from_member e) h =
-      let n = number_kept s g k line e h in
-      (From n.0, goes (expression s e) (λ x. Some (From x)) n.0 (From n.0) n.1 refl, n.2)
-  start_resolves (after_member e) h =
-      let n = number_kept s g k line e h in
-      (After n.0, goes (expression s e) (λ x. Some (After x)) n.0 (After n.0) n.1 refl, n.2)
+  start_resolves (from_member e) h = after_one (IsTypedStart g) _ _ (number_kept s g k line e h) (λ x i. i)
+  start_resolves (after_member e) h = after_one (IsTypedStart g) _ _ (number_kept s g k line e h) (λ x i. i)
 
   -- ---- heads
 
-  pub for_resolves : (over : HeadTree) → AreValid s g.is_main (in_head line over) → IsResolvedForHead s g over
+  with_phrases : (over : HeadTree) → GoesWell (IsTypedHead g) (head s over) → AreValid s g.is_main (flat_map (in_phrase line) (phrases_of over)) → IsResolvedForHead s g over
+  with_phrases over x h =
+      let ps = each_resolves s g.is_main (resolved_phrase s) (in_phrase line) (IsTypedPhrase g) phrase_resolves (phrases_of over) h in
+      (x.0, x.1, x.2, ps.0, ps.1, ps.2)
+
+  for_resolves : (over : HeadTree) → AreValid s g.is_main (in_head line over) → IsResolvedForHead s g over
   unfolding head
   for_resolves (over_range variable from to by phrases) h =
       let first = in_expression line true from in
@@ -93,48 +73,20 @@ module _ (s : Scope) (g : Place) (k : IsLinked s g) (line : Line) where
       let v = loops variable (h.0, tt) in
       let x = number_kept s g k line from q.0 in
       let y = number_kept s g k line to q.1 in
-      let z = step_resolves by q.2 in
-      let ps = phrases_resolve phrases p.1 in
-      let made : Head = Numbers v.0 x.0 y.0 z.0 in (
-        made,
-        four_steps (variable_named s variable) (expression s from) (expression s to) (if_there (expression s) by) (λ a b c d. Some (Numbers a b c d)) v.0 x.0 y.0 z.0 made v.1 x.1 y.1 z.1 refl,
-        (v.2, x.2, y.2, z.2),
-        ps.0,
-        ps.1,
-        ps.2,
-      )
+      with_phrases (over_range variable from to by phrases)
+      (after (IsTypedHead g) _ _ v.0 v.1 (after (IsTypedHead g) _ _ x.0 x.1 (after_two (IsTypedHead g) _ _ _ y (step_resolves by q.2) (λ b c f i. (v.2, x.2, f, i))))) p.1
   for_resolves (over_members variable set from reverse phrases) h =
       let p = three_parts s g.is_main (in_named line roles.Set false set) (in_start line from) (flat_map (in_phrase line) phrases) h.1 in
       let v = loops variable (h.0, tt) in
-      let o = set_resolves s g k line set p.0 in
-      let x = start_resolves from p.1 in
-      let ps = phrases_resolve phrases p.2 in
-      let made : Head = Members v.0 o.0.0 o.0.1 x.0 reverse in (
-        made,
-        three_steps (variable_named s variable) (set_named s set) (resolved_start s from) (λ a b c. Some (Members a b.0 b.1 c reverse)) v.0 o.0 x.0 made v.1 o.1 x.1 refl,
-        (v.2, o.2, x.2),
-        ps.0,
-        ps.1,
-        ps.2,
-      )
+      with_phrases (over_members variable set from reverse phrases)
+      (after (IsTypedHead g) _ _ v.0 v.1 (after_two (IsTypedHead g) _ _ _ (sets_resolve s g k line set p.0) (start_resolves from p.1) (λ o x f i. (v.2, f, i)))) p.2
   for_resolves (over_class name called phrases) h =
       let p = two_parts s g.is_main (in_option (loop_variable line) called) (flat_map (in_phrase line) phrases) h.1 in
-      let c = class_resolves s g k line needs.Permanent name (is_some called) h.0 in
-      let v = called_loops c.0.variable called c.5 p.0 in
-      let ps = phrases_resolve phrases p.1 in
-      let made : Head = Each v.0 c.0.class in (
-        made,
-        goes (class_named s needs.Permanent name) (λ x. called_variable s x.variable called >>= λ y. Some (Each y x.class)) c.0 made c.2
-            (goes (called_variable s c.0.variable called) (λ y. Some (Each y c.0.class)) v.0 made v.1 refl),
-        (v.2, subst (λ kind. kind_of_class g.program c.0.class ≡ Some kind) (permanent_kind c.1 c.4) c.3),
-        ps.0,
-        ps.1,
-        ps.2,
-      )
-
-  head_resolves : (over : LoopHeadTree) → AreValid s g.is_main (in_loop_head line over) → IsResolvedHead s g over
-  head_resolves (for_head over) h = for_resolves over h
-  head_resolves (guarded guards) h = each_resolves s g.is_main (guard s) (in_guard line) (λ (x : Guard). IsTypedCondition g x.condition) guard_resolves guards h
+      let c = classes_resolve s g k line needs.Permanent name (is_some called) (h.0, tt) in
+      let permanent = subst (λ (kind : ClassKind). kind_of_class g.program c.0.class ≡ Some kind) (permanent_kind c.1 c.4) c.3 in
+      with_phrases (over_class name called phrases)
+      (after (IsTypedHead g) _ _ c.0 c.2 (after_one (IsTypedHead g) _ _ (called_loops c.0.variable called c.5 p.0) (λ v i. (i, permanent)))) p.1
 
 pub heads_resolve : HeadsResolve
-heads_resolve s g k line over h = head_resolves s g k line over h
+heads_resolve s g k line (for_head over) h = for_resolves s g k line over h
+heads_resolve s g k line (guarded guards) h = each_resolves s g.is_main (guard s) (in_guard line) (λ (x : Guard). IsTypedCondition g x.condition) (guard_resolves s g k line) guards h

@@ -1,9 +1,9 @@
 -- Items of PRINT whose uses break no rule resolve, each to one that its field takes.
-use Rattle.std.proofs.Common.{◌≡◌, ◌⊎◌, inl, inr, ℕ, zero, suc, ◌≤◌, Bool, true, false, Option, Some, None, refl, sym, ap, subst, ◌∙◌, arith}
+use Rattle.std.proofs.Common.{◌≡◌, ◌⊎◌, inl, inr, ℕ, zero, suc, ◌≤◌, Bool, true, false, Option, Some, None, refl, sym, ap, subst, arith}
 use Rattle.std.specs.Prelude.{nat_le, option_map, if◌then◌else◌}
-use Rattle.ss_check_laws.proofs.Common.{AreValid, both_ways, Designator, expression, ExpressionRow, ExpressionTree, Field, has_value, if_means, is_mean, IsLinked, item, leb-true, Line, Meaning, meaning_of, named, none-some, parenthesised, place_named, resolved_item, Scope}
-use Rattle.ss_check_rules.specs.Refusal.{use_breaks, used_breaks}
-use Rattle.ss_names_uses.specs.Uses.{row_length, as_mean, in_item, place_use, with_decimals}
+use Rattle.ss_check_laws.proofs.Common.{AreValid, both_ways, Designator, ExpressionTree, Field, has_value, holds_unless, if_means, is_mean, IsLinked, leb-true, Line, Meaning, meaning_of, named, none-some, parenthesised, resolved_item, Scope}
+use Rattle.ss_check_rules.specs.Refusal.{used_breaks}
+use Rattle.ss_names_uses.specs.Uses.{as_mean, in_item, with_decimals}
 use Rattle.ss_program.specs.Program.{Expression, PrintItem, AValue, AMean, AMeanOf}
 use Rattle.ss_program.specs.WellTyped.{TypedScope as Place, CanTakeItem}
 use Rattle.ss_names_uses.specs.declared.used.Role.TheVariants as roles
@@ -11,10 +11,10 @@ use Rattle.ss_names_uses.specs.declared.used.Used.{Used}
 use Rattle.ss_names_uses.specs.declared.used.Used.TheVariants.{Mean, Unfit}
 use Rattle.ss_names.specs.declared.meaning.Meaning.TheVariants as meanings
 use Rattle.ss_check_rules.specs.declared.error.CheckError.TheVariants as errors
-use Rattle.ss_check_laws.specs.BodyLaws.{IsResolvedItem, ItemsResolve, IsResolved}
-use Rattle.ss_check_laws.proofs.Steps.{goes, holds_unless}
+use Rattle.ss_check_laws.specs.BodyLaws.{IsResolvedItem, ItemsResolve}
+use Rattle.ss_check_laws.proofs.Steps.{after}
 use Rattle.ss_check_laws.proofs.Linked.{IsHere}
-use Rattle.ss_check_laws.proofs.Places.{EntityFits, Numbers, in_role, named_statistic_fits, placed}
+use Rattle.ss_check_laws.proofs.Places.{EntityFits, in_role, named_statistic_fits, placed}
 use Rattle.ss_check_laws.proofs.Expressions.{meant_value, numbers, resolves}
 
 -- no decimals; or at most 9, if something holds
@@ -65,21 +65,15 @@ module _ (s : Scope) (g : Place) (k : IsLinked s g) (line : Line) (field : Field
       let v = meant_value s g k m of i f h refl in
       (AValue v.0, ap (option_map AValue) v.2, ((v.1, v.4), none_unless field.decimals (is_mean m ≡ true) (both_ways (is_mean m) refl) d))
 
-  named_item : (d : Designator) (es : ExpressionRow) → FewDecimals field.decimals (IsMeanKept s g.is_main line (Mean d)) → use_breaks s g.is_main (place_use line roles.Item false d (row_length es)) ≡ None → Numbers s g es → IsResolvedItem s g field (named d es)
-  named_item d es few h n =
-      let p = in_role s g k line roles.Item has_value d es false refl refl h n in
-      let r = meant_item p.0 p.5.1 p.3 p.5.4 p.2 (decimals_meant s g.is_main line d p.0 field.decimals p.1 few) in
-      let q : Meaning × Option Expression = (p.0, p.5.1) in
-      (r.0, goes (place_named s d es) (λ x. resolved_item x.0 x.1) q r.0 (placed s g d es p.0 p.5 p.1) r.1, r.2)
-
-  -- what is no name alone has a value
-  valued_item : (e : ExpressionTree) → item s e ≡ option_map AValue (expression s e) → (IsMeanKept s g.is_main line (as_mean e) → ⊥) → FewDecimals field.decimals (IsMeanKept s g.is_main line (as_mean e)) → IsResolved s g false e → IsResolvedItem s g field e
-  valued_item e same never few r = (AValue r.0, same ∙ ap (option_map AValue) r.2, ((r.1, r.3), none_unless field.decimals (IsMeanKept s g.is_main line (as_mean e)) never few))
-
   item_resolves : (e : ExpressionTree) → FewDecimals field.decimals (IsMeanKept s g.is_main line (as_mean e)) → AreValid s g.is_main (in_item line e) → IsResolvedItem s g field e
-  item_resolves (named d es) few h = named_item d es few h.0 (numbers s g k line es h.1)
+  item_resolves (named d es) few h =
+      let p = in_role s g k line roles.Item has_value d es false refl refl h.0 (numbers s g k line es h.1) in
+      after {A = Meaning × Option Expression} (CanTakeItem g field) _ _ (p.0, p.5.1) (placed s g d es p.0 p.5 p.1)
+      (meant_item p.0 p.5.1 p.3 p.5.4 p.2 (decimals_meant s g.is_main line d p.0 field.decimals p.1 few))
   item_resolves (parenthesised e) few h = item_resolves e few h
-  item_resolves e few h = valued_item e refl (no_mean s g.is_main line) few (resolves s g k line false e h)
+  item_resolves e few h =
+      let r = resolves s g k line false e h in
+      (AValue r.0, ap (option_map AValue) r.2, ((r.1, r.3), none_unless field.decimals (IsMeanKept s g.is_main line (as_mean e)) (no_mean s g.is_main line) few))
 
 pub items_resolve : ItemsResolve
 items_resolve s g k line field e h i = item_resolves s g k line field e (decimals_kept s g.is_main line e field.decimals h) i

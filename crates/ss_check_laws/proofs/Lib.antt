@@ -8,14 +8,12 @@ mod Items
 mod Classes
 mod Conditions
 mod Heads
-mod Parts
 mod Lists
 mod Values
 mod Entities
 mod Notices
 mod Printing
 mod Statements
-mod Bodies
 mod Within
 mod ExpressionSizes
 mod PartSizes

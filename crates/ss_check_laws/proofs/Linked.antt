@@ -1,52 +1,22 @@
 -- What a name means in a linked section is there in the program.
 use Rattle.std.proofs.Common.{◌≡◌, ◌≢◌, ℕ, true, List, length, Option, Some, None, refl, sym, ap, subst, ◌∙◌}
-use Rattle.std.specs.Prelude.{◌&&◌, nat_le, nat_lt, option_map, slice_get, unwrap_or, Contains}
-use Rattle.std.specs.List.{AllByRecursion as Every, list_all}
-use Rattle.std.specs.Map.{lookup, values_of}
+use Rattle.std.specs.Prelude.{nat_lt, option_map, slice_get, unwrap_or, Contains}
+use Rattle.std.specs.List.{AllByRecursion as Every}
+use Rattle.std.specs.Map.{lookup}
 use Rattle.std.specs.Option.{option_and_then}
-use Rattle.ss_check_laws.proofs.Common.{and_parts, ClassKind, cond_some, CountedClass, Designator, get_or_from_slice_get, got, hidden_by, Integer, is_variable, IsLinked, known_mode, local_mode, ltb-true, Meaning, meaning_of, meaning_of_class, meaning_of_name, MemberCount, Mode, mode_of_meaning, NameBytes, numbers_at, Owner, place_in, PlainClass, PlainLayout, same_name, same_Some, Scope, SetLayout, slice_get_within, Statistic, Subject, ToVariable, value_for, Variable, variable_of}
+use Rattle.ss_check_laws.proofs.Common.{and_parts, ClassKind, CountedClass, Designator, get_or_from_slice_get, hidden_by, Integer, is_variable, IsLinked, known_mode, local_mode, ltb-true, Meaning, meaning_of, meaning_of_class, meaning_of_name, MemberCount, Mode, mode_of_meaning, NameBytes, numbers_at, Owner, place_in, PlainClass, PlainLayout, same_name, same_Some, Scope, SetLayout, slice_get_within, Statistic, Subject, ToVariable, value_for, Variable, variable_of}
 use Rattle.std.proofs.lemmas.List.Sums.{AllPass-from_list_all}
-use Rattle.ss_names.specs.Table.{owner_of_meaning, owner_of_subject, Table, owner_kind_of_member, owner_kind_of_set, owner_of_statistic, subject_of}
+use Rattle.ss_names.specs.Table.{owner_of_meaning, owner_of_subject, owner_kind_of_member, owner_kind_of_set, owner_of_statistic, subject_of}
 use Rattle.ss_names_declarations.proofs.Entries.{value_by_place, there as item_at, value_at}
-use Rattle.ss_names_meaning.specs.Answers.{each, upto, ◌>>=◌}
-use Rattle.ss_names_meaning.specs.Layouts.{resolved_layout, ResolvedLayout, class_layout, counts, disciplines, layout, set_layout, statistics}
 use Rattle.ss_program.specs.WellTyped.{CanTakeMode, kind_of_class, TypedScope as Place, field_mode}
 use Rattle.ss_program.specs.declared.expression.Variable.TheVariants.{Global, Local}
-use Rattle.ss_base.specs.declared.layout.Discipline.{Discipline}
 use Rattle.ss_base.specs.declared.layout.Owner.TheVariants as owners
-use Rattle.ss_base.specs.Layout.{is_layout, is_narrow, is_sound, layout_limit, layout_of, names_classes, owns_among}
+use Rattle.ss_base.specs.Layout.{names_classes, owns_among}
 use Rattle.ss_tree.specs.declared.expression.Designator.TheVariants as designators
 use Rattle.ss_program.specs.declared.sections.Subject.TheVariants as subjects
-use Rattle.ss_names.specs.declared.entry.Set.{Set}
 use Rattle.ss_names.specs.declared.meaning.Meaning.TheVariants as meanings
 use Rattle.ss_names_laws.specs.ValidTables.{IsMeant, IsPlainAt, IsSetAt, IsStatisticAt, IsWatched}
-
--- ---- layouts
-
-layout_there : (t : Table) (x : ResolvedLayout) → resolved_layout t ≡ Some x → layout t ≡ Some x.layout
-layout_there t x e =
-    let made : PlainLayout → List Discipline → List Statistic → Option ResolvedLayout =
-    λ laid ordered kept. Some (record { layout = laid; disciplines = ordered; globals = values_of t.variables; counts = counts t; statistics = kept }) in
-    let a = got (layout t) (λ laid. disciplines t >>= λ ordered. statistics t >>= λ kept. made laid ordered kept) x e in
-    let b = got (disciplines t) (λ ordered. statistics t >>= λ kept. made a.0 ordered kept) x a.2 in
-    let c = got (statistics t) (λ kept. made a.0 b.0 kept) x b.2 in
-    a.1 ∙ ap (option_map (λ (y : ResolvedLayout). y.layout)) c.2
-
--- the sets of a layout name classes that are there
-layout_sound : (t : Table) (x : PlainLayout) → layout t ≡ Some x → is_sound x ≡ true
-layout_sound t x e =
-    let a = got (each (class_layout t) (upto (length t.classes))) (λ classes. each set_layout t.sets >>= λ sets. layout_of classes sets) x e in
-    let b = got (each set_layout t.sets) (λ sets. layout_of a.0 sets) x a.2 in
-    let made : PlainLayout = record { classes = a.0; sets = b.0 } in
-    let c = cond_some (is_layout made) made x b.2 in
-    let parts = and_parts (is_sound made) (nat_le (length made.classes) layout_limit && (nat_le (length made.sets) layout_limit && list_all is_narrow made.classes)) c.0 in
-    subst (λ (l : PlainLayout). is_sound l ≡ true) c.1 parts.0
-
-set_parts : (known : Set) (laid : SetLayout) → set_layout known ≡ Some laid → (known.owner ≡ Some laid.owner) × (known.member ≡ Some laid.member)
-set_parts known laid e =
-    let a = got known.owner (λ owner. known.member >>= λ member. Some (record { owner = owner; member = member })) laid e in
-    let b = got known.member (λ member. Some (record { owner = a.0; member = member })) laid a.2 in
-    (a.1 ∙ ap (option_map (λ (l : SetLayout). l.owner)) b.2, b.1 ∙ ap (option_map (λ (l : SetLayout). l.member)) b.2)
+use Rattle.ss_names_laws.proofs.Parts.{parts_of, set_parts}
 
 module _ (s : Scope) (g : Place) (k : IsLinked s g) where
   -- ---- classes and sets
@@ -79,7 +49,7 @@ module _ (s : Scope) (g : Place) (k : IsLinked s g) where
   set_here set i =
       let classes = length k.laid.layout.classes in
       let sets = k.laid.layout.sets in
-      let all = AllPass-from_list_all (names_classes classes) sets (layout_sound s.table k.laid.layout (layout_there s.table k.laid k.table.laid)) in
+      let all = AllPass-from_list_all (names_classes classes) sets (parts_of s.table k.laid k.table.laid).sound in
       let named : names_classes classes i.laid ≡ true =
       subst (λ (l : SetLayout). names_classes classes l ≡ true) (get_or_from_slice_get sets set i.laid i.laid i.laid_there) (all set i.laid (slice_get_within sets set i.laid i.laid_there)) in
       let both = and_parts (owns_among classes i.laid.owner) (nat_lt i.laid.member classes) named in
@@ -140,9 +110,7 @@ module _ (s : Scope) (g : Place) (k : IsLinked s g) where
   IsHere (meanings.OfSet query set) = IsSetHere set
   IsHere (meanings.OfMember query set) = IsSetHere set
   IsHere (meanings.Statistic fold n) = IsStatisticHere n
-  IsHere (meanings.Routine n) = Unit {0}
-  IsHere meanings.Clock = Unit {0}
-  IsHere meanings.NoticeTime = Unit {0}
+  IsHere _ = Unit {0}
 
   plain_here : (n : ℕ) (mode : Mode) → IsPlainAt k.laid n mode → CanTakeMode g (ToVariable (Global n)) mode
   plain_here n mode i = (
@@ -168,9 +136,7 @@ module _ (s : Scope) (g : Place) (k : IsLinked s g) where
   meant_here (meanings.OfSet query set) i = set_here set i
   meant_here (meanings.OfMember query set) i = set_here set i
   meant_here (meanings.Statistic fold n) i = statistic_here n i
-  meant_here (meanings.Routine n) i = tt
-  meant_here meanings.Clock i = absurd i
-  meant_here meanings.NoticeTime i = absurd i
+  meant_here _ i = tt
 
   -- a local variable has its mode
   local_here : (name : NameBytes) (n : ℕ) → place_in s.locals name ≡ Some n → slice_get g.locals n ≡ Some (known_mode (lookup (same_name name) s.locals))

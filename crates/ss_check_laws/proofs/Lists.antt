@@ -1,34 +1,9 @@
 -- Steps one after the other, and lists of which each item is such as its place wants.
-use Rattle.std.proofs.Common.{◌≡◌, ℕ, zero, suc, ◌+◌, ◌≤◌, Bool, true, false, List, [], ◌∷◌, length, take, drop, Option, Some, refl, sym, ap, subst, arith, ◌∙◌}
-use Rattle.ss_check_laws.proofs.Common.{AllZip, AreValid, got, same_Some, Scope, slice_get, Use}
-use Rattle.ss_names_meaning.specs.Answers.{where_holds, ◌>>=◌, each}
+use Rattle.std.proofs.Common.{◌≡◌, ℕ, zero, suc, ◌+◌, ◌≤◌, Bool, List, [], ◌∷◌, length, take, drop, Option, Some, refl, ap, subst, arith, ◌∙◌}
+use Rattle.ss_check_laws.proofs.Common.{AllZip, AreValid, Scope, slice_get, Use}
+use Rattle.ss_names_meaning.specs.Answers.{each}
 use Rattle.ss_names_uses.specs.Uses.{in_places}
-use Rattle.ss_check_laws.proofs.Steps.{GoesWell, two_parts}
-
--- ---- steps
-
--- one step after the other
-pub after : {A C : Type 0} (Q : C → Type 0) (o : Option A) (next : A → Option C) (a : A) → o ≡ Some a → GoesWell Q (next a) → GoesWell Q (o >>= next)
-after Q o next a e x = (x.0, rw e x.1, x.2)
-
-pub after_one : {A C : Type 0} {P : A → Type 0} (Q : C → Type 0) (o : Option A) (f : A → C) → GoesWell P o → ((a : A) → P a → Q (f a)) → GoesWell Q (o >>= λ a. Some (f a))
-after_one Q o f x good = after Q o (λ a. Some (f a)) x.0 x.1 (f x.0, refl, good x.0 x.2)
-
-pub after_two : {A B C : Type 0} {P : A → Type 0} {R : B → Type 0} (Q : C → Type 0) (o : Option A) (p : Option B) (f : A → B → C) → GoesWell P o → GoesWell R p →
-    ((a : A) (b : B) → P a → R b → Q (f a b)) → GoesWell Q (o >>= λ a. p >>= λ b. Some (f a b))
-after_two Q o p f x y good = after Q o (λ a. p >>= λ b. Some (f a b)) x.0 x.1 (after_one Q p (f x.0) y (λ b h. good x.0 b x.2 h))
-
-pub holds : {A : Type 0} (b : Bool) (x : A) → b ≡ true → where_holds b x ≡ Some x
-holds true x h = refl
-holds false x h = absurd cc
-
-pub each_length : {A B : Type 0} (act : A → Option B) (xs : List A) (ys : List B) → each act xs ≡ Some ys → length ys ≡ length xs
-unfolding each
-each_length act [] ys e = sym (ap length (same_Some [] ys e))
-each_length act (x ∷ xs) ys e =
-    let p = got (act x) (λ z. each act xs >>= λ zs. Some (z ∷ zs)) ys e in
-    let q = got (each act xs) (λ zs. Some (p.0 ∷ zs)) ys p.2 in
-    sym (ap length (same_Some (p.0 ∷ q.0) ys q.2)) ∙ ap suc (each_length act xs q.0 q.1)
+use Rattle.ss_check_laws.proofs.Steps.{after_two, GoesWell, two_parts}
 
 -- ---- places
 

@@ -1,28 +1,25 @@
 -- SCHEDULE, CANCEL and RESET.
-use Rattle.std.proofs.Common.{◌≡◌, ℕ, ◌<◌, ◌≤◌, Bool, true, false, List, ◌++◌, length, get_or, take, Option, Some, None, is_some, nat_le, option_map, [], refl, sym, ap, subst, arith, ◌∙◌, le-leb, leb-true}
-use Rattle.ss_check_laws.proofs.Common.{AreValid, at_time, attribute_mode, cancel_statement, ClassKind, each_at, expression, ExpressionTree, in_units, is_kind, IsLinked, IsResolvedClass, Line, Mode, mode_of_attribute, NameBytes, NamedClass, NamedTree, now, option_and_then, option_map_or, place_in, PlainClass, PlainLayout, reset_statement, schedule_new, schedule_statement, Scope, slice_get, slice_get_within, Table, there, unless, WhenTree}
+use Rattle.std.proofs.Common.{◌≡◌, ℕ, ◌<◌, ◌≤◌, Bool, true, List, length, get_or, take, Option, Some, None, nat_le, option_map, [], refl, sym, ap, subst, arith, ◌∙◌, le-leb, leb-true}
+use Rattle.ss_check_laws.proofs.Common.{AreValid, at_time, attribute_mode, ClassKind, cond-true, each_at, each_length, expression, ExpressionTree, holds_unless, in_units, is_kind, IsLinked, IsResolvedClass, Line, Mode, mode_of_attribute, NameBytes, NamedClass, now, option_and_then, option_map_or, place_in, PlainClass, PlainLayout, Scope, slice_get, slice_get_within, Table, there, unless, WhenTree}
 use Rattle.ss_names_meaning.specs.Answers.{each, where_holds, ◌>>=◌}
-use Rattle.ss_program.specs.Program.{Expression, Statement, Now, When, Restart, ScheduleNew, Schedule}
-use Rattle.ss_program.specs.WellTyped.{HasMode, IsTypedStatement, TypedScope as Place, HaveModes, IsTypedWhen, AreTypedGiven, IsTypedRestart}
+use Rattle.ss_program.specs.Program.{Expression, Statement, Now, When}
+use Rattle.ss_program.specs.WellTyped.{HasMode, IsTypedStatement, TypedScope as Place, HaveModes, IsTypedWhen, AreTypedGiven}
 use Rattle.ss_base.specs.declared.layout.ClassKind.TheVariants as kinds
 use Rattle.ss_names_uses.specs.declared.used.ClassNeed.TheVariants as needs
 use Rattle.ss_names_uses.specs.declared.used.ModeOf.TheVariants as modes
-use Rattle.ss_names_uses.specs.declared.used.Role.TheVariants as roles
 use Rattle.ss_names_uses.specs.Uses as uses
 use Rattle.ss_names.specs.declared.meaning.Meaning.TheVariants as meanings
 use Rattle.ss_check_rules.specs.declared.error.CheckError.TheVariants as errors
-use Rattle.ss_names_meaning.specs.Statements.{restart, simple_statement, when}
-use Rattle.ss_check_laws.proofs.Steps.{GoesWell, each_resolves, holds_unless, three_parts}
+use Rattle.ss_names_meaning.specs.Statements.{when}
+use Rattle.ss_check_laws.proofs.Steps.{GoesWell, after, after_one}
 use Rattle.ss_check_laws.proofs.Expressions.{number_kept}
-use Rattle.ss_check_laws.proofs.Lists.{after, after_one, each_length, holds, in_order}
-use Rattle.ss_check_laws.proofs.Parts.{classes_resolve, restarts_resolve}
+use Rattle.ss_check_laws.proofs.Lists.{in_order}
 use Rattle.ss_check_laws.proofs.Values.{value_resolves}
-use Rattle.ss_check_laws.proofs.Entities.{class_is, new_resolves, old_resolves}
+use Rattle.ss_check_laws.proofs.Entities.{class_is}
 
-notice_kind : (kind : ClassKind) → is_kind needs.Notice kind ≡ true → kind ≡ kinds.Notice
+pub notice_kind : (kind : ClassKind) → is_kind needs.Notice kind ≡ true → kind ≡ kinds.Notice
 notice_kind kinds.Notice h = refl
-notice_kind kinds.Permanent h = absurd cc
-notice_kind kinds.Temporary h = absurd cc
+notice_kind _ h = absurd cc
 
 -- the mode of an attribute, by its place in its class
 field_there : (t : Table) (names : List NameBytes) (fields : List Mode) (i : ℕ) (m : Mode) → each (mode_of_attribute t) names ≡ Some fields → slice_get fields i ≡ Some m → option_and_then (mode_of_attribute t) (slice_get names i) ≡ Some m
@@ -73,44 +70,11 @@ module _ (s : Scope) (g : Place) (linked : IsLinked s g) (line : Line) where
       )
 
   -- what both forms of SCHEDULE end with
-  scheduled : (name : NameBytes) (is_called : Bool) (c : IsResolvedClass s g needs.Notice name is_called) (given : List ExpressionTree) (time : WhenTree) (f : List Expression → When → Statement) →
+  pub scheduled : (name : NameBytes) (is_called : Bool) (c : IsResolvedClass s g needs.Notice name is_called) (given : List ExpressionTree) (time : WhenTree) (f : List Expression → When → Statement) →
       AreValid s g.is_main (uses.in_given line name given) → AreValid s g.is_main (uses.in_when line time) → ((xs : List Expression) (due : When) → AreTypedGiven g c.0.class xs → IsTypedWhen g due → IsTypedStatement g (f xs due)) →
       GoesWell (IsTypedStatement g) (each (expression s) given >>= λ xs. when s time >>= λ due. where_holds (nat_le (length xs) c.0.attributes) (f xs due))
   scheduled name is_called c given time f k j good =
       let us = given_resolve name is_called c given k in
       let t = when_resolves time j in
       after (IsTypedStatement g) _ _ us.0 us.1 (after (IsTypedStatement g) _ _ t.0 t.1
-      (f us.0 t.0, holds (nat_le (length us.0) c.0.attributes) (f us.0 t.0) us.2.0, good us.0 t.0 us.2.1 t.2))
-
-  pub schedule_new_resolves : (name : NameBytes) (called : Option NamedTree) (given : List ExpressionTree) (time : WhenTree) →
-      AreValid s g.is_main (uses.in_new line needs.Notice name called ++ uses.in_given line name given ++ uses.in_when line time) →
-      GoesWell (IsTypedStatement g) (simple_statement s (schedule_new line name called given time))
-  unfolding simple_statement
-  schedule_new_resolves name called given time k =
-      let p = three_parts s g.is_main (uses.in_new line needs.Notice name called) (uses.in_given line name given) (uses.in_when line time) k in
-      let c = classes_resolve s g linked line needs.Notice name (is_some called) (p.0.0, tt) in
-      let x = new_resolves s g linked line needs.Notice name called c p.0.1 in
-      after (IsTypedStatement g) _ _ c.0 c.2 (after (IsTypedStatement g) _ _ x.0 x.1
-      (scheduled name (is_some called) c given time (λ xs due. ScheduleNew line c.0.class x.0 xs due) p.1 p.2 (λ xs due h f. (h, x.2, f))))
-
-  pub schedule_resolves : (name : NameBytes) (called : Option ExpressionTree) (given : List ExpressionTree) (time : WhenTree) →
-      AreValid s g.is_main (uses.in_old line needs.Notice name called ++ uses.in_given line name given ++ uses.in_when line time) →
-      GoesWell (IsTypedStatement g) (simple_statement s (schedule_statement line name called given time))
-  unfolding simple_statement
-  schedule_resolves name called given time k =
-      let p = three_parts s g.is_main (uses.in_old line needs.Notice name called) (uses.in_given line name given) (uses.in_when line time) k in
-      let c = classes_resolve s g linked line needs.Notice name (is_some called) (p.0.0, tt) in
-      let x = old_resolves s g linked line needs.Notice name called c p.0.1 in
-      after (IsTypedStatement g) _ _ c.0 c.2 (after (IsTypedStatement g) _ _ x.0 x.1
-      (scheduled name (is_some called) c given time (λ xs due. Schedule line c.0.class x.0 xs due) p.1 p.2 (λ xs due h f. (h, x.2, f))))
-
-  pub cancel_resolves : (name : NameBytes) (called : Option ExpressionTree) → AreValid s g.is_main (uses.in_old line needs.Notice name called) → GoesWell (IsTypedStatement g) (simple_statement s (cancel_statement line name called))
-  unfolding simple_statement
-  cancel_resolves name called k =
-      let c = classes_resolve s g linked line needs.Notice name (is_some called) (k.0, tt) in
-      after (IsTypedStatement g) _ _ c.0 c.2 (after_one (IsTypedStatement g) _ _ (old_resolves s g linked line needs.Notice name called c k.1) (λ x h. (c.3 ∙ ap Some (notice_kind c.1 c.4), h)))
-
-  pub reset_resolves : (ns : List NamedTree) → AreValid s g.is_main (uses.in_all_named line roles.Reset ns) → GoesWell (IsTypedStatement g) (simple_statement s (reset_statement line ns))
-  unfolding simple_statement
-  reset_resolves ns k =
-      after_one (IsTypedStatement g) _ _ (each_resolves s g.is_main (restart s) (uses.in_named line roles.Reset false) (λ (r : Restart). IsTypedRestart g r.statistic r.of) (restarts_resolve s g linked line) ns k) (λ xs h. h)
+      (f us.0 t.0, cond-true (nat_le (length us.0) c.0.attributes) (Some (f us.0 t.0)) None us.2.0, good us.0 t.0 us.2.1 t.2))

@@ -19,9 +19,8 @@ own_nodes (over_members variable set from reverse phrases) = 1 + tree.named_node
 own_nodes (over_class class called phrases) = 1
 
 pub own_and_phrases : (over : HeadTree) → own_nodes over + sum_by tree.phrase_tree_nodes (phrases_of over) ≤ tree.head_tree_nodes over
-own_and_phrases (over_range variable from to step phrases) = omega arith
-own_and_phrases (over_members variable set from reverse phrases) = omega arith
 own_and_phrases (over_class class called phrases) = omega arith
+own_and_phrases _ = omega arith
 
 module _ (s : Scope) where
   -- ---- conditions

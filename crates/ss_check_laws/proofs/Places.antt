@@ -2,11 +2,11 @@
 use Rattle.std.proofs.Common.{◌≡◌, ℕ, ◌≤◌, Bool, true, false, Option, Some, None, refl, sym, ap, subst, ◌∙◌, arith}
 use Rattle.std.specs.Prelude.{not, ◌&&◌, ◌||◌, ◌==◌, option_map, slice_get, if◌then◌else◌}
 use Rattle.std.proofs.lemmas.Bool.{eqb-true, leb-true, not-false, not-true, or_parts}
-use Rattle.ss_check_laws.proofs.Common.{and_expression, and_term, Designator, Expression, ExpressionRow, ExpressionTree, Fetch, Integer, IsLinked, Line, Meaning, Mode, no_expression, no_term, Owner, owner_kind_of_set, owner_of_meaning, owner_of_statistic, owner_of_subject, SetLayout, Statistic, Subject, TermRow, unless, Variable}
+use Rattle.ss_check_laws.proofs.Common.{and_expression, and_term, Designator, Expression, ExpressionRow, ExpressionTree, Fetch, first_fails, first_holds, goes, holds_unless, Integer, IsLinked, Line, Meaning, Mode, no_expression, no_term, Owner, owner_kind_of_set, owner_of_meaning, owner_of_statistic, owner_of_subject, SetLayout, Statistic, Subject, TermRow, unless}
 use Rattle.ss_check_rules.specs.Kinds.{if_means, is_target, may_have, meaning_in_role, suits, suits_subscripts, takes_values}
 use Rattle.ss_check_rules.specs.Modes.{meaning_mode, mode_of_use, is_mean_as_value, is_text, mixes_modes}
 use Rattle.ss_names_meaning.specs.Expressions.{entity_of, expression, meaning_with_entity, place_named, set_owner, of_owner, subscript}
-use Rattle.ss_names_scopes.specs.Scopes.{meaning_of, meaning_of_class, mode_of_meaning, Scope, variable_of, implied, meaning_of_owner as implied_of}
+use Rattle.ss_names_scopes.specs.Scopes.{meaning_of, meaning_of_class, mode_of_meaning, Scope, implied, meaning_of_owner as implied_of}
 use Rattle.ss_names_uses.specs.Uses.{row_length, designated}
 use Rattle.ss_program.specs.WellTyped.{HasMode, TypedScope as Place, IsTypedRestart, IsAlone, IsOfEntities, IsTypedOwner, mode_at, owner_of_set as owner_in_program}
 use Rattle.ss_base.specs.declared.layout.Owner.TheVariants as owners
@@ -16,8 +16,7 @@ use Rattle.ss_names_uses.specs.declared.used.Role.{Role}
 use Rattle.ss_names.specs.declared.meaning.Meaning.TheVariants as meanings
 use Rattle.ss_check_rules.specs.Refusal.{meaning_breaks, place_breaks}
 use Rattle.ss_check_rules.specs.declared.error.CheckError.TheVariants as errors
-use Rattle.ss_names_meaning.specs.Answers.{◌>>=◌, of_one}
-use Rattle.ss_check_laws.proofs.Steps.{alike, first_fails, first_holds, goes, holds_unless, meant}
+use Rattle.ss_check_laws.proofs.Steps.{alike, meant}
 use Rattle.ss_check_laws.proofs.Linked.{IsHere, IsOwner, IsSetHere, IsStatisticHere, IsSubjectHere, implied_here, meaning_here, owner_here}
 
 -- ---- modes
@@ -38,11 +37,6 @@ pub place_kept : (s : Scope) (line : Line) (role : Role) (d : Designator) (n : �
 place_kept s line role d n b h = first_holds (suits s role d) (meaning_breaks s line role n b (meaning_in_role s role d)) (errors.Unknown line) h
 
 -- ---- entities
-
--- the entity in a variable that a class's name means
-entity_fetched : (o : Option Meaning) (m : Meaning) (v : Variable) → o ≡ Some m → variable_of m ≡ Some v →
-    ((o >>= λ n. of_one (variable_of n) Fetch) >>= λ e. Some (Some e)) ≡ Some (Some (Fetch v))
-entity_fetched o m v h e = rw (h, e) refl
 
 at_most_one : (o : Owner) (n : ℕ) → may_have o n ≡ true → n ≤ 1
 at_most_one owners.System n h = omega (arith, eqb-true n 0 h)
@@ -92,11 +86,8 @@ module _ (s : Scope) (g : Place) where
   abbrev pub HasEntity : ExpressionRow → Meaning → Type 0
   HasEntity es m = (e : Option Expression) × (of : Option Expression) × (subscript s es ≡ Some e) × (entity_of s m e ≡ Some of) × EntityFits m of
 
-  pub named_with : (d : Designator) (e : Option Expression) (m : Meaning) (of : Option Expression) → meaning_of s d ≡ Some m → entity_of s m e ≡ Some of → meaning_with_entity s d e ≡ Some (m, of)
-  named_with d e m of h f = rw (h, f) refl
-
   pub placed : (d : Designator) (es : ExpressionRow) (m : Meaning) (p : HasEntity es m) → meaning_of s d ≡ Some m → place_named s d es ≡ Some (m, p.1)
-  placed d es m p h = goes (subscript s es) (λ e. meaning_with_entity s d e) p.0 (m, p.1) p.2 (named_with d p.0 m p.1 h p.3)
+  placed d es m p h = goes (subscript s es) (λ e. meaning_with_entity s d e) p.0 (m, p.1) p.2 (goes _ _ m (m, p.1) h (goes _ _ p.1 (m, p.1) p.3 refl))
 
   -- ---- rules
 
@@ -130,7 +121,7 @@ module _ (s : Scope) (g : Place) (k : IsLinked s g) where
       let v = implied_here s g k class i in
       let text : is_text (meaning_of_class s class) ≡ false = subst (λ (j : ℕ). ((j == 0) && is_text (meaning_of_class s class)) ≡ false) f t in
       let mode : v.2.1 ≡ Integer = alike (meaning_mode (meaning_of_class s class)) (Some Integer) v.2.1 Integer text (ap meaning_mode v.1 ∙ v.2.3) refl in
-      (Some (Fetch v.2.0), entity_fetched (meaning_of_class s class) v.0 v.2.0 v.1 v.2.2, subst (λ m. mode_at g v.2.0 ≡ Some m) mode v.2.4.0)
+      (Some (Fetch v.2.0), goes _ _ (Fetch v.2.0) (Some (Fetch v.2.0)) (goes _ _ v.0 (Fetch v.2.0) v.1 (goes _ _ v.2.0 (Fetch v.2.0) v.2.2 refl)) refl, subst (λ m. mode_at g v.2.0 ≡ Some m) mode v.2.4.0)
   owner_entity (owners.Class class) i n (Some x) f h t = (Some x, refl, f.1)
 
   few_subscripts : (m : Meaning) (n : ℕ) → suits_subscripts s.table m n ≡ true → n ≤ 1
@@ -175,9 +166,8 @@ module _ (s : Scope) (g : Place) (k : IsLinked s g) where
     where
       by : (o : Owner) (of : Option Expression) → owner_in_program g.program set ≡ Some o → OwnerHas s g o of → IsTypedOwner g set (set_owner of)
       by owners.System None e f = e
-      by owners.System (Some x) e f = absurd f
-      by (owners.Class class) None e f = absurd f
       by (owners.Class class) (Some x) e f = ((class, e), f)
+      by _ _ e f = absurd f
 
   abbrev SubjectFits : Subject → Option Expression → Type 0
   SubjectFits p None = IsAlone g.program p
@@ -185,11 +175,10 @@ module _ (s : Scope) (g : Place) (k : IsLinked s g) where
 
   subject_fits : (p : Subject) (of : Option Expression) → IsSubjectHere s g k p → OwnerHas s g (owner_of_subject s.table (Some p)) of → SubjectFits p of
   subject_fits (subjects.OfVariable n) None i f = tt
-  subject_fits (subjects.OfVariable n) (Some e) i f = absurd f
-  subject_fits (subjects.OfAttribute class field) None i f = absurd f
   subject_fits (subjects.OfAttribute class field) (Some e) i f = (tt, f)
   subject_fits (subjects.OfCount set) None i f = owner_fits set i None f
   subject_fits (subjects.OfCount set) (Some e) i f = owner_fits set i (Some e) f
+  subject_fits _ _ i f = absurd f
 
   -- a statistic is that of one thing or, with an entity, of each
   pub statistic_fits : (n : ℕ) (x : Statistic) (of : Option Expression) → slice_get g.program.statistics n ≡ Some x → IsSubjectHere s g k x.subject →

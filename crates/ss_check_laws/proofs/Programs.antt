@@ -1,12 +1,12 @@
 -- A program that breaks no rule has a resolved form, which is well typed.
 use Rattle.std.proofs.Common.{◌≡◌, ℕ, ◌<◌, ◌≤◌, Bool, true, false, cond, List, [], ◌∷◌, length, get_or, map, slice_get, option_map, Option, Some, None, Contains, ⊎_elim, refl, sym, ap, subst, ◌∙◌, nat_eq, arith}
 use Rattle.std.specs.List.{AllByRecursion as Every, list_all, list_any, position, position_or_len}
-use Rattle.ss_check_laws.proofs.Common.{at_item, BodiesResolve, breaches, CheckError, each, each_at, each_item, Event, get_or_from_slice_get, is_main, is_main_section, is_notice_class, locals_of, Meaning, Moded, PlainClass, PlainLayout, Program, resolved_layout, ResolvedLayout, Routine, same_Some, slice_get-get_or, slice_get-map, slice_get_within, suits_class, Table, table, value_by_place, value_for, values_of}
+use Rattle.ss_check_laws.proofs.Common.{at_item, BodiesResolve, breaches, CheckError, cond-true, each, each_at, each_item, Event, first_holds, get_or_from_slice_get, goes, is_main, is_main_section, is_notice_class, Meaning, PlainClass, PlainLayout, Program, ResolvedLayout, same_Some, slice_get-get_or, slice_get-map, slice_get_within, suits_class, Table, table, value_by_place, value_for}
 use Rattle.std.proofs.lemmas.Bool.{both_ways, cases_lt, eqb-true, lt-ltb}
 use Rattle.std.proofs.lemmas.List.Folds.{Any-from_list_any}
 use Rattle.std.proofs.lemmas.List.Sums.{fails_before_first, list_all-from_AllPass, passes_at_first}
 use Rattle.ss_base.specs.declared.layout.ClassKind.TheVariants as kinds
-use Rattle.ss_names_meaning.specs.Resolved.{event_from, Parts, parts_with_locals, routine_from, is_known, is_known_kind, resolved, resolved_with_locals}
+use Rattle.ss_names_meaning.specs.Resolved.{event_from, is_known, is_known_kind, resolved, resolved_with_locals}
 use Rattle.ss_program.specs.WellTyped.{IsTypedBlock, kind_of_class, IsTypedEvent, IsTypedRoutine, IsWellTyped}
 use Rattle.ss_tree.specs.Tree as tree
 use Rattle.ss_names_uses.specs.declared.used.ClassNeed.TheVariants as needs
@@ -15,9 +15,10 @@ use Rattle.ss_check_rules.specs.Order.{check_error_order}
 use Rattle.ss_names_laws.specs.Laws.{LayoutsAreWellTyped, RoutinesAreThere, SectionsAreValid, TablesAreThere, TablesAreValid}
 use Rattle.ss_check_laws.specs.ProgramLaws.{ProgramsResolve}
 use Rattle.ss_names_laws.proofs.Kept.{nothing_found}
-use Rattle.ss_check_laws.proofs.Steps.{first_holds}
-use Rattle.ss_check_laws.proofs.Events.{class_is_ranked, class_there, event_kept, event_there, events_there, laid_classes}
-use Rattle.ss_check_laws.proofs.Routines.{IsUnbroken, IsWhole, body_good, laid_with, main_kept, mapped_from, program_with, routines_there, section, section_modes}
+use Rattle.ss_names_laws.proofs.Parts.{parts_of}
+use Rattle.ss_names_laws.proofs.Steps.{mapped}
+use Rattle.ss_check_laws.proofs.Events.{class_is_ranked, class_there, event_kept, event_there, events_there}
+use Rattle.ss_check_laws.proofs.Routines.{IsUnbroken, IsWhole, body_good, laid_with, main_kept, program_with, routines_there, section, section_modes}
 
 -- ---- steps
 
@@ -28,25 +29,6 @@ any_main false breach e = absurd cc
 notice_found : (o : Option Meaning) → suits_class o needs.Notice ≡ true → (class : ℕ) × (variable : ℕ) × (o ≡ Some (m.Class class kinds.Notice variable))
 notice_found (Some (m.Class class kinds.Notice variable)) e = (class, variable, refl)
 notice_found _ e = absurd cc
-
-assembled : (t : Table) (all : List Moded) (sections : List tree.SectionTree) (x : ResolvedLayout) (routines : List Routine) (events : List Event) (n : ℕ) (parts : Parts) →
-    resolved_layout t ≡ Some x → list_all (is_known t) sections ≡ true →
-    each (routine_from (parts_with_locals t all sections)) (values_of t.routines) ≡ Some routines →
-    each (event_from t (parts_with_locals t all sections)) t.ranks ≡ Some events →
-    position is_main_section sections ≡ Some n → parts_with_locals t all sections n ≡ Some parts →
-    resolved_with_locals t all sections ≡ Some (record {
-      layout = x.layout;
-      disciplines = x.disciplines;
-      globals = x.globals;
-      counts = x.counts;
-      statistics = x.statistics;
-      routines = routines;
-      events = events;
-      locals = parts.modes;
-      main = parts.body;
-    })
-unfolding resolved_with_locals
-assembled t all sections x routines events n parts a b c d e f = rw (a, b, c, d, e, f) refl
 
 module _ (p : tree.ProgramTree) (x : ResolvedLayout) (k : IsUnbroken p x) where
   abbrev t : Table
@@ -91,7 +73,7 @@ module _ (p : tree.ProgramTree) (x : ResolvedLayout) (k : IsUnbroken p x) where
     served : (class : ℕ) → kind_of_class q class ≡ Some kinds.Notice → Contains (map (λ (e : Event). e.class) q.events) class
     served class h =
         let class_of = λ (e : Event). e.class in
-        let c = mapped_from (λ (z : PlainClass). z.kind) (slice_get q.layout.classes class) kinds.Notice h in
+        let c = mapped (λ (z : PlainClass). z.kind) (slice_get q.layout.classes class) kinds.Notice h in
         let laid : slice_get x.layout.classes class ≡ Some c.0 = ap (λ (l : PlainLayout). slice_get l.classes class) (sym b.layout.layout) ∙ c.1 in
         let any = Any-from_list_any (nat_eq class) t.ranks (class_is_ranked p x k class c.0 laid c.2) in
         let at : slice_get t.ranks any.0 ≡ Some class = slice_get-get_or t.ranks any.0 any.1 any.2 ∙ ap Some (any.3 ∙ sym (eqb-true class any.1 any.4)) in
@@ -106,6 +88,7 @@ module _ (p : tree.ProgramTree) (x : ResolvedLayout) (k : IsUnbroken p x) where
   in_whole P q b xs h = each_item (P q) xs (λ z a. at_item (λ z. (r : Program) → IsWhole p x k r → P r z) xs z h a q b)
 
   program_resolves : (q : Program) × (resolved t p.sections ≡ Some q) × IsWellTyped q
+  unfolding resolved_with_locals
   program_resolves =
       let routines = routines_there p x k in
       let events = events_there p x k in
@@ -116,9 +99,11 @@ module _ (p : tree.ProgramTree) (x : ResolvedLayout) (k : IsUnbroken p x) where
       let body = subst (λ in_main. IsTypedBlock (record { program = q; locals = parts.0.modes; is_main = in_main }) parts.0.body) main.4 (body_good p x k q b main.0 main.1 parts.0 main.2 parts.1) in
       let laid = k.typed q b.layout in (
         q,
-        assembled t (map (locals_of t) p.sections) p.sections x routines.0 events.0 main.0 parts.0 k.valid.laid all_known routines.1 events.1 main.3 parts.1,
+        goes _ _ x q k.valid.laid
+            (goes _ _ p.sections q (cond-true (list_all (is_known t) p.sections) (Some p.sections) None all_known)
+            (goes _ _ routines.0 q routines.1 (goes _ _ events.0 q events.1 (goes _ _ parts.0 q (goes _ _ main.0 parts.0 main.3 parts.1) refl)))),
         record {
-          sets = (laid_classes p x k).1;
+          sets = (parts_of t x k.valid.laid).sound;
           disciplines = laid.disciplines;
           counts = laid.counts;
           statistics = laid.statistics;

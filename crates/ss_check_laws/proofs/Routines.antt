@@ -1,18 +1,19 @@
 -- What the sections of a program that breaks no rule resolve to, and its routines.
-use Rattle.std.proofs.Common.{◌≡◌, ℕ, ◌+◌, ◌≤◌, Bool, false, List, [], ◌++◌, length, map, take, drop, slice_get, option_map, flat_map, Option, Some, None, refl, sym, ap, subst, subst₂, ◌∙◌, take-append-drop, arith}
+use Rattle.std.proofs.Common.{◌≡◌, ℕ, ◌+◌, ◌≤◌, Bool, List, [], ◌++◌, length, map, take, drop, slice_get, option_map, flat_map, Option, Some, None, refl, sym, ap, subst, subst₂, ◌∙◌, take-append-drop, arith}
 use Rattle.std.specs.List.{AllByRecursion as Every}
-use Rattle.ss_check_laws.proofs.Common.{AreValid, at_item, at_place, Block, BodiesResolve, declarations, Done, each_at, each_empty, each_item, each_made, Event, every_first, from_places, given_by, in_parts, is_main, IsLinked, local_mode, locals_of, Mode, Moded, NameBytes, none-some, numbers_length, option_to_list, Program, ResolvedLayout, Routine, routine_by, RoutineSection, same_Some, scope_of, slice_get-map, Table, table, Use, values_of}
-use Rattle.ss_check_rules.specs.Refusal.{use_breaks, breaches, breaks, in_preamble, in_program, breaches_in_section}
+use Rattle.ss_check_laws.proofs.Common.{AreValid, at_place, Block, BodiesResolve, Done, each_at, each_empty, each_made, Event, from_places, goes, in_parts, is_main, IsLinked, local_mode, locals_of, Mode, Moded, numbers_length, Program, ResolvedLayout, Routine, RoutineSection, same_Some, scope_of, slice_get-map, Table, table, Use, values_of}
+use Rattle.ss_check_rules.specs.Refusal.{use_breaks, breaches, in_preamble, in_program, breaches_in_section}
 use Rattle.ss_names_meaning.specs.Answers.{each, ◌>>=◌}
-use Rattle.ss_names_meaning.specs.Resolved.{local_modes, Parts, parts_with_locals, routine_from, resolved_body, routine_of}
+use Rattle.ss_names_meaning.specs.Resolved.{local_modes, Parts, parts_with_locals, routine_from, routine_of}
 use Rattle.ss_program.specs.WellTyped.{IsTypedBlock, TypedScope as Place, IsTypedRoutine}
 use Rattle.ss_tree.specs.Tree as tree
-use Rattle.ss_names_declarations.proofs.Entries.{entry_of_value}
 use Rattle.ss_names_uses.specs.Uses as uses
 use Rattle.ss_names_laws.specs.Laws.{HasLayout, IsWellLaid}
 use Rattle.ss_names_laws.specs.ValidTables.{HasRoutines, IsValidSection, IsValidTable}
-use Rattle.ss_names_laws.proofs.Kept.{both_empty}
-use Rattle.ss_check_laws.proofs.TableSections.{every_declared, head_of, routines_quiet}
+use Rattle.ss_names_laws.proofs.Each.{each_none}
+use Rattle.ss_names_laws.proofs.Items.{both_empty}
+use Rattle.ss_names_laws.proofs.Routines.{section_of_routine}
+use Rattle.ss_names_laws.proofs.Steps.{mapped}
 
 -- what is known of a program that breaks no rule
 pub record IsUnbroken (p : tree.ProgramTree) (x : ResolvedLayout) : Type 0 where
@@ -24,18 +25,6 @@ pub record IsUnbroken (p : tree.ProgramTree) (x : ResolvedLayout) : Type 0 where
   pub bodies : BodiesResolve
 
 -- ---- steps
-
-pub none_listed : {A : Type 0} (o : Option A) → option_to_list o ≡ [] → o ≡ None
-none_listed None e = refl
-none_listed (Some x) e = absurd cc
-
-pub mapped_from : {A B : Type 0} (f : A → B) (o : Option A) (b : B) → option_map f o ≡ Some b → (a : A) × (o ≡ Some a) × (f a ≡ b)
-mapped_from f None b e = absurd (none-some b e)
-mapped_from f (Some a) b e = (a, refl, same_Some (f a) b e)
-
-resolved_part : (t : Table) (all : List Moded) (sections : List tree.SectionTree) (n : ℕ) (s : tree.SectionTree) (locals : Moded) (modes : List Mode) (body : Block) → slice_get sections n ≡ Some s → slice_get all n ≡ Some locals →
-    local_modes locals ≡ Some modes → resolved_body t all locals s ≡ Some body → parts_with_locals t all sections n ≡ Some (record { line = s.line; modes = modes; body = body })
-resolved_part t all sections n s locals modes body e f g h = rw (e, f, g, h) refl
 
 -- a section without statements
 abbrev bare : tree.SectionTree → List Mode → Parts
@@ -71,9 +60,7 @@ module _ (p : tree.ProgramTree) (x : ResolvedLayout) (k : IsUnbroken p x) where
   section_kept : (n : ℕ) (s : tree.SectionTree) → slice_get p.sections n ≡ Some s → Keeps s (uses.uses s)
   section_kept n s e =
       let here = at_place (λ z. breaches_in_section t p.sections z ≡ []) p.sections n s (each_empty (breaches_in_section t p.sections) p.sections in_sections.1) e in
-      let sc = scope_of t p.sections s in
-      each_item (λ u. use_breaks sc (is_main s.kind) u ≡ None) (uses.uses s)
-      (λ u a. none_listed (use_breaks sc (is_main s.kind) u) (at_item (λ v. breaks sc (is_main s.kind) v ≡ []) (uses.uses s) u (each_empty (breaks sc (is_main s.kind)) (uses.uses s) here) a))
+      each_none (use_breaks (scope_of t p.sections s) (is_main s.kind)) (uses.uses s) here
 
   -- the head of a section, and its statements
   pub uses_kept : (n : ℕ) (s : tree.SectionTree) → slice_get p.sections n ≡ Some s → Keeps s (uses.in_kind s.line s.kind) × Keeps s (uses.in_body s.body)
@@ -105,7 +92,7 @@ module _ (p : tree.ProgramTree) (x : ResolvedLayout) (k : IsUnbroken p x) where
   has_routine : (section : ℕ → Option Parts) → HasModes section → (i : ℕ) (known : RoutineSection) → slice_get (values_of t.routines) i ≡ Some known → HasRoutine section known
   has_routine section m i known e =
       let r = k.routines i known e in
-      let s = mapped_from (locals_of t) (slice_get p.sections known.section) r.0 (sym (slice_get-map (locals_of t) p.sections known.section) ∙ r.1) in
+      let s = mapped (locals_of t) (slice_get p.sections known.section) r.0 (sym (slice_get-map (locals_of t) p.sections known.section) ∙ r.1) in
       let parts = m known.section s.0 s.1 in
       let modes : local_modes r.0 ≡ Some parts.0.modes = subst (λ l. local_modes l ≡ Some parts.0.modes) s.2 parts.2 in
       let count = numbers_length (local_mode r.0) (length r.0) parts.0.modes modes in
@@ -123,9 +110,8 @@ module _ (p : tree.ProgramTree) (x : ResolvedLayout) (k : IsUnbroken p x) where
       ((i : ℕ) (known : RoutineSection) (e : slice_get (values_of t.routines) i ≡ Some known) → Q (made known (has_routine section m i known e).parts)) →
       (rs : List Routine) × (each (routine_from section) (values_of t.routines) ≡ Some rs) × Every Q rs
   routines_made section m Q h =
-      let found = each_made (routine_from section) Q (values_of t.routines) (from_places (λ known. (r : Routine) × (routine_from section known ≡ Some r) × Q r) (values_of t.routines) (λ i known e.
-      let r = has_routine section m i known e in (made known r.parts, is_made section known r.parts r.resolved, h i known e))) in
-      (found.0, found.1, found.3)
+      each_made (routine_from section) Q (values_of t.routines) (from_places (λ known. (r : Routine) × (routine_from section known ≡ Some r) × Q r) (values_of t.routines) (λ i known e.
+      let r = has_routine section m i known e in (made known r.parts, is_made section known r.parts r.resolved, h i known e)))
 
   -- a program with the layout and these routines
   pub record IsBuilt (section : ℕ → Option Parts) (q : Program) : Type 0 where
@@ -173,9 +159,11 @@ module _ (p : tree.ProgramTree) (x : ResolvedLayout) (k : IsUnbroken p x) where
       let v = section_valid n s e in
       let place : Place = record { program = q; locals = v.modes; is_main = is_main s.kind } in
       let done = k.bodies (scope_of t p.sections s) place (linked section m q b s v (is_main s.kind)) s.body (uses_kept n s e).1 in
+      let parts : Parts = record { line = s.line; modes = v.modes; body = done.0 } in
+      let there = slice_get-map (locals_of t) p.sections n ∙ ap (option_map (locals_of t)) e in
       record {
-        parts = record { line = s.line; modes = v.modes; body = done.0 };
-        resolved = resolved_part t all p.sections n s (locals_of t s) v.modes done.0 e (slice_get-map (locals_of t) p.sections n ∙ ap (option_map (locals_of t)) e) v.moded done.1;
+        parts = parts;
+        resolved = goes _ _ s parts e (goes _ _ (locals_of t s) parts there (goes _ _ v.modes parts v.moded (goes _ _ done.0 parts done.1 refl)));
         modes = v.moded;
         body = done.2;
       }
@@ -185,11 +173,8 @@ module _ (p : tree.ProgramTree) (x : ResolvedLayout) (k : IsUnbroken p x) where
   abbrev sketch : ℕ → Option Parts
   sketch n = slice_get p.sections n >>= λ s. local_modes (locals_of t s) >>= λ modes. Some (bare s modes)
 
-  sketched : (n : ℕ) (s : tree.SectionTree) (modes : List Mode) → slice_get p.sections n ≡ Some s → local_modes (locals_of t s) ≡ Some modes → sketch n ≡ Some (bare s modes)
-  sketched n s modes e f = rw (e, f) refl
-
   sketch_modes : HasModes sketch
-  sketch_modes n s e = let v = section_valid n s e in (bare s v.modes, sketched n s v.modes e v.moded, v.moded)
+  sketch_modes n s e = let v = section_valid n s e in (bare s v.modes, goes _ _ s (bare s v.modes) e (goes _ _ v.modes (bare s v.modes) v.moded refl), v.moded)
 
   abbrev pub program_with : List Routine → List Event → List Mode → Block → Program
   program_with routines events locals main = record {
@@ -235,23 +220,10 @@ module _ (p : tree.ProgramTree) (x : ResolvedLayout) (k : IsUnbroken p x) where
 
   -- ---- routines
 
-  -- the section of a routine isn't MAIN
-  abbrev IsOfRoutine : NameBytes × RoutineSection → Type 0
-  IsOfRoutine e = (s : tree.SectionTree) × (slice_get p.sections e.1.section ≡ Some s) × (is_main s.kind ≡ false)
-
-  routine_head : (n : ℕ) (s : tree.SectionTree) (kind : tree.SectionKindTree) → slice_get p.sections n ≡ Some s → s.kind ≡ kind → Every IsOfRoutine (routine_by (head_of n kind))
-  routine_head n s tree.main e f = tt
-  routine_head n s (tree.routine name given yielding) e f = ((s, e, ap is_main f), tt)
-  routine_head n s (tree.event name given saving) e f = tt
-
-  of_routines : Every IsOfRoutine t.routines
-  of_routines = every_first IsOfRoutine (given_by routine_by (declarations p)) (every_declared IsOfRoutine routine_by routines_quiet p (λ n s e. routine_head n s s.kind e refl))
-
   -- they are well typed in each such program
   pub routines_there : (rs : List Routine) × (each (routine_from section) (values_of t.routines) ≡ Some rs) × Every (λ r. (q : Program) → IsWhole q → IsTypedRoutine q r) rs
   routines_there = routines_made section section_modes (λ r. (q : Program) → IsWhole q → IsTypedRoutine q r) (λ i known e q b.
       let parts = (has_routine section section_modes i known e).parts in
-      let entry = entry_of_value t.routines i known e in
-      let s = at_place IsOfRoutine t.routines i (entry.0, known) of_routines entry.1 in
-      subst₂ (λ (locals : List Mode) (in_main : Bool). IsTypedBlock (record { program = q; locals = locals; is_main = in_main }) parts.body) (sym (all_locals known.given known.yielding parts.modes)) s.2
+      let s = section_of_routine p i known e in
+      subst₂ (λ (locals : List Mode) (in_main : Bool). IsTypedBlock (record { program = q; locals = locals; is_main = in_main }) parts.body) (sym (all_locals known.given known.yielding parts.modes)) s.3
       (body_good q b known.section s.0 parts s.1 (has_routine section section_modes i known e).resolved))

@@ -13,12 +13,13 @@ use Rattle.ss_check_laws.proofs.Common.{at_item, class_by, ClassKind, declaratio
 use Rattle.ss_names_declarations.specs.NameTable.{value_for, entry_beside, first_entries, same_name, with_first}
 use Rattle.ss_names_meaning.specs.Resolved.{event_from, local_modes, Parts, parts_with_locals, routine_from, is_known, resolved_with_locals, saved}
 use Rattle.ss_program.specs.Nodes.{option_nodes, block_nodes, routine_nodes, event_nodes, nodes}
-use Rattle.ss_tree.specs.Tree.{StatementTree, SectionKindTree, main, routine, event, SectionTree, statement_row, ProgramTree}
+use Rattle.ss_tree.specs.Tree.{StatementTree, SectionKindTree, main, SectionTree, statement_row, ProgramTree}
 use Rattle.ss_tree.specs.Nodes as tree
 use Rattle.ss_check_laws.specs.SizeLaws.{ProgramsStaySmall}
 use Rattle.ss_check_laws.proofs.Within.{Within, at_most, followed, held, looked, there_within, each_small}
 use Rattle.ss_check_laws.proofs.StatementSizes.{row_small}
-use Rattle.ss_check_laws.proofs.TableSections.{Fits, IsAny, events_quiet, head_of, of_sections, routines_quiet}
+use Rattle.ss_names_laws.proofs.Sources.{IsMadeIf}
+use Rattle.ss_check_laws.proofs.TableSections.{events_quiet, head_of, of_sections, routines_quiet}
 
 -- ---- sections
 
@@ -41,8 +42,7 @@ main_part s = cond (is_main_section s) (weight s) 0
 kinds_add : (k : SectionKindTree) (n : ℕ) →
     cond (is_main k) n 0 + sum_by (λ (e : NameBytes × RoutineSection). n) (routine_by (head_of 0 k)) + sum_by (λ (e : NameBytes × EventSection). n) (event_by (head_of 0 k)) ≡ n
 kinds_add main n = omega arith
-kinds_add (routine name given yielding) n = omega arith
-kinds_add (event name given saving) n = omega arith
+kinds_add _ n = omega arith
 
 sections_add : (ss : List SectionTree) → sum_by main_part ss + sum_by (part routine_by) ss + sum_by (part event_by) ss ≤ sum_by tree.section_nodes ss
 sections_add [] = omega arith
@@ -74,14 +74,14 @@ firsts_less {V} g acc (e ∷ es) =
 
 module _ (p : ProgramTree) where
   -- what the first entry of each name weighs, where the heads of sections declare it
-  declared_less : {V : Type 0} (h : V → ℕ) (f : Declared → List (NameBytes × V)) → ((x : Declared) → Fits IsAny x → f x ≡ []) →
+  declared_less : {V : Type 0} (h : V → ℕ) (f : Declared → List (NameBytes × V)) → ((x : Declared) → IsMadeIf ⊥ p x → f x ≡ []) →
       ((n : ℕ) (s : SectionTree) → slice_get p.sections n ≡ Some s → sum_by (λ (e : NameBytes × V). h e.1) (f (head_of n s.kind)) ≤ part f s) →
       sum_by h (values_of (first_entries (given_by f (declarations p)))) ≤ sum_by (part f) p.sections
   declared_less {V} h f quiet heads =
       let g = λ (e : NameBytes × V). h e.1 in
       let ds = given_by f (declarations p) in
       let values : sum_by h (values_of (first_entries ds)) ≡ sum_by g (first_entries ds) = fold-map (λ (a : ℕ) (v : V). a + h v) (λ (e : NameBytes × V). e.1) 0 (first_entries ds) in
-      let all = ap (sum_by g) (of_sections f quiet p) in
+      let all = ap (sum_by g) (of_sections f p quiet) in
       let less = numbered_less g (λ n s. f (head_of n s.kind)) (part f) 0 p.sections (λ i s e. heads (0 + i) s (let same : 0 + i ≡ i = omega arith in ap (slice_get p.sections) same ∙ e)) in
       omega (arith, firsts_less g [] ds)
 
@@ -94,11 +94,10 @@ module _ (p : ProgramTree) where
   routine_head : (k : SectionKindTree) (n w : ℕ) → weight_at n ≡ w →
       sum_by (λ (e : NameBytes × RoutineSection). routine_weight e.1) (routine_by (head_of n k)) ≤ sum_by (λ (e : NameBytes × RoutineSection). w) (routine_by (head_of 0 k))
   routine_head main n w e = omega arith
-  routine_head (routine name given yielding) n w e = omega arith
-  routine_head (event name given saving) n w e = omega arith
+  routine_head _ n w e = omega arith
 
   routines_less : sum_by routine_weight (values_of (table p).routines) ≤ sum_by (part routine_by) p.sections
-  routines_less = declared_less routine_weight routine_by routines_quiet (λ n s e. routine_head s.kind n (weight s) (ap (option_nodes weight) e))
+  routines_less = declared_less routine_weight routine_by (routines_quiet p) (λ n s e. routine_head s.kind n (weight s) (ap (option_nodes weight) e))
 
   abbrev event_weight : EventSection → ℕ
   event_weight k = weight_at k.section
@@ -106,11 +105,10 @@ module _ (p : ProgramTree) where
   event_head : (k : SectionKindTree) (n w : ℕ) → weight_at n ≡ w →
       sum_by (λ (e : NameBytes × EventSection). event_weight e.1) (event_by (head_of n k)) ≤ sum_by (λ (e : NameBytes × EventSection). w) (event_by (head_of 0 k))
   event_head main n w e = omega arith
-  event_head (routine name given yielding) n w e = omega arith
-  event_head (event name given saving) n w e = omega arith
+  event_head _ n w e = omega arith
 
   events_less : sum_by event_weight (values_of (table p).events) ≤ sum_by (part event_by) p.sections
-  events_less = declared_less event_weight event_by events_quiet (λ n s e. event_head s.kind n (weight s) (ap (option_nodes weight) e))
+  events_less = declared_less event_weight event_by (events_quiet p) (λ n s e. event_head s.kind n (weight s) (ap (option_nodes weight) e))
 
   main_less : option_nodes weight_at (position is_main_section p.sections) ≤ sum_by main_part p.sections
   main_less = by (nat_lt n (length p.sections)) refl

@@ -1,24 +1,11 @@
 -- Uses that break no rule, and steps that go well.
 use Rattle.std.proofs.Common.{◌≡◌, Bool, true, false, not, List, [], ◌∷◌, ◌++◌, Option, Some, None, refl, subst}
-use Rattle.std.specs.Prelude.{if◌then◌else◌}
 use Rattle.std.specs.List.{AllByRecursion as Every, flat_map}
-use Rattle.ss_check_laws.proofs.Common.{Alpha, AreValid, CheckError, if_means, Integer, Meaning, Mode, not-true, Scope, unless, Use}
+use Rattle.ss_check_laws.proofs.Common.{Alpha, AreValid, CheckError, holds_unless, if_means, in_parts, Integer, Meaning, Mode, not-true, Scope, unless, Use, use_breaks}
 use Rattle.ss_check_rules.specs.Modes.{differ}
 use Rattle.ss_names_meaning.specs.Answers.{◌>>=◌, each}
 
 -- ---- tests that break nothing
-
-pub holds_unless : (b : Bool) (x : CheckError) → unless b x ≡ None → b ≡ true
-holds_unless true x h = refl
-holds_unless false x h = absurd cc
-
-pub first_holds : (b : Bool) (o : Option CheckError) (x : CheckError) → (if b then o else Some x) ≡ None → (b ≡ true) × (o ≡ None)
-first_holds true o x h = (refl, h)
-first_holds false o x h = absurd cc
-
-pub first_fails : (b : Bool) (o : Option CheckError) (x : CheckError) → (if b then Some x else o) ≡ None → (b ≡ false) × (o ≡ None)
-first_fails true o x h = absurd cc
-first_fails false o x h = (refl, h)
 
 -- what has to mean something of a kind
 pub meant : (o : Option Meaning) (kind : Meaning → Bool) → if_means kind o ≡ true → (m : Meaning) × (o ≡ Some m) × (kind m ≡ true)
@@ -27,9 +14,8 @@ meant (Some m) kind h = (m, refl, h)
 
 same_mode : (m n : Mode) → differ (Some m) (Some n) ≡ false → m ≡ n
 same_mode Integer Integer h = refl
-same_mode Integer Alpha h = absurd cc
-same_mode Alpha Integer h = absurd cc
 same_mode Alpha Alpha h = refl
+same_mode _ _ h = absurd cc
 
 -- two modes that don't differ are one
 pub alike : (a b : Option Mode) (m n : Mode) → differ a b ≡ false → a ≡ Some m → b ≡ Some n → m ≡ n
@@ -44,21 +30,22 @@ agree a b m n x h e f = alike a b m n (not-true (differ a b) (holds_unless (not 
 abbrev pub GoesWell : {B : Type 0} → (B → Type 0) → Option B → Type 0
 GoesWell {B = B} Q o = (b : B) × (o ≡ Some b) × Q b
 
-pub goes : {A B : Type 0} (o : Option A) (next : A → Option B) (a : A) (x : B) → o ≡ Some a → next a ≡ Some x → (o >>= next) ≡ Some x
-goes o next a x h e = rw h e
+-- one step after the other
+pub after : {A C : Type 0} (Q : C → Type 0) (o : Option A) (next : A → Option C) (a : A) → o ≡ Some a → GoesWell Q (next a) → GoesWell Q (o >>= next)
+after Q o next a e x = (x.0, rw e x.1, x.2)
 
-pub two_steps : {A B C : Type 0} (o : Option A) (p : Option B) (next : A → B → Option C) (a : A) (b : B) (x : C) →
-    o ≡ Some a → p ≡ Some b → next a b ≡ Some x → (o >>= λ u. p >>= λ v. next u v) ≡ Some x
-two_steps o p next a b x h e f = rw (h, e) f
+pub after_one : {A C : Type 0} {P : A → Type 0} (Q : C → Type 0) (o : Option A) (f : A → C) → GoesWell P o → ((a : A) → P a → Q (f a)) → GoesWell Q (o >>= λ a. Some (f a))
+after_one Q o f x good = after Q o (λ a. Some (f a)) x.0 x.1 (f x.0, refl, good x.0 x.2)
+
+pub after_two : {A B C : Type 0} {P : A → Type 0} {R : B → Type 0} (Q : C → Type 0) (o : Option A) (p : Option B) (f : A → B → C) → GoesWell P o → GoesWell R p →
+    ((a : A) (b : B) → P a → R b → Q (f a b)) → GoesWell Q (o >>= λ a. p >>= λ b. Some (f a b))
+after_two Q o p f x y good = after Q o (λ a. p >>= λ b. Some (f a b)) x.0 x.1 (after_one Q p (f x.0) y (λ b h. good x.0 b x.2 h))
 
 -- ---- lists of uses
 
 module _ (s : Scope) (in_main : Bool) where
   pub two_parts : (xs ys : List Use) → AreValid s in_main (xs ++ ys) → AreValid s in_main xs × AreValid s in_main ys
-  two_parts [] ys h = (tt, h)
-  two_parts (x ∷ xs) ys h =
-      let r = two_parts xs ys h.1 in
-      ((h.0, r.0), r.1)
+  two_parts xs ys h = in_parts (λ u. use_breaks s in_main u ≡ None) xs ys h
 
   pub three_parts : (xs ys zs : List Use) → AreValid s in_main (xs ++ ys ++ zs) → AreValid s in_main xs × AreValid s in_main ys × AreValid s in_main zs
   three_parts xs ys zs h =
@@ -73,6 +60,4 @@ module _ (s : Scope) (in_main : Bool) where
   each_resolves act uses Q good [] h = ([], refl, tt)
   each_resolves act uses Q good (a ∷ xs) h =
       let p = two_parts (uses a) (flat_map uses xs) h in
-      let first = good a p.0 in
-      let rest = each_resolves act uses Q good xs p.1 in
-      (first.0 ∷ rest.0, two_steps (act a) (each act xs) (λ y ys. Some (y ∷ ys)) first.0 rest.0 (first.0 ∷ rest.0) first.1 rest.1 refl, (first.2, rest.2))
+      after_two (Every Q) _ _ _ (good a p.0) (each_resolves act uses Q good xs p.1) (λ y ys k ks. (k, ks))

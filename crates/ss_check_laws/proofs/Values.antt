@@ -1,7 +1,7 @@
 -- Values and targets of the modes that their places want: LET, ADD, SUBTRACT, READ and CALL.
 use Rattle.std.proofs.Common.{◌≡◌, ℕ, ◌+◌, ◌<◌, true, false, List, ◌++◌, length, take, drop, Option, Some, None, refl, sym, ap, subst, arith, ◌∙◌, length-drop, eq-eqb, eqb-true}
 use Rattle.std.specs.Prelude.{◌&&◌, ◌==◌, option_and_then, slice_get}
-use Rattle.ss_check_laws.proofs.Common.{AllZip, call_statement, CheckError, expression, ExpressionTree, Integer, let_statement, Line, local_modes, Meaning, Mode, mode_of_use, Moded, NameBytes, NamedTree, option_map_or, read_statement, RoutineSection, slice_get_within, target, unless, value_for, values_of}
+use Rattle.ss_check_laws.proofs.Common.{AllZip, call_statement, CheckError, cond-true, each_length, expression, ExpressionTree, goes, holds_unless, Integer, Line, local_modes, Meaning, Mode, mode_of_use, Moded, NameBytes, NamedTree, option_map_or, RoutineSection, slice_get_within, target, unless, value_for, values_of}
 use Rattle.ss_check_laws.specs.Links.{AreValid, IsLinked, IsRoutineAt}
 use Rattle.ss_check_rules.specs.Kinds.{if_means, is_routine}
 use Rattle.ss_names_laws.proofs.Steps.{numbers_at, upto_length}
@@ -17,23 +17,16 @@ use Rattle.ss_names_uses.specs.Uses as uses
 use Rattle.ss_names.specs.declared.meaning.Meaning.TheVariants as meanings
 use Rattle.ss_check_rules.specs.declared.error.CheckError.TheVariants as errors
 use Rattle.ss_names_meaning.specs.Statements.{reader, routine_number, simple_statement}
-use Rattle.ss_check_laws.proofs.Steps.{GoesWell, agree, each_resolves, holds_unless, two_parts}
-use Rattle.ss_check_laws.proofs.Expressions.{number_kept}
-use Rattle.ss_check_laws.proofs.Lists.{after, after_first, after_one, after_two, each_length, holds, in_order}
-use Rattle.ss_check_laws.proofs.Parts.{expressions_resolve, targets_resolve}
+use Rattle.ss_check_laws.proofs.Steps.{GoesWell, agree, two_parts, after, after_two}
+use Rattle.ss_check_laws.proofs.Expressions.{expressions_resolve, number_kept}
+use Rattle.ss_check_laws.proofs.Lists.{after_first, in_order}
+use Rattle.ss_check_laws.proofs.Targets.{targets_resolve}
 
 -- ---- routines
 
 routine_meant : (o : Option Meaning) → if_means is_routine o ≡ true → (k : ℕ) × (o ≡ Some (meanings.Routine k))
 routine_meant (Some (meanings.Routine k)) h = (k, refl)
 routine_meant _ h = absurd cc
-
-abbrev with_section : ℕ → RoutineSection → ℕ × RoutineSection
-with_section k known = (k, known)
-
-routine_found : (o : Option Meaning) (all : List RoutineSection) (k : ℕ) (known : RoutineSection) → o ≡ Some (meanings.Routine k) → slice_get all k ≡ Some known →
-    (routine_number o >>= λ r. slice_get all r >>= λ x. Some (with_section r x)) ≡ Some (with_section k known)
-routine_found o all k known h g = rw (h, g) refl
 
 as_many : (n count : ℕ) (x : CheckError) → unless (n == count) x ≡ None → n ≡ count
 as_many n count x k = eqb-true n count (holds_unless (n == count) x k)
@@ -65,20 +58,12 @@ module _ (s : Scope) (g : Place) (linked : IsLinked s g) (line : Line) where
       let x = expressions_resolve s g linked line false e k.1 in
       (x.0, x.2, subst (HasMode g x.0) (agree (mode_of_use s (uses.expression_tree_mode e)) (mode_of_use s wanted) x.1 m (errors.Mode line) k.0 x.4 w) x.3)
 
-  takes_value : (wanted : ModeOf) (m : Mode) (n : NamedTree) → mode_of_use s wanted ≡ Some m → AreValid s g.is_main (uses.in_target line wanted n) → GoesWell (λ x. CanTakeMode g x m) (target s n)
+  pub takes_value : (wanted : ModeOf) (m : Mode) (n : NamedTree) → mode_of_use s wanted ≡ Some m → AreValid s g.is_main (uses.in_target line wanted n) → GoesWell (λ x. CanTakeMode g x m) (target s n)
   takes_value wanted m n w k =
       let x = targets_resolve s g linked line false n k.1 in
       (x.0, x.2, subst (CanTakeMode g x.0) (agree (mode_of_use s (uses.designated n.designator)) (mode_of_use s wanted) x.1 m (errors.Mode line) k.0 x.4 w) x.3)
 
   -- ---- statements
-
-  pub let_resolves : (n : NamedTree) (e : ExpressionTree) → AreValid s g.is_main (uses.in_target line (uses.expression_tree_mode e) n ++ uses.in_expression line false e) → GoesWell (IsTypedStatement g) (simple_statement s (let_statement line n e))
-  unfolding simple_statement
-  let_resolves n e k =
-      let p = two_parts s g.is_main (uses.in_target line (uses.expression_tree_mode e) n) (uses.in_expression line false e) k in
-      let y = expressions_resolve s g linked line false e p.1 in
-      let value : GoesWell (λ v. HasMode g v y.1) (expression s e) = (y.0, y.2, y.3) in
-      after_two (IsTypedStatement g) _ _ _ (takes_value (uses.expression_tree_mode e) y.1 n y.4 p.0) value (λ x v h f. (y.1, h, f))
 
   -- ADD and SUBTRACT
   pub change_resolves : (sign : Sign) (e : ExpressionTree) (n : NamedTree) → AreValid s g.is_main (uses.in_expression line true e ++ uses.in_named line roles.Target true n) →
@@ -87,15 +72,10 @@ module _ (s : Scope) (g : Place) (linked : IsLinked s g) (line : Line) where
       let p = two_parts s g.is_main (uses.in_expression line true e) (uses.in_named line roles.Target true n) k in
       after_two (IsTypedStatement g) _ _ _ (number_kept s g linked line e p.0) (takes_number n p.1) (λ v x h f. (f, h))
 
-  reader_resolves : (n : NamedTree) → AreValid s g.is_main (uses.in_named line roles.Target false n) → GoesWell (λ (x : InputTarget). CanTakeMode g x.place x.mode) (reader s n)
+  pub reader_resolves : (n : NamedTree) → AreValid s g.is_main (uses.in_named line roles.Target false n) → GoesWell (λ (x : InputTarget). CanTakeMode g x.place x.mode) (reader s n)
   reader_resolves n k =
       let x = targets_resolve s g linked line false n k in
       (record { place = x.0; mode = x.1 }, x.6, x.3)
-
-  pub read_resolves : (ns : List NamedTree) → AreValid s g.is_main (uses.in_all_named line roles.Target ns) → GoesWell (IsTypedStatement g) (simple_statement s (read_statement line ns))
-  unfolding simple_statement
-  read_resolves ns k =
-      after_one (IsTypedStatement g) _ _ (each_resolves s g.is_main (reader s) (uses.in_named line roles.Target false) (λ (x : InputTarget). CanTakeMode g x.place x.mode) reader_resolves ns k) (λ xs h. h)
 
   pub call_resolves : (name : NameBytes) (given : List ExpressionTree) (yielding : List NamedTree) → AreValid s g.is_main (uses.in_call line name given yielding) →
       GoesWell (IsTypedStatement g) (simple_statement s (call_statement line name given yielding))
@@ -118,10 +98,12 @@ module _ (s : Scope) (g : Place) (linked : IsLinked s g) (line : Line) where
       (ap (option_and_then (λ (r : RoutineSection). parameter_mode s r.section (r.given + i))) entry.2 ∙ parameter_there s g meant.0 known r (known.given + i) m (sym (after_first known.given i r.modes) ∙ f)) h)
       (omega (arith, more, r.enough, length-drop known.given r.modes)) p.1 in
       let made : Statement = Call line meant.0 xs.0 ys.0 in
-      after {A = ℕ × RoutineSection} (IsTypedStatement g) _ _ (meant.0, known) (routine_found (value_for s.table.meanings name) (values_of s.table.routines) meant.0 known meant.1 entry.1)
+      after {A = ℕ × RoutineSection} (IsTypedStatement g) _ _ (meant.0, known)
+      (goes {B = ℕ × RoutineSection} (routine_number (value_for s.table.meanings name)) _ meant.0 (meant.0, known) (ap routine_number meant.1)
+      (goes {B = ℕ × RoutineSection} (slice_get (values_of s.table.routines) meant.0) _ known (meant.0, known) entry.1 refl))
       (after (IsTypedStatement g) _ _ xs.0 xs.1 (after (IsTypedStatement g) _ _ ys.0 ys.1 (
         made,
-        holds ((length xs.0 == known.given) && (length ys.0 == known.yielding)) made
+        cond-true ((length xs.0 == known.given) && (length ys.0 == known.yielding)) (Some made) None
             (both_same (length xs.0) (length ys.0) known.given known.yielding (xs.2.0 ∙ some) (ys.2.0 ∙ more)),
         (
           r.routine,

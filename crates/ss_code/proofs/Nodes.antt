@@ -5,7 +5,7 @@ use Rattle.ss_base.specs.declared.words.GuardKind.{GuardKind}
 use Rattle.ss_base.specs.declared.words.GuardKind.TheVariants as guards
 use Rattle.ss_base.specs.declared.words.PhraseKind.{PhraseKind}
 use Rattle.ss_base.specs.declared.words.PhraseKind.TheVariants as kinds
-use Rattle.ss_program.specs.Program.{Expression, Constant, Fetch, Attribute, OfSystemSet, OfSet, OfMember, Clock, TimeOf, Figure, FigureOf, Signed, Unary, Calculate, SetOwner, TheSystem, Entity, Test, Compare, DataEnded, Empty, Member, Condition, Head, Numbers, Members, Each, Start, AtEnd, From, After, Phrase, Guard, Place, ToVariable, ToAttribute, ToCount, InputTarget, Position, ByDiscipline, AsFirst, AsLast, BeforeMember, AfterMember, When, At, In, Now, Restart, PrintItem, AValue, AMean, AMeanOf, Statement, Let, Change, Call, Return, Stop, Read, Simulate, If, Loop, For, Find, Create, CreateEvery, Destroy, File, RemoveEnd, Remove, ScheduleNew, Schedule, Cancel, Reset, Print, Skip, Block, Done, Then, Routine, Event, Program}
+use Rattle.ss_program.specs.Program.{Expression, Constant, Fetch, Attribute, OfSet, OfMember, TimeOf, FigureOf, Signed, Unary, Calculate, SetOwner, TheSystem, Entity, Test, Compare, DataEnded, Empty, Member, Condition, Head, Numbers, Members, Each, Start, AtEnd, From, After, Phrase, Guard, Place, ToVariable, ToAttribute, ToCount, InputTarget, Position, BeforeMember, AfterMember, When, At, In, Now, Restart, PrintItem, AValue, AMean, AMeanOf, Statement, Let, Change, Call, Read, If, Loop, For, Find, Create, Destroy, File, RemoveEnd, Remove, ScheduleNew, Schedule, Cancel, Reset, Print, Skip, Block, Done, Then, Routine, Event, Program}
 use Rattle.ss_program.specs.Nodes.{total, option_nodes, expression_nodes, subscript_nodes, set_nodes, test_nodes, alternative_nodes, condition_nodes, guard_nodes, phrase_nodes, place_nodes, target_nodes, start_nodes, head_nodes, position_nodes, when_nodes, restart_nodes, item_nodes, statement_nodes, block_nodes, routine_nodes, event_nodes, nodes}
 use Rattle.ss_code_instructions.specs.Facts.{is_watched, must_look, needs_look, expression_of, may_fault, neighbour_of}
 use Rattle.ss_code_instructions.specs.Size.{one_if, one_if_some, expression_size, operand_size, operand_cell_count, values_size, looked_size, any_size, test_size, tests_size, alternatives_size, condition_size, guard_size, guards_size, phrase_size, phrases_size}
@@ -25,47 +25,22 @@ some_small (suc n) = omega arith
 operand_under : (e : Expression) → expression_size e ≤ expression_nodes e → operand_size e ≤ subscript_nodes e
 operand_under (Constant v) h = omega arith
 operand_under (Fetch x) h = omega arith
-operand_under (Attribute class field e) h = h
-operand_under (OfSystemSet query set) h = h
-operand_under (OfSet query set e) h = h
-operand_under (OfMember query set e) h = h
-operand_under Clock h = h
-operand_under (TimeOf e) h = h
-operand_under (Figure fold k) h = h
-operand_under (FigureOf fold k e) h = h
-operand_under (Signed sign e) h = h
-operand_under (Unary op e) h = h
-operand_under (Calculate op a b) h = h
+operand_under _ h = h
 
 subscript_under : (e : Expression) → subscript_nodes e ≤ expression_nodes e
-subscript_under (Constant v) = omega arith
 subscript_under (Fetch x) = omega arith
-subscript_under (Attribute class field e) = omega arith
-subscript_under (OfSystemSet query set) = omega arith
-subscript_under (OfSet query set e) = omega arith
-subscript_under (OfMember query set e) = omega arith
-subscript_under Clock = omega arith
-subscript_under (TimeOf e) = omega arith
-subscript_under (Figure fold k) = omega arith
-subscript_under (FigureOf fold k e) = omega arith
-subscript_under (Signed sign e) = omega arith
-subscript_under (Unary op e) = omega arith
-subscript_under (Calculate op a b) = omega arith
+subscript_under _ = omega arith
 
 expression_small : (e : Expression) → expression_size e ≤ expression_nodes e
-expression_small (Constant v) = omega arith
-expression_small (Fetch x) = omega arith
 expression_small (Attribute class field e) = omega (arith, operand_under e (expression_small e))
-expression_small (OfSystemSet query set) = omega arith
 expression_small (OfSet query set e) = omega (arith, operand_under e (expression_small e))
 expression_small (OfMember query set e) = omega (arith, operand_under e (expression_small e))
-expression_small Clock = omega arith
 expression_small (TimeOf e) = omega (arith, operand_under e (expression_small e), subscript_under e)
-expression_small (Figure fold k) = omega arith
 expression_small (FigureOf fold k e) = omega (arith, operand_under e (expression_small e))
 expression_small (Signed sign e) = omega (arith, operand_under e (expression_small e), subscript_under e)
 expression_small (Unary op e) = omega (arith, operand_under e (expression_small e), subscript_under e)
 expression_small (Calculate op a b) = omega (arith, operand_under a (expression_small a), subscript_under a, operand_under b (expression_small b), subscript_under b)
+expression_small _ = omega arith
 
 operand_small : (e : Expression) → operand_size e ≤ subscript_nodes e
 operand_small e = operand_under e (expression_small e)
@@ -77,17 +52,7 @@ operand_within e = omega (arith, operand_small e, subscript_under e)
 meant_small : (e : Expression) → expression_size e ≤ 1 + subscript_nodes e
 meant_small (Constant v) = omega arith
 meant_small (Fetch x) = omega arith
-meant_small (Attribute class field e) = omega (arith, expression_small (Attribute class field e))
-meant_small (OfSystemSet query set) = omega arith
-meant_small (OfSet query set e) = omega (arith, expression_small (OfSet query set e))
-meant_small (OfMember query set e) = omega (arith, expression_small (OfMember query set e))
-meant_small Clock = omega arith
-meant_small (TimeOf e) = omega (arith, expression_small (TimeOf e))
-meant_small (Figure fold k) = omega arith
-meant_small (FigureOf fold k e) = omega (arith, expression_small (FigureOf fold k e))
-meant_small (Signed sign e) = omega (arith, expression_small (Signed sign e))
-meant_small (Unary op e) = omega (arith, expression_small (Unary op e))
-meant_small (Calculate op a b) = omega (arith, expression_small (Calculate op a b))
+meant_small e = omega (arith, expression_small e)
 
 values_small : (es : List Expression) → values_size es ≤ total expression_nodes es
 values_small [] = omega arith
@@ -113,10 +78,8 @@ tests_small [] = omega arith
 tests_small (x ∷ xs) = omega (arith, test_small x, tests_small xs)
 
 test_there : (x : Test) → 1 ≤ test_nodes x
-test_there (Compare relation a b) = omega arith
 test_there (DataEnded negated) = omega arith
-test_there (Empty negated set o) = omega arith
-test_there (Member negated set e o) = omega arith
+test_there _ = omega arith
 
 alternative_there : (xs : List Test) → 1 ≤ alternative_nodes xs
 alternative_there [] = omega arith
@@ -148,9 +111,7 @@ guards_small (g ∷ gs) = omega (arith, guard_small g.kind g.condition, guards_s
 
 phrase_small : (k : PhraseKind) (c : Condition) → phrase_size k c ≤ 2 * (1 + condition_nodes c)
 phrase_small kinds.With c = omega (arith, condition_small c)
-phrase_small kinds.Unless c = omega (arith, condition_small c)
-phrase_small kinds.While c = omega (arith, condition_small c)
-phrase_small kinds.Until c = omega (arith, condition_small c)
+phrase_small _ c = omega (arith, condition_small c)
 
 phrases_small : (ps : List Phrase) (turn : ℕ) → phrases_size ps turn ≤ 2 * total phrase_nodes ps + turn
 phrases_small [] turn = omega arith
@@ -160,23 +121,11 @@ phrases_small (x ∷ xs) turn = omega (arith, phrase_small x.kind x.condition, p
 
 place_there : (x : Place) → 1 ≤ place_nodes x
 place_there (ToVariable x) = omega arith
-place_there (ToAttribute class field r) = omega arith
-place_there (ToCount c) = omega arith
+place_there _ = omega arith
 
 cells_small : (e : Expression) → operand_cell_count e ≤ 1
 cells_small (Constant v) = omega arith
-cells_small (Fetch x) = omega arith
-cells_small (Attribute class field e) = omega arith
-cells_small (OfSystemSet query set) = omega arith
-cells_small (OfSet query set e) = omega arith
-cells_small (OfMember query set e) = omega arith
-cells_small Clock = omega arith
-cells_small (TimeOf e) = omega arith
-cells_small (Figure fold k) = omega arith
-cells_small (FigureOf fold k e) = omega arith
-cells_small (Signed sign e) = omega arith
-cells_small (Unary op e) = omega arith
-cells_small (Calculate op a b) = omega arith
+cells_small _ = omega arith
 
 module _ (p : Program) where
   kept_small : (x : Variable) → z.kept_size p x ≤ 1
@@ -206,9 +155,8 @@ module _ (p : Program) where
   reads_small (x ∷ xs) = omega (arith, to_place_small x.place 1, place_there x.place, reads_small xs)
 
   give_small : (x : Place) → z.give_size p x ≤ 2 * place_nodes x
-  give_small (ToVariable x) = omega arith
   give_small (ToAttribute class field r) = omega (arith, operand_small r)
-  give_small (ToCount c) = omega arith
+  give_small _ = omega arith
 
   gives_small : (xs : List Place) → z.gives_size p xs ≤ 2 * total place_nodes xs
   gives_small [] = omega arith
@@ -240,11 +188,9 @@ module _ (p : Program) where
   -- ## Sets and events
 
   beside_small : (x : Position) → z.beside_size p (neighbour_of x) ≤ 1 + position_nodes x
-  beside_small ByDiscipline = omega arith
-  beside_small AsFirst = omega arith
-  beside_small AsLast = omega arith
   beside_small (BeforeMember e) = omega (arith, looked_small true e, subscript_under e)
   beside_small (AfterMember e) = omega (arith, looked_small true e, subscript_under e)
+  beside_small _ = omega arith
 
   file_small : (e : Expression) (x : Position) (o : SetOwner) → z.file_size p e (neighbour_of x) (expression_of o) ≤ 2 + expression_nodes e + position_nodes x + set_nodes o
   file_small e x o = omega (arith, looked_small (needs_look (neighbour_of x) (expression_of o)) e, subscript_under e, beside_small x, owner_under o)
@@ -255,9 +201,8 @@ module _ (p : Program) where
   when_small Now = omega arith
 
   place_small : (x : Place) → z.place_size p x ≤ place_nodes x
-  place_small (ToVariable x) = omega arith
   place_small (ToAttribute class field r) = looked_small true r
-  place_small (ToCount c) = omega arith
+  place_small _ = omega arith
 
   notice_small : (x : Place) → z.notice_size p x ≤ 4
   notice_small (ToVariable x) = omega (arith, kept_small x)
@@ -288,16 +233,12 @@ module _ (p : Program) where
     statement_small (Let l x e) = omega (arith, let_small x e)
     statement_small (Change l sign x e) = omega (arith, change_small x e)
     statement_small (Call l routine given yielding) = omega (arith, values_small given, gives_small yielding)
-    statement_small Return = omega arith
-    statement_small Stop = omega arith
     statement_small (Read l targets) = omega (arith, reads_small targets)
-    statement_small Simulate = omega arith
     statement_small (If l c a b) = omega (arith, condition_small c, block_small a, block_small b, some_small (z.block_size p b))
     statement_small (Loop l gs a) = omega (arith, guards_small gs, block_small a)
     statement_small (For l head ps a) = omega (arith, for_small head (phrases_size ps (z.block_size p a)), phrases_small ps (z.block_size p a), block_small a)
     statement_small (Find l head ps a b) = omega (arith, for_small head (phrases_size ps 1), phrases_small ps 1, block_small a, block_small b)
     statement_small (Create l class x) = omega (arith, to_place_small x 1)
-    statement_small (CreateEvery l classes) = omega arith
     statement_small (Destroy l class e) = omega (arith, operand_within e)
     statement_small (File l set e x o) = omega (arith, file_small e x o)
     statement_small (RemoveEnd l end set x o) = omega (arith, to_place_small x (any_size (expression_of o) + 1), owner_under o)
@@ -308,6 +249,7 @@ module _ (p : Program) where
     statement_small (Reset l restarts) = omega (arith, restarts_small restarts)
     statement_small (Print l items pictures) = omega (arith, items_small items)
     statement_small (Skip l e) = omega (arith, operand_within e)
+    statement_small _ = omega arith
 
     block_small : (b : Block) → z.block_size p b ≤ 64 * block_nodes b
     block_small Done = omega arith

@@ -1,6 +1,7 @@
 -- Sections one after another.
 use Rattle.std.proofs.Common.{◌≡◌, ℕ, ◌+◌, ◌≤◌, false, List, [], ◌∷◌, ◌++◌, length, refl, sym, ap, ◌∙◌, subst, arith, append_assoc, append-nil, length-append}
 use Rattle.std.specs.List.{AllByRecursion as Every}
+use Rattle.ss_base.specs.declared.layout.Mode.{Mode}
 use Rattle.ss_base.specs.declared.value.Value.{Value}
 use Rattle.ss_program.specs.Program.{Program, Block, Routine, Event}
 use Rattle.ss_program.specs.View.{view_program}
@@ -14,10 +15,11 @@ use Rattle.ss_code_pieces.specs.Lined.{Lined, no_code}
 use Rattle.ss_code_generator.specs.Emitted.{Final, IsAround, IsLocated, HasPrints, HasAdded}
 use Rattle.ss_code_generator.specs.Printed.{HasPrinted, statement_site, HasPrintedBy}
 use Rattle.ss_code.specs.Running.{HasFrameOf, AreAllFramed}
-use Rattle.ss_code.specs.Sections.{scope_of_section, HasPutSection, HasPutRoutines, HasPutEvents}
+use Rattle.ss_code.specs.Sections.{scope_of_section, HasPut, HasPutSection, HasPutRoutines, HasPutEvents}
 use Rattle.ss_code_generator.proofs.Emitting.{runs_long, adds_none, adds_then, adds_piece, adds_same}
 use Rattle.ss_code_generator.proofs.PrintLines.{prints_then, prints_long}
 use Rattle.ss_code_generator.proofs.Bodies.{has_prints_old}
+use Rattle.ss_code_generator.proofs.Listed.{every_split}
 
 -- ## A section
 
@@ -91,9 +93,8 @@ event_entries_more p at first (x ∷ es) e =
 -- one entry more
 pub begin_more : (room : ℕ) (es : List EntryPoint) (olds : List SectionEntry) (e : EntryPoint) (x : SectionEntry) → AreAllFramed room es olds → HasFrameOf room e x → AreAllFramed room (es ++ e ∷ []) (olds ++ x ∷ [])
 begin_more room [] [] e x h b = (b, tt)
-begin_more room [] (o ∷ os) e x h b = absurd h
-begin_more room (y ∷ es) [] e x h b = absurd h
 begin_more room (y ∷ es) (o ∷ os) e x h b = (h.0, begin_more room es os e x h.1 b)
+begin_more room _ _ e x h b = absurd h
 
 -- ## A section, put after others
 
@@ -131,130 +132,87 @@ around_less f g0 g1 more constants depth program a = record {
 adds_long : (f : Final) (a b : Lined) (c : List Placed) → HasAdded f a b c → length b ≡ length a + length c
 adds_long f a b c h = ap length h.added ∙ length-append a h.more ∙ ap (λ n. length a + n) (runs_long f c h.more h.run)
 
-every_split : {A : Type 0} (P : A → Type 0) (xs : List A) (x : A) → Every P (xs ++ x ∷ []) → Every P xs × P x
-every_split P [] x h = (tt, h.0)
-every_split P (y ∷ xs) x h = let k = every_split P xs x h.1 in ((h.0, k.0), k.1)
+-- One section more, of several that are alike: its body, the local variables that it is given, how many of the others it yields, and the others.
+module _ {X : Type 0} (body : X → Block) (given : X → List Mode) (yielding : X → ℕ) (others : X → List Mode) (codes : Program → (first : ℕ) → List X → List Placed) (lines : List X → List Lines) (starts : Program → (at first : ℕ) → List X → List EntryPoint) (Good : Program → X → Type 0) (good_body : (p : Program) (x : X) → Good p x → IsTypedBlock (record { program = p; locals = given x ++ others x; is_main = false }) (body x)) where
+  abbrev scope_in : Program → X → TypedScope
+  scope_in p x = record { program = p; locals = given x ++ others x; is_main = false }
 
--- one routine more
-module _ (g0 g1 g2 : Generator) (c0 c1 c2 : Lined) (p0 p1 p2 : List RunningLines) (rs : List Routine) (r : Routine) (entries : List SectionEntry) (entry : SectionEntry) (m : HasPutRoutines g0 g1 c0 c1 p0 p1 rs entries) (n : HasPutSection g1 g2 c1 c2 p1 p2 (routine_entry (length c1) r) r.body entry) where
-  abbrev routines_program : Program
-  routines_program = view_program g0.program.now
+  abbrev code_in : Program → (first : ℕ) → X → List Placed
+  code_in p first x = section_code (scope_in p x) first (body x)
 
-  routines_same : view_program g1.program.now ≡ routines_program
-  routines_same = ap view_program m.puts.program
+  abbrev entry_at : (at : ℕ) → X → EntryPoint
+  entry_at at x = record { place = at; given = given x; yielding = yielding x; others = others x }
 
-  routines_one : (f : Final) → IsAround f g2 → HasPrints f p2 → IsTypedRoutine routines_program r → HasAdded f c1 c2 (routine_code routines_program (length p1) r)
-  routines_one f around has good =
-      let k = n.puts false in
-      let good' : IsTypedRoutine (view_program g1.program.now) r = subst (λ (p : Program). IsTypedRoutine p r) (sym routines_same) good in
-      adds_same f c1 c2 (routine_code (view_program g1.program.now) (length p1) r) (routine_code routines_program (length p1) r) (ap (λ (p : Program). routine_code p (length p1) r) routines_same) (k.adds f around has good')
+  module _ (codes_more : (p : Program) (first : ℕ) (xs : List X) (x : X) → codes p first (xs ++ x ∷ []) ≡ codes p first xs ++ code_in p (first + length (lines xs)) x) (lines_more : (xs : List X) (x : X) → lines (xs ++ x ∷ []) ≡ lines xs ++ block_prints (body x)) (starts_more : (p : Program) (at first : ℕ) (xs : List X) (x : X) → starts p at first (xs ++ x ∷ []) ≡ starts p at first xs ++ entry_at (at + length (codes p first xs)) x ∷ []) (g0 g1 g2 : Generator) (c0 c1 c2 : Lined) (p0 p1 p2 : List RunningLines) (xs : List X) (x : X) (entries : List SectionEntry) (entry : SectionEntry) (m : HasPut g0 g1 c0 c1 p0 p1 (Every (Good (view_program g0.program.now)) xs) (lines xs) (λ first. codes (view_program g0.program.now) first xs)) (n : HasPutSection g1 g2 c1 c2 p1 p2 (entry_at (length c1) x) (body x) entry) where
+    abbrev whole : Program
+    whole = view_program g0.program.now
 
-  routines_before : (f : Final) → IsAround f g2 → HasPrints f p2 → Every (IsTypedRoutine routines_program) rs → HasAdded f c0 c1 (routines_code routines_program (length p0) rs)
-  routines_before f around has good =
-      let k = n.puts false in
-      m.puts.adds f (around_less f g1 g2 k.constants.0 k.constants.1 k.depth k.program around) (has_prints_old f p1 p2 (block_prints r.body) k.prints has) good
+    last_adds : (f : Final) → IsAround f g2 → HasPrints f p2 → Good whole x → HasAdded f c1 c2 (code_in whole (length p0 + length (lines xs)) x)
+    last_adds f around has good =
+        let k = n.puts false in
+        let same : view_program g1.program.now ≡ whole = ap view_program m.program in
+        let long : length p1 ≡ length p0 + length (lines xs) = prints_long p0 p1 (lines xs) m.prints in
+        let typed : IsTypedBlock (scope_in (view_program g1.program.now) x) (body x) = subst (λ (p : Program). IsTypedBlock (scope_in p x) (body x)) (sym same) (good_body whole x good) in
+        adds_same f c1 c2 (code_in (view_program g1.program.now) (length p1) x) (code_in whole (length p0 + length (lines xs)) x) (ap (λ (p : Program). code_in p (length p1) x) same ∙ ap (λ k. code_in whole k x) long) (k.adds f around has typed)
 
-  pub routines_put : HasPutRoutines g0 g2 c0 c2 p0 p2 (rs ++ r ∷ []) (entries ++ entry ∷ [])
-  routines_put =
-      let k = n.puts false in
-      let long : length p1 ≡ length p0 + length (routines_prints rs) = prints_long p0 p1 (routines_prints rs) m.puts.prints in
-      record {
-        puts = record {
+    before_adds : (f : Final) → IsAround f g2 → HasPrints f p2 → Every (Good whole) xs → HasAdded f c0 c1 (codes whole (length p0) xs)
+    before_adds f around has good =
+        let k = n.puts false in
+        m.adds f (around_less f g1 g2 k.constants.0 k.constants.1 k.depth k.program around) (has_prints_old f p1 p2 (block_prints (body x)) k.prints has) good
+
+    sections_put : HasPut g0 g2 c0 c2 p0 p2 (Every (Good whole) (xs ++ x ∷ [])) (lines (xs ++ x ∷ [])) (λ first. codes whole first (xs ++ x ∷ []))
+    sections_put =
+        let k = n.puts false in
+        record {
           constants = (
-            m.puts.constants.0 ++ k.constants.0,
-            k.constants.1 ∙ ap (λ (l : List Value). l ++ k.constants.0) m.puts.constants.1 ∙ append_assoc g0.constants.items m.puts.constants.0 k.constants.0,
+            m.constants.0 ++ k.constants.0,
+            k.constants.1 ∙ ap (λ (l : List Value). l ++ k.constants.0) m.constants.1 ∙ append_assoc g0.constants.items m.constants.0 k.constants.0,
           );
-          depth = omega (arith, m.puts.depth, k.depth);
-          program = k.program ∙ m.puts.program;
+          depth = omega (arith, m.depth, k.depth);
+          program = k.program ∙ m.program;
           adds = λ f around has good.
-              let both = every_split (IsTypedRoutine routines_program) rs r good in
-              let last : HasAdded f c1 c2 (routine_code routines_program (length p0 + length (routines_prints rs)) r) =
-              adds_same f c1 c2 (routine_code routines_program (length p1) r) (routine_code routines_program (length p0 + length (routines_prints rs)) r) (ap (λ k. routine_code routines_program k r) long) (routines_one f around has both.1) in
-              adds_same f c0 c2 (routines_code routines_program (length p0) rs ++ routine_code routines_program (length p0 + length (routines_prints rs)) r) (routines_code routines_program (length p0) (rs ++ r ∷ []))
-              (sym (routines_code_more routines_program (length p0) rs r))
-              (adds_then f c0 c1 c2 (routines_code routines_program (length p0) rs) (routine_code routines_program (length p0 + length (routines_prints rs)) r) (routines_before f around has both.0) last);
-          prints = subst (HasPrinted p0 p2) (sym (routines_prints_more rs r)) (prints_then p0 p1 p2 (routines_prints rs) (block_prints r.body) m.puts.prints k.prints);
-        };
-        begin = λ f around has good.
-            let both = every_split (IsTypedRoutine routines_program) rs r good in
-            let old : AreAllFramed 0 (routine_entries routines_program (length c0) (length p0) rs) entries =
-            m.begin f (around_less f g1 g2 k.constants.0 k.constants.1 k.depth k.program around) (has_prints_old f p1 p2 (block_prints r.body) k.prints has) both.0 in
-            let place : length c1 ≡ length c0 + length (routines_code routines_program (length p0) rs) = adds_long f c0 c1 (routines_code routines_program (length p0) rs) (routines_before f around has both.0) in
-            let new : HasFrameOf 0 (routine_entry (length c0 + length (routines_code routines_program (length p0) rs)) r) entry = subst (λ k. HasFrameOf 0 (routine_entry k r) entry) place n.begins in
-            subst (λ (es : List EntryPoint). AreAllFramed 0 es (entries ++ entry ∷ [])) (sym (routine_entries_more routines_program (length c0) (length p0) rs r))
-            (begin_more 0 (routine_entries routines_program (length c0) (length p0) rs) entries (routine_entry (length c0 + length (routines_code routines_program (length p0) rs)) r) entry old new);
-      }
+              let both = every_split (Good whole) xs x good in
+              adds_same f c0 c2 (codes whole (length p0) xs ++ code_in whole (length p0 + length (lines xs)) x) (codes whole (length p0) (xs ++ x ∷ [])) (sym (codes_more whole (length p0) xs x))
+              (adds_then f c0 c1 c2 (codes whole (length p0) xs) (code_in whole (length p0 + length (lines xs)) x) (before_adds f around has both.0) (last_adds f around has both.1));
+          prints = subst (HasPrinted p0 p2) (sym (lines_more xs x)) (prints_then p0 p1 p2 (lines xs) (block_prints (body x)) m.prints k.prints);
+        }
 
-pub no_routines_put : (g : Generator) (c : Lined) (prints : List RunningLines) → HasPutRoutines g g c c prints prints [] []
-no_routines_put g c prints = record {
-  puts = record {
-    constants = ([], sym (append-nil g.constants.items));
-    depth = omega arith;
-    program = refl;
-    adds = λ f around has good. adds_none f c;
-    prints = ([], sym (append-nil prints), refl);
-  };
-  begin = λ f around has good. tt;
+    sections_begin : ((f : Final) → IsAround f g1 → HasPrints f p1 → Every (Good whole) xs → AreAllFramed 0 (starts whole (length c0) (length p0) xs) entries) → (f : Final) → IsAround f g2 → HasPrints f p2 → Every (Good whole) (xs ++ x ∷ []) → AreAllFramed 0 (starts whole (length c0) (length p0) (xs ++ x ∷ [])) (entries ++ entry ∷ [])
+    sections_begin begin f around has good =
+        let k = n.puts false in
+        let both = every_split (Good whole) xs x good in
+        let old : AreAllFramed 0 (starts whole (length c0) (length p0) xs) entries = begin f (around_less f g1 g2 k.constants.0 k.constants.1 k.depth k.program around) (has_prints_old f p1 p2 (block_prints (body x)) k.prints has) both.0 in
+        let place : length c1 ≡ length c0 + length (codes whole (length p0) xs) = adds_long f c0 c1 (codes whole (length p0) xs) (before_adds f around has both.0) in
+        let new : HasFrameOf 0 (entry_at (length c0 + length (codes whole (length p0) xs)) x) entry = subst (λ k. HasFrameOf 0 (entry_at k x) entry) place n.begins in
+        subst (λ (es : List EntryPoint). AreAllFramed 0 es (entries ++ entry ∷ [])) (sym (starts_more whole (length c0) (length p0) xs x))
+        (begin_more 0 (starts whole (length c0) (length p0) xs) entries (entry_at (length c0 + length (codes whole (length p0) xs)) x) entry old new)
+
+-- no section
+nothing_put : (g : Generator) (c : Lined) (prints : List RunningLines) (Good : Type 0) → HasPut g g c c prints prints Good [] (λ first. [])
+nothing_put g c prints Good = record {
+  constants = ([], sym (append-nil g.constants.items));
+  depth = omega arith;
+  program = refl;
+  adds = λ f around has good. adds_none f c;
+  prints = ([], sym (append-nil prints), refl);
 }
 
--- one event more
-module _ (g0 g1 g2 : Generator) (c0 c1 c2 : Lined) (p0 p1 p2 : List RunningLines) (rs : List Event) (r : Event) (entries : List SectionEntry) (entry : SectionEntry) (m : HasPutEvents g0 g1 c0 c1 p0 p1 rs entries) (n : HasPutSection g1 g2 c1 c2 p1 p2 (event_entry (length c1) r) r.body entry) where
-  abbrev events_program : Program
-  events_program = view_program g0.program.now
+-- the routines
+pub no_routines_put : (g : Generator) (c : Lined) (prints : List RunningLines) → HasPutRoutines g g c c prints prints [] []
+no_routines_put g c prints = record { puts = nothing_put g c prints _; begin = λ f around has good. tt }
 
-  events_same : view_program g1.program.now ≡ events_program
-  events_same = ap view_program m.puts.program
+pub routines_put : (g0 g1 g2 : Generator) (c0 c1 c2 : Lined) (p0 p1 p2 : List RunningLines) (rs : List Routine) (r : Routine) (entries : List SectionEntry) (entry : SectionEntry) → HasPutRoutines g0 g1 c0 c1 p0 p1 rs entries → HasPutSection g1 g2 c1 c2 p1 p2 (routine_entry (length c1) r) r.body entry → HasPutRoutines g0 g2 c0 c2 p0 p2 (rs ++ r ∷ []) (entries ++ entry ∷ [])
+routines_put g0 g1 g2 c0 c1 c2 p0 p1 p2 rs r entries entry m n = record {
+  puts = sections_put (λ (x : Routine). x.body) (λ (x : Routine). x.given) (λ (x : Routine). length x.yielding) (λ (x : Routine). x.yielding ++ x.others) routines_code routines_prints routine_entries IsTypedRoutine (λ p x good. good) routines_code_more routines_prints_more routine_entries_more g0 g1 g2 c0 c1 c2 p0 p1 p2 rs r entries entry m.puts n;
+  begin = sections_begin (λ (x : Routine). x.body) (λ (x : Routine). x.given) (λ (x : Routine). length x.yielding) (λ (x : Routine). x.yielding ++ x.others) routines_code routines_prints routine_entries IsTypedRoutine (λ p x good. good) routines_code_more routines_prints_more routine_entries_more g0 g1 g2 c0 c1 c2 p0 p1 p2 rs r entries entry m.puts n m.begin;
+}
 
-  events_one : (f : Final) → IsAround f g2 → HasPrints f p2 → IsTypedEvent events_program r → HasAdded f c1 c2 (event_code events_program (length p1) r)
-  events_one f around has good =
-      let k = n.puts false in
-      let good' : IsTypedEvent (view_program g1.program.now) r = subst (λ (p : Program). IsTypedEvent p r) (sym events_same) good in
-      adds_same f c1 c2 (event_code (view_program g1.program.now) (length p1) r) (event_code events_program (length p1) r) (ap (λ (p : Program). event_code p (length p1) r) events_same) (k.adds f around has good'.body)
-
-  events_before : (f : Final) → IsAround f g2 → HasPrints f p2 → Every (IsTypedEvent events_program) rs → HasAdded f c0 c1 (events_code events_program (length p0) rs)
-  events_before f around has good =
-      let k = n.puts false in
-      m.puts.adds f (around_less f g1 g2 k.constants.0 k.constants.1 k.depth k.program around) (has_prints_old f p1 p2 (block_prints r.body) k.prints has) good
-
-  pub events_put : HasPutEvents g0 g2 c0 c2 p0 p2 (rs ++ r ∷ []) (entries ++ entry ∷ [])
-  events_put =
-      let k = n.puts false in
-      let long : length p1 ≡ length p0 + length (events_prints rs) = prints_long p0 p1 (events_prints rs) m.puts.prints in
-      record {
-        puts = record {
-          constants = (
-            m.puts.constants.0 ++ k.constants.0,
-            k.constants.1 ∙ ap (λ (l : List Value). l ++ k.constants.0) m.puts.constants.1 ∙ append_assoc g0.constants.items m.puts.constants.0 k.constants.0,
-          );
-          depth = omega (arith, m.puts.depth, k.depth);
-          program = k.program ∙ m.puts.program;
-          adds = λ f around has good.
-              let both = every_split (IsTypedEvent events_program) rs r good in
-              let last : HasAdded f c1 c2 (event_code events_program (length p0 + length (events_prints rs)) r) =
-              adds_same f c1 c2 (event_code events_program (length p1) r) (event_code events_program (length p0 + length (events_prints rs)) r) (ap (λ k. event_code events_program k r) long) (events_one f around has both.1) in
-              adds_same f c0 c2 (events_code events_program (length p0) rs ++ event_code events_program (length p0 + length (events_prints rs)) r) (events_code events_program (length p0) (rs ++ r ∷ []))
-              (sym (events_code_more events_program (length p0) rs r))
-              (adds_then f c0 c1 c2 (events_code events_program (length p0) rs) (event_code events_program (length p0 + length (events_prints rs)) r) (events_before f around has both.0) last);
-          prints = subst (HasPrinted p0 p2) (sym (events_prints_more rs r)) (prints_then p0 p1 p2 (events_prints rs) (block_prints r.body) m.puts.prints k.prints);
-        };
-        begin = λ f around has good.
-            let both = every_split (IsTypedEvent events_program) rs r good in
-            let old : AreAllFramed 0 (event_entries events_program (length c0) (length p0) rs) entries =
-            m.begin f (around_less f g1 g2 k.constants.0 k.constants.1 k.depth k.program around) (has_prints_old f p1 p2 (block_prints r.body) k.prints has) both.0 in
-            let place : length c1 ≡ length c0 + length (events_code events_program (length p0) rs) = adds_long f c0 c1 (events_code events_program (length p0) rs) (events_before f around has both.0) in
-            let new : HasFrameOf 0 (event_entry (length c0 + length (events_code events_program (length p0) rs)) r) entry = subst (λ k. HasFrameOf 0 (event_entry k r) entry) place n.begins in
-            subst (λ (es : List EntryPoint). AreAllFramed 0 es (entries ++ entry ∷ [])) (sym (event_entries_more events_program (length c0) (length p0) rs r))
-            (begin_more 0 (event_entries events_program (length c0) (length p0) rs) entries (event_entry (length c0 + length (events_code events_program (length p0) rs)) r) entry old new);
-      }
-
+-- and those of events
 pub no_events_put : (g : Generator) (c : Lined) (prints : List RunningLines) → HasPutEvents g g c c prints prints [] []
-no_events_put g c prints = record {
-  puts = record {
-    constants = ([], sym (append-nil g.constants.items));
-    depth = omega arith;
-    program = refl;
-    adds = λ f around has good. adds_none f c;
-    prints = ([], sym (append-nil prints), refl);
-  };
-  begin = λ f around has good. tt;
+no_events_put g c prints = record { puts = nothing_put g c prints _; begin = λ f around has good. tt }
+
+pub events_put : (g0 g1 g2 : Generator) (c0 c1 c2 : Lined) (p0 p1 p2 : List RunningLines) (es : List Event) (e : Event) (entries : List SectionEntry) (entry : SectionEntry) → HasPutEvents g0 g1 c0 c1 p0 p1 es entries → HasPutSection g1 g2 c1 c2 p1 p2 (event_entry (length c1) e) e.body entry → HasPutEvents g0 g2 c0 c2 p0 p2 (es ++ e ∷ []) (entries ++ entry ∷ [])
+events_put g0 g1 g2 c0 c1 c2 p0 p1 p2 es e entries entry m n = record {
+  puts = sections_put (λ (x : Event). x.body) (λ (x : Event). x.given) (λ (x : Event). 0) (λ (x : Event). x.others) events_code events_prints event_entries IsTypedEvent (λ p x good. good.body) events_code_more events_prints_more event_entries_more g0 g1 g2 c0 c1 c2 p0 p1 p2 es e entries entry m.puts n;
+  begin = sections_begin (λ (x : Event). x.body) (λ (x : Event). x.given) (λ (x : Event). 0) (λ (x : Event). x.others) events_code events_prints event_entries IsTypedEvent (λ p x good. good.body) events_code_more events_prints_more event_entries_more g0 g1 g2 c0 c1 c2 p0 p1 p2 es e entries entry m.puts n m.begin;
 }

@@ -1,5 +1,5 @@
 -- The whole code of a program, from that of its sections.
-use Rattle.std.proofs.Common.{◌≡◌, ℕ, suc, ◌+◌, ◌≤◌, List, [], ◌∷◌, ◌++◌, length, map, Some, refl, sym, ap, ◌∙◌, subst, arith, length-append}
+use Rattle.std.proofs.Common.{◌≡◌, ℕ, suc, ◌+◌, ◌≤◌, List, [], ◌∷◌, ◌++◌, length, map, refl, sym, ap, ◌∙◌, subst, arith, length-append}
 use Rattle.std.specs.Prelude.{pos}
 use Rattle.std.specs.List.{AllByRecursion as Every}
 use Rattle.ss_base.specs.declared.value.Value.{Value}
@@ -23,25 +23,21 @@ use Rattle.ss_code.specs.Sifted.{AreAllAlike}
 use Rattle.ss_code_generator.proofs.PrintLines.{prints_then, prints_long}
 use Rattle.ss_code.proofs.Alike.{RunAlone, lines_run, all_run_alike}
 use Rattle.ss_code_generator.proofs.Emitting.{adds_then, adds_same, piece_long}
+use Rattle.ss_code_generator.proofs.Modes.{same_some}
 
 -- ## Places
-
-some_same : {A : Type 0} {a b : A} → Some a ≡ Some b → a ≡ b
-some_same e = cc
 
 -- what is shown at a PRINT is shown at its lines
 shows_of : (prints : List RunningLines) (x : Placed) → HasPrintModes prints x.cells x.instruction → IsFittingPrint prints x
 shows_of prints x shown = λ n h l e there.
     let s = subst (λ i. HasPrintModes prints x.cells i) e shown in
-    let same : s.0 ≡ l = some_same (sym s.1 ∙ there) in
+    let same : s.0 ≡ l = same_some (sym s.1 ∙ there) in
     (s.2.0, s.2.1 ∙ ap (λ (l : RunningLines). onto (item_modes l.items) s.2.0) same)
 
 module _ (f : Final) (run : RunningCode) (constants : run.constants ≡ f.constants) (prints : run.prints ≡ f.prints) (depth : run.depth ≡ f.depth) (lands : HasLandings (code_of f.program)) where
   -- what runs, from a place of the code on
   are_places : (n : ℕ) (xs : List Placed) (ys : List Running) → HasAt (code_of f.program).places n xs → RunAlone f xs ys → ArePlaces (code_of f.program) run n xs ys
   are_places n [] [] has h = tt
-  are_places n [] (y ∷ ys) has h = absurd h
-  are_places n (x ∷ xs) [] has h = absurd h
   are_places n (x ∷ xs) (y ∷ ys) has h =
       let here : IsPlace (code_of f.program) run n x y = record {
         carries = subst (λ (c : List Value). IsCarriedOut (code_of f.program) c x y) (sym constants) h.0.carries;
@@ -51,6 +47,7 @@ module _ (f : Final) (run : RunningCode) (constants : run.constants ≡ f.consta
       } in
       let next : n + 1 ≡ suc n = omega arith in
       (here, are_places (suc n) xs ys (subst (λ k. HasAt (code_of f.program).places k xs) next has.1) h.1)
+  are_places n _ _ has h = absurd h
 
 -- ## Sections
 
@@ -82,11 +79,10 @@ entry_of depth e old new b d few =
 
 entries_of : (depth : ℕ) (es : List EntryPoint) (olds news : List SectionEntry) → AreAllFramed 0 es olds → AreAllDeepened depth olds news → Every Yields es → AreEntries depth es news
 entries_of depth [] [] [] b d y = tt
-entries_of depth [] [] (n ∷ ns) b d y = absurd d
-entries_of depth [] (o ∷ os) news b d y = absurd b
-entries_of depth (e ∷ es) [] news b d y = absurd b
-entries_of depth (e ∷ es) (o ∷ os) [] b d y = absurd d
 entries_of depth (e ∷ es) (o ∷ os) (n ∷ ns) b d y = (entry_of depth e o n b.0 d.0 y.0, entries_of depth es os ns b.1 d.1 y.1)
+entries_of depth [] [] _ b d y = absurd d
+entries_of depth (e ∷ es) (o ∷ os) _ b d y = absurd d
+entries_of depth _ _ news b d y = absurd b
 
 routines_yield : (p : Program) (at first : ℕ) (rs : List Routine) → Every Yields (routine_entries p at first rs)
 routines_yield p at first [] = tt
@@ -164,7 +160,3 @@ module _ (p : Program) (g : Generator) (c1 c2 c3 : Lined) (p1 p2 p3 : List Runni
         events = entries_of g.deepest (code_of p).events events0 events1 es des (events_yield p (length (main_code p) + length (all_routines p)) (prints_before_events p) p.events);
         sifts = sifts;
       }
-
--- a program whose code is too long: there are as many instructions as places
-pub as_long : (f : Final) (c : Lined) (xs : List Placed) → HasAdded f no_code c xs → length c ≡ length xs
-as_long f c xs h = piece_long f c xs h

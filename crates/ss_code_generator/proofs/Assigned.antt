@@ -1,6 +1,6 @@
 -- What the generator emits where something is assigned.
 use Rattle.std.proofs.Common.{◌≡◌, ℕ, ◌≤◌, Bool, true, false, List, [], ◌∷◌, ◌++◌, Some, None, refl, sym, ap, ◌∙◌, subst, append-nil, if◌then◌else◌}
-use Rattle.ss_code_generator.proofs.Common.{above, Address, after_place, Alpha, assignment, AttributeSpot, code_of, Expression, field_mode, Final, Global, HasPrintModes, height, Integer, is_kept, IsAttribute, IsRunBy, IsSiteOperand, IsVariable, IsWatchedAs, landed_code, landing, Mode, mode_here, moving, next, OfAttribute, Place, place, place_code, Program, Site, storing, to_place_code, ToAttribute, ToCount, ToVariable, TypedScope, Variable, VariableSpot, watch}
+use Rattle.ss_code_generator.proofs.Common.{above, Address, after_place, Alpha, assignment, AttributeSpot, code_of, Expression, field_mode, Final, Global, HasPrintModes, height, Integer, is_kept, IsAttribute, IsRunBy, IsSiteOperand, IsVariable, IsWatchedAs, landed_code, landing, Mode, mode_here, moving, next, OfAttribute, Place, place, place_code, Program, Site, storing, to_place_code, ToVariable, TypedScope, Variable, VariableSpot, watch}
 use Rattle.ss_code_instructions.specs.Instructions.{Operand, Placed, Taken, Target, Into}
 use Rattle.ss_code_instructions.specs.Instructions as i
 use Rattle.ss_code_generator.proofs.Forms as forms
@@ -15,17 +15,13 @@ to_place_parts t (ToVariable x) m source = by (is_kept t x)
     by : (b : Bool) → source t (if b then next t else Into x) ++ (if b then place (above t Integer) (i.Keep (Taken (height t)) x) ∷ [] else []) ≡ (if b then source t (next t) ++ place (above t Integer) (i.Keep (Taken (height t)) x) ∷ [] else source t (Into x))
     by true = refl
     by false = append-nil (source t (Into x))
-to_place_parts t (ToAttribute class field r) m source = refl
-to_place_parts t (ToCount c) m source = refl
+to_place_parts t _ m source = refl
 
 -- ## Variables
 
 -- what is assigned to a variable that a statistic watches, and to another one
-pub assignment_kept : (u : Site) (x : Variable) (y : Operand) → is_kept u x ≡ true → assignment u x y ≡ i.Keep y x
-assignment_kept u x y e = ap (λ (b : Bool). if b then i.Keep y x else i.Move y (Into x)) e
-
-pub assignment_plain : (u : Site) (x : Variable) (y : Operand) → is_kept u x ≡ false → assignment u x y ≡ i.Move y (Into x)
-assignment_plain u x y e = ap (λ (b : Bool). if b then i.Keep y x else i.Move y (Into x)) e
+pub assignment_by : (u : Site) (x : Variable) (y : Operand) (kept : Bool) → is_kept u x ≡ kept → assignment u x y ≡ (if kept then i.Keep y x else i.Move y (Into x))
+assignment_by u x y kept e = ap (λ (b : Bool). if b then i.Keep y x else i.Move y (Into x)) e
 
 pub kept_at : (t u : Site) (x : Variable) (b : Bool) → t.scope ≡ u.scope → is_kept t x ≡ b → is_kept u x ≡ b
 kept_at t u x b same e = sym (ap (λ (s : TypedScope). is_kept (record { scope = s; line = u.line; cells = u.cells }) x) same) ∙ e
@@ -34,7 +30,7 @@ kept_at t u x b same e = sym (ap (λ (s : TypedScope). is_kept (record { scope =
 pub move_runs : (f : Final) (t u : Site) (x : Variable) (y : Operand) (s : VariableSpot) (from : Address) → IsVariable t x s → s.watched ≡ None → t.scope ≡ u.scope → IsSiteOperand f u y from → mode_here (code_of f.program) f.constants (place u (assignment u x y)) y ≡ Some s.mode → height u ≤ f.depth → IsRunBy f (place u (assignment u x y)) (moving s.mode from s.address)
 move_runs f t u x y s from v watched same at mode deep =
     let w : is_kept t x ≡ false = subst (IsWatchedAs (is_kept t x) x) watched v.watched in
-    let e : assignment u x y ≡ i.Move y (Into x) = assignment_plain u x y (kept_at t u x false same w) in
+    let e : assignment u x y ≡ i.Move y (Into x) = assignment_by u x y false (kept_at t u x false same w) in
     record {
       carries = forms.moves (code_of f.program) f.constants (place u (assignment u x y)) s.mode from s.address (y, at, (mode, (Into x, v.at, e)));
       deep = deep;

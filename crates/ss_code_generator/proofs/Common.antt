@@ -8,7 +8,7 @@ pub use Rattle.ss_base.specs.declared.words.End.{End}
 pub use Rattle.ss_base.specs.declared.words.Relation.{Relation}
 pub use Rattle.ss_base.specs.declared.words.Sign.{Sign}
 pub use Rattle.ss_code_generator.specs.Calculations.{with_operations}
-pub use Rattle.ss_code_generator.specs.Emitted.{AreNumbers, Final, HasAdded, HasBorne, HasEmitted, HasEmittedAround, HasEmittedAroundBoth, HasEmittedTo, HasGenerated, HasGrown, HasPrintModes, HasReadBy, HasReadOperand, IsAround, IsInteger, IsLocated, IsRead, IsRunBy, IsSiteBearer, IsSiteOperand, IsSiteTarget, IsTyped}
+pub use Rattle.ss_code_generator.specs.Emitted.{AreNumbers, Final, HasAdded, HasBorne, HasEmitted, HasEmittedAround, HasEmittedAroundBoth, HasEmittedTo, HasGenerated, HasGrown, HasNoMore, HasPrintModes, HasReadBy, HasReadOperand, IsAround, IsInteger, IsLocated, IsRead, IsRunBy, IsSiteBearer, IsSiteOperand, IsSiteTarget, IsTyped}
 pub use Rattle.ss_code_generator.specs.Filings.{filing_instruction}
 pub use Rattle.ss_code_generator.specs.Items.{IsTypedItem, running_kind}
 pub use Rattle.ss_code_generator.specs.Looped.{HasKeptOwner, HasTakenItems, HasTakenLoopItem, begin_of, is_after, item_loop_code, loop_width}
@@ -24,7 +24,7 @@ pub use Rattle.ss_code_instructions.specs.Carried.{IsCarriedOut, IsInFrame, Runn
 pub use Rattle.ss_code_instructions.specs.Facts.{expression_of, must_look, watch}
 pub use Rattle.ss_code_instructions.specs.Forms.{asking_member, asking_set, calculating, comparing, fetching, moving, reading, removing, storing}
 pub use Rattle.ss_code_instructions.specs.Instructions.{Bearer, Constant, Held, Instruction, Leave, Lines, Operand, Placed, Read, Stays, Taken, Target}
-pub use Rattle.ss_code_instructions.specs.Translation.{Site, above, after, after_bearer, after_place, after_values, assignment, bearer, bearer_code, change_code, code_of, condition_code, creates_code, entity_code, expression_code, expression_mode, file_code, for_code, gives_code, guards_code, height, is_kept, let_code, next, operand, operand_code, or_integer, phrases_code, place, place_code, reads_code, remove_code, remove_end_code, restarts_code, schedule_code, schedule_new_code, stay, take_code, tests_code, to_place_code, values_code, with_operand, with_owner}
+pub use Rattle.ss_code_instructions.specs.Translation.{Site, above, after, after_bearer, after_place, after_values, assignment, bearer, bearer_code, change_code, code_of, condition_code, creates_code, entity_code, expression_code, expression_mode, file_code, for_code, gives_code, guards_code, height, is_kept, let_code, next, operand, operand_code, or_integer, phrases_code, place, place_code, reads_code, remove_code, remove_end_code, restarts_code, schedule_code, schedule_new_code, stay, take_code, tests_code, to_place_code, values_code, with_operand}
 pub use Rattle.ss_code_instructions.specs.declared.address.Address.{Address}
 pub use Rattle.ss_code_instructions.specs.declared.item.ItemKind.{ItemKind}
 pub use Rattle.ss_code_pieces.specs.Lined.{Lined, no_code, on_line}

@@ -1,8 +1,8 @@
 -- Pieces put together, and what is around them.
 use Rattle.std.proofs.Common.{◌≡◌, ℕ, suc, ◌+◌, ◌<◌, ◌≤◌, ◌^◌, List, [], ◌∷◌, ◌++◌, length, Result, Ok, Err, refl, sym, ap, ◌∙◌, subst, arith, append_assoc, append-nil}
 use Rattle.std.specs.Prelude.{OnOk}
-use Rattle.ss_code_generator.proofs.Common.{Generator, height, Line, Lined, no_code, on_line, Placed, Site, Value, view_program}
-use Rattle.ss_code_generator.specs.Emitted.{Final, HasAdded, HasGenerated, HasGrown, IsAround, IsLocated, IsRunBy, AreAllRun}
+use Rattle.ss_code_generator.proofs.Common.{code_of, Generator, HasPrintModes, height, Instruction, IsCarriedOut, Line, Lined, no_code, on_line, place, Placed, Site, Value, view_program}
+use Rattle.ss_code_generator.specs.Emitted.{Final, HasAdded, HasGenerated, HasGrown, HasNoMore, IsAround, IsLocated, IsRunBy, AreAllRun}
 use Rattle.ss_code_instructions.specs.declared.instruction.Instruction.{Instruction as Running}
 use Rattle.ss_code_generator.specs.declared.generator.Site.{Site as Here}
 
@@ -57,15 +57,13 @@ stands_above f g here higher t u k small s line above scope same high deep =
 
 pub runs_both : (f : Final) (c d : List Placed) (is js : Lined) → AreAllRun f c is → AreAllRun f d js → AreAllRun f (c ++ d) (is ++ js)
 runs_both f [] d [] js h k = k
-runs_both f [] d (i ∷ is) js h k = absurd h
-runs_both f (x ∷ c) d [] js h k = absurd h
 runs_both f (x ∷ c) d (i ∷ is) js h k = (h.0, h.1, runs_both f c d is js h.2 k)
+runs_both f _ d _ js h k = absurd h
 
 pub runs_long : (f : Final) (c : List Placed) (is : Lined) → AreAllRun f c is → length is ≡ length c
 runs_long f [] [] h = refl
-runs_long f [] (i ∷ is) h = absurd h
-runs_long f (x ∷ c) [] h = absurd h
 runs_long f (x ∷ c) (i ∷ is) h = ap suc (runs_long f c is h.2)
+runs_long f _ _ h = absurd h
 
 pub adds_none : (f : Final) (p : Lined) → HasAdded f p p []
 adds_none f p = record { more = []; added = sym (append-nil p); run = tt }
@@ -80,6 +78,17 @@ adds_then f a b c xs ys h k = record {
 -- one instruction more
 pub adds_one : (f : Final) (a b : Lined) (l : Line) (x : Placed) (y : Running) → b ≡ a ++ on_line l y ∷ [] → x.line ≡ l → IsRunBy f x y → HasAdded f a b (x ∷ [])
 adds_one f a b l x y is same r = record { more = on_line l y ∷ []; added = is; run = (sym same, r, tt) }
+
+-- what is promised of each end, where nothing more is
+pub emits : {I : Type 0} {old new : Generator} {p q : Lined} {here : Here} {Fit : Final → Site → I → Type 0} {c : Site → I → List Placed} → HasGrown old new → ((f : Final) (t : Site) (x : I) → IsAround f new → IsLocated f new here t → Fit f t x → HasAdded f p q (c t x)) → HasGenerated old new p q here Fit c HasNoMore
+emits grows adds = record { grows = grows; adds = adds; more = λ f t x around located fits. tt }
+
+-- one instruction at each site, where it carries out what fits there
+pub emits_one : {I : Type 0} (old new : Generator) (p q : Lined) (here : Here) (Fit : Final → Site → I → Type 0) (make : Site → I → Instruction) (y : Running) → HasGrown old new → q ≡ p ++ on_line here.line y ∷ [] → ((f : Final) (t : Site) (x : I) → IsAround f new → IsLocated f new here t → Fit f t x → IsCarriedOut (code_of f.program) f.constants (place t (make t x)) y × HasPrintModes f.prints t.cells (make t x)) → HasGenerated old new p q here Fit (λ t x. place t (make t x) ∷ []) HasNoMore
+emits_one old new p q here Fit make y grows is runs =
+    emits grows (λ f t x around located fits.
+    let c = runs f t x around located fits in
+    adds_one f p q here.line (place t (make t x)) y is located.line (record { carries = c.0; deep = located.deep; shown = c.1 }))
 
 -- a piece that was made apart goes after another one, or before
 pub adds_piece : (f : Final) (a b p : Lined) (c : List Placed) → b ≡ a ++ p → HasAdded f no_code p c → HasAdded f a b c

@@ -16,22 +16,15 @@ use Rattle.ss_code_pieces.specs.declared.facts.Ordering.TheVariants as orderings
 module _ (code : Code) (constants : List Value) (x : Placed) where
   pub calculates : (op : Operator) (left right to : Address) → IsCalculating code constants x op left right to → IsCarriedOut code constants x (calculating op left right to)
   calculates operators.Add left right to h = h
-  calculates operators.Subtract left right to h = h
-  calculates operators.Multiply left right to h = h
-  calculates operators.Quotient left right to h = h
-  calculates operators.Remainder left right to h = h
-  calculates operators.Least left right to h = h
-  calculates operators.Greatest left right to h = h
+  calculates _ left right to h = h
 
   pub asks_set : (q : SetQuery) (set : ℕ) (owner to : Address) → HasBearer code constants x owner (λ o. HasTarget code constants x to (λ t. Is code constants x (i.OfSet q set o t))) → IsCarriedOut code constants x (asking_set q set owner to)
   asks_set set_queries.FirstMember set owner to h = h
-  asks_set set_queries.LastMember set owner to h = h
-  asks_set set_queries.MemberCount set owner to h = h
+  asks_set _ set owner to h = h
 
   pub asks_member : (q : MemberQuery) (set : ℕ) (member to : Address) → HasOperand code constants x member (λ y. HasTarget code constants x to (λ t. Is code constants x (i.OfMember q set y t))) → IsCarriedOut code constants x (asking_member q set member to)
   asks_member member_queries.Predecessor set member to h = h
-  asks_member member_queries.Successor set member to h = h
-  asks_member member_queries.Membership set member to h = h
+  asks_member _ set member to h = h
 
   pub moves : (m : Mode) (from to : Address) → IsMovingValue code constants x m from to → IsCarriedOut code constants x (moving m from to)
   moves modes.Integer from to h = h
@@ -52,16 +45,11 @@ module _ (code : Code) (constants : List Value) (x : Placed) where
   pub compares : (m : Mode) (relation : Relation) (left right : Address) (skip : ℕ) → IsComparing code constants x m relation left right skip → IsCarriedOut code constants x (comparing m relation left right skip)
   compares modes.Alpha relation left right skip h = h
   compares modes.Integer relations.Equal left right skip h = h
-  compares modes.Integer relations.NotEqual left right skip h = h
-  compares modes.Integer relations.Less left right skip h = h
-  compares modes.Integer relations.Greater left right skip h = h
-  compares modes.Integer relations.LessOrEqual left right skip h = h
-  compares modes.Integer relations.GreaterOrEqual left right skip h = h
+  compares modes.Integer _ left right skip h = h
 
   pub files : (o : Ordering) (set : ℕ) (member owner : Address) (noted : Bool) → IsNotedIfWatched code constants x noted (OfCount set) → IsFilingMember code constants x (filing_of o) set member owner → IsCarriedOut code constants x (filing_instruction o set member owner noted)
   files orderings.First set member owner noted n h = (n, h)
-  files orderings.Last set member owner noted n h = (n, h)
-  files orderings.Ranked set member owner noted n h = (n, h)
+  files _ set member owner noted n h = (n, h)
 
   pub removes : (e : End) (set : ℕ) (owner to : Address) (noted : Bool) → IsNotedIfWatched code constants x noted (OfCount set) → HasBearer code constants x owner (λ o. HasTarget code constants x to (λ t. Is code constants x (i.RemoveEnd e set o t))) → IsCarriedOut code constants x (removing e set owner to noted)
   removes ends.First set owner to noted n h = (n, h)

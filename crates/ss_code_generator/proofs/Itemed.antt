@@ -9,7 +9,7 @@ use Rattle.ss_code_instructions.specs.declared.instruction.Instruction.TheVarian
 use Rattle.ss_code_instructions.specs.Instructions as i
 use Rattle.ss_code_generator.specs.declared.generator.Site.{Site as Here}
 use Rattle.ss_code_generator.specs.Items.{value_kind, running_kind, item_width, IsTypedItem}
-use Rattle.ss_code_generator.proofs.Emitting.{around_old, grows_same, grows_then, stands_old, stands_above, adds_none, adds_then, adds_one, adds_same}
+use Rattle.ss_code_generator.proofs.Emitting.{around_old, grows_same, grows_then, stands_old, stands_above, adds_none, adds_then, adds_one, adds_same, emits}
 use Rattle.ss_code_generator.proofs.Modes.{mode_by}
 use Rattle.ss_code_generator.proofs.Operands.{cell_at_site}
 use Rattle.ss_code_generator.proofs.Listed.{every_split}
@@ -18,20 +18,17 @@ use Rattle.ss_code_generator.proofs.Spotted.{program_at}
 -- ## Items
 
 pub mean_of_looked : (old mid new : Generator) (p q v : Lined) (here : Here) (k : ℕ) (e : Expression) (cell : Address) → HasEmitted old mid p q here (IsTyped e) (λ t. expression_code t (next t) e) → HasGrown mid new → IsInFrame (length new.locals.items + here.height) cell → here.height < new.deepest → v ≡ q ++ on_line here.line (r.LookMean k cell) ∷ [] → HasEmitted old new p v here (IsTypedItem (AMeanOf k e)) (λ t. item_code t (AMeanOf k e))
-mean_of_looked old mid new p q v here k e cell m g at room is = record {
-  grows = grows_then old mid new m.grows g;
-  adds = λ f t u around located good.
-      let mine = around_old f mid new g around in
-      let there = stands_old f mid new here t g located in
-      let typed : IsTyped e t.scope = (modes.Integer, good) in
-      let w : Site = above t modes.Integer in
-      let high : height w ≡ height t + 1 = omega arith in
-      let deep : height w ≤ f.depth = omega (arith, high, located.high, room, around.depth) in
-      adds_then f p q v (expression_code t (next t) e) (place w (i.LookMean k (Some (Stays (height t)))) ∷ []) (m.adds f t tt mine there typed)
-      (adds_one f q v here.line (place w (i.LookMean k (Some (Stays (height t))))) (r.LookMean k cell) is located.line
-      (record { carries = (Some (Stays (height t)), cell_at_site f new here t cell located at, refl); deep = deep; shown = tt }));
-  more = λ f t u around located good. tt;
-}
+mean_of_looked old mid new p q v here k e cell m g at room is =
+    emits (grows_then old mid new m.grows g) (λ f t u around located good.
+    let mine = around_old f mid new g around in
+    let there = stands_old f mid new here t g located in
+    let typed : IsTyped e t.scope = (modes.Integer, good) in
+    let w : Site = above t modes.Integer in
+    let high : height w ≡ height t + 1 = omega arith in
+    let deep : height w ≤ f.depth = omega (arith, high, located.high, room, around.depth) in
+    adds_then f p q v (expression_code t (next t) e) (place w (i.LookMean k (Some (Stays (height t)))) ∷ []) (m.adds f t tt mine there typed)
+    (adds_one f q v here.line (place w (i.LookMean k (Some (Stays (height t))))) (r.LookMean k cell) is located.line
+    (record { carries = (Some (Stays (height t)), cell_at_site f new here t cell located at, refl); deep = deep; shown = tt })))
 
 -- ## Several items
 
@@ -98,8 +95,7 @@ items_more old mid new p q v here one two xs x n m k wide room line up = record 
 -- what items are goes by the program and the local variables
 kind_by : (s : TypedScope) (p : Program) (locals : List Mode) (x : PrintItem) → s.program ≡ p → s.locals ≡ locals → running_kind s x ≡ running_kind (record { program = p; locals = locals; is_main = false }) x
 kind_by s p locals (AValue e) q l = ap value_kind (mode_by s p locals e q l)
-kind_by s p locals (AMean k) q l = refl
-kind_by s p locals (AMeanOf k e) q l = refl
+kind_by s p locals _ q l = refl
 
 kinds_by : (s : TypedScope) (p : Program) (locals : List Mode) (xs : List PrintItem) → s.program ≡ p → s.locals ≡ locals → map (running_kind s) xs ≡ map (running_kind (record { program = p; locals = locals; is_main = false })) xs
 kinds_by s p locals [] q l = refl
@@ -124,8 +120,7 @@ value_said modes.Alpha = refl
 
 kind_said : (s : TypedScope) (x : PrintItem) → kind_of_item (running_kind s x) ≡ item_kind x
 kind_said s (AValue e) = value_said (expression_mode s e)
-kind_said s (AMean k) = refl
-kind_said s (AMeanOf k e) = refl
+kind_said s _ = refl
 
 kinds_said : (s : TypedScope) (xs : List PrintItem) → map kind_of_item (map (running_kind s) xs) ≡ map item_kind xs
 kinds_said s [] = refl
@@ -142,25 +137,21 @@ printed old mid new p q v here old_prints new_prints xs pictures made n cell g m
     let said : lines_of_running made ≡ lines_said xs pictures =
     ap (λ (l : RunningLines). lines_of_running l) is_made ∙ ap (λ (ks : List i.ItemKind). record { pictures = pictures; items = ks }) (kinds_said s xs) in
     record {
-      code = record {
-        grows = grows_then old mid new g m.grows;
-        adds = λ f t u around located fits.
-            let grown = grows_then old mid new g m.grows in
-            let before = around_old f old new grown around in
-            let there_old = stands_old f old new here t grown located in
-            let on = m.more f t tt around located fits.1 in
-            let w : Site = after_items t xs in
-            let ins : Instruction = i.Print (length old_prints) (height t) in
-            let there : cell ≡ length t.scope.locals + height t = is_cell ∙ sym (ap (λ (ms : List Mode). length ms + height t) located.locals ∙ ap (λ j. length new.locals.items + j) located.high) in
-            let found : f.prints ≡ old_prints ++ (made ∷ fits.0.0) = fits.0.1 ∙ ap (λ (l : List RunningLines). l ++ fits.0.0) prints ∙ append_assoc old_prints (made ∷ []) fits.0.0 in
-            let at : slice_get f.prints (length old_prints) ≡ Some made = ap (λ (l : List RunningLines). slice_get l (length old_prints)) found ∙ at_front old_prints made fits.0.0 in
-            let kinds : map (running_kind t.scope) xs ≡ made.items = kinds_by t.scope s.program s.locals xs (program_at f old here t before there_old) there_old.locals ∙ sym (ap (λ (l : RunningLines). l.items) is_made) in
-            let cells : w.cells ≡ onto (item_modes made.items) t.cells = cells_onto t.scope xs t.cells ∙ ap (λ (ks : List ItemKind). onto (item_modes ks) t.cells) kinds in
-            adds_then f p q v (items_code t xs) (place w ins ∷ []) (m.adds f t tt around located fits.1)
-            (adds_one f q v here.line (place w ins) (r.Print n cell) is located.line
-            (record { carries = (height t, there, ap (λ (j : ℕ). i.Print j (height t)) (sym is_n)); deep = on; shown = (made, at, (t.cells, cells)) }));
-        more = λ f t u around located fits. tt;
-      };
+      code = emits (grows_then old mid new g m.grows) (λ f t u around located fits.
+          let grown = grows_then old mid new g m.grows in
+          let before = around_old f old new grown around in
+          let there_old = stands_old f old new here t grown located in
+          let on = m.more f t tt around located fits.1 in
+          let w : Site = after_items t xs in
+          let ins : Instruction = i.Print (length old_prints) (height t) in
+          let there : cell ≡ length t.scope.locals + height t = is_cell ∙ sym (ap (λ (ms : List Mode). length ms + height t) located.locals ∙ ap (λ j. length new.locals.items + j) located.high) in
+          let found : f.prints ≡ old_prints ++ (made ∷ fits.0.0) = fits.0.1 ∙ ap (λ (l : List RunningLines). l ++ fits.0.0) prints ∙ append_assoc old_prints (made ∷ []) fits.0.0 in
+          let at : slice_get f.prints (length old_prints) ≡ Some made = ap (λ (l : List RunningLines). slice_get l (length old_prints)) found ∙ at_front old_prints made fits.0.0 in
+          let kinds : map (running_kind t.scope) xs ≡ made.items = kinds_by t.scope s.program s.locals xs (program_at f old here t before there_old) there_old.locals ∙ sym (ap (λ (l : RunningLines). l.items) is_made) in
+          let cells : w.cells ≡ onto (item_modes made.items) t.cells = cells_onto t.scope xs t.cells ∙ ap (λ (ks : List ItemKind). onto (item_modes ks) t.cells) kinds in
+          adds_then f p q v (items_code t xs) (place w ins ∷ []) (m.adds f t tt around located fits.1)
+          (adds_one f q v here.line (place w ins) (r.Print n cell) is located.line
+          (record { carries = (height t, there, ap (λ (j : ℕ). i.Print j (height t)) (sym is_n)); deep = on; shown = (made, at, (t.cells, cells)) })));
       prints = (made ∷ [], prints, ap (λ (l : i.Lines). l ∷ []) said);
     }
 

@@ -17,5 +17,4 @@ pub mod Spotted
 pub mod Letting
 pub mod Noticing
 pub mod Itemed
-pub mod Removing
 pub mod PrintLines

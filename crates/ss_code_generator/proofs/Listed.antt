@@ -1,11 +1,11 @@
 -- Code of a list of things, with one of them more.
-use Rattle.std.proofs.Common.{◌≡◌, ℕ, ◌+◌, ◌<◌, List, [], ◌∷◌, ◌++◌, length, map, take, drop, get_or, refl, ap, sym, ◌∙◌, arith, append_assoc, append-nil}
-use Rattle.ss_code_generator.proofs.Common.{after_bearer, bearer, bearer_code, CountedClass, creates_code, drop_more, Generator, HasEmitted, InputTarget, Lined, map-append, on_line, place, reads_code, Restart, restarts_code, Site, take_more, to_place_code, TypedScope}
+use Rattle.std.proofs.Common.{◌≡◌, ℕ, ◌+◌, ◌-◌, ◌<◌, ◌≤◌, List, [], ◌∷◌, ◌++◌, length, drop, get_or, refl, ap, sym, ◌∙◌, arith, append_assoc, append-nil}
+use Rattle.ss_code_generator.proofs.Common.{after_bearer, bearer, bearer_code, CountedClass, creates_code, drop_more, Generator, HasEmitted, InputTarget, Lined, on_line, place, reads_code, Restart, restarts_code, Site, to_place_code, TypedScope}
 use Rattle.std.specs.List.{AllByRecursion as Every}
 use Rattle.ss_code_instructions.specs.Instructions.{Placed, Read, CreateAll, Reset}
 use Rattle.ss_code_instructions.specs.declared.instruction.Instruction.TheVariants.{CreateAll as CreatesAll}
 use Rattle.ss_code_generator.specs.declared.generator.Site.{Site as Here}
-use Rattle.ss_code_generator.proofs.Emitting.{around_old, grows_then, stands_old, adds_then, adds_one, adds_same}
+use Rattle.ss_code_generator.proofs.Emitting.{around_old, grows_then, stands_old, adds_then, adds_one, adds_same, emits}
 
 -- what is so of all things, with one of them more
 pub every_split : {A : Type 0} (P : A → Type 0) (xs : List A) (x : A) → Every P (xs ++ x ∷ []) → Every P xs × P x
@@ -15,14 +15,11 @@ every_split P (y ∷ xs) x h = let k = every_split P xs x h.1 in ((h.0, k.0), k.
 -- code of things that all find the same cells: each thing's own, one after the other
 module _ {A : Type 0} (P : A → TypedScope → Type 0) (own : Site → A → List Placed) (all : Site → List A → List Placed) (joined : (t : Site) (xs : List A) (x : A) → all t (xs ++ x ∷ []) ≡ all t xs ++ own t x) where
   pub listed_more : (old mid new : Generator) (p q r : Lined) (here : Here) (xs : List A) (x : A) → HasEmitted old mid p q here (λ s. Every (λ y. P y s) xs) (λ t. all t xs) → HasEmitted mid new q r here (P x) (λ t. own t x) → HasEmitted old new p r here (λ s. Every (λ y. P y s) (xs ++ x ∷ [])) (λ t. all t (xs ++ x ∷ []))
-  listed_more old mid new p q r here xs x m n = record {
-    grows = grows_then old mid new m.grows n.grows;
-    adds = λ f t u around located good.
-        let both = every_split (λ (y : A). P y t.scope) xs x good in
-        adds_same f p r (all t xs ++ own t x) (all t (xs ++ x ∷ [])) (sym (joined t xs x))
-        (adds_then f p q r (all t xs) (own t x) (m.adds f t tt (around_old f mid new n.grows around) (stands_old f mid new here t n.grows located) both.0) (n.adds f t tt around located both.1));
-    more = λ f t u around located good. tt;
-  }
+  listed_more old mid new p q r here xs x m n =
+      emits (grows_then old mid new m.grows n.grows) (λ f t u around located good.
+      let both = every_split (λ (y : A). P y t.scope) xs x good in
+      adds_same f p r (all t xs ++ own t x) (all t (xs ++ x ∷ [])) (sym (joined t xs x))
+      (adds_then f p q r (all t xs) (own t x) (m.adds f t tt (around_old f mid new n.grows around) (stands_old f mid new here t n.grows located) both.0) (n.adds f t tt around located both.1)))
 
 -- such lists: the code of the first, and that of the rest
 module _ {A : Type 0} (one : A → List Placed) (all : List A → List Placed) (none : all [] ≡ []) (first : (x : A) (xs : List A) → all (x ∷ xs) ≡ one x ++ all xs) where
@@ -44,26 +41,17 @@ restarts_more t xs x =
 
 -- an instruction for each class
 pub creates_step : (g : Generator) (p q v : Lined) (here : Here) (xs : List CountedClass) (x : CountedClass) → HasEmitted g g p q here (λ s. Unit {0}) (λ t. creates_code t xs) → v ≡ q ++ on_line here.line (CreatesAll x.class x.variable) ∷ [] → HasEmitted g g p v here (λ s. Unit {0}) (λ t. creates_code t (xs ++ x ∷ []))
-creates_step g p q v here xs x m is = record {
-  grows = m.grows;
-  adds = λ f t u around located good.
-      adds_same f p v (creates_code t xs ++ place t (CreateAll x) ∷ []) (creates_code t (xs ++ x ∷ [])) (sym (creates_more t xs x))
-      (adds_then f p q v (creates_code t xs) (place t (CreateAll x) ∷ []) (m.adds f t tt around located tt)
-      (adds_one f q v here.line (place t (CreateAll x)) (CreatesAll x.class x.variable) is located.line (record { carries = refl; deep = located.deep; shown = tt })));
-  more = λ f t u around located good. tt;
-}
+creates_step g p q v here xs x m is =
+    emits m.grows (λ f t u around located good.
+    adds_same f p v (creates_code t xs ++ place t (CreateAll x) ∷ []) (creates_code t (xs ++ x ∷ [])) (sym (creates_more t xs x))
+    (adds_then f p q v (creates_code t xs) (place t (CreateAll x) ∷ []) (m.adds f t tt around located tt)
+    (adds_one f q v here.line (place t (CreateAll x)) (CreatesAll x.class x.variable) is located.line (record { carries = refl; deep = located.deep; shown = tt }))))
 
 -- ## The next item of a loop
 
-pub next_taken : {A : Type 0} (xs : List A) (i : ℕ) (x : A) → i < length xs → x ≡ get_or xs i x → take (i + 1) xs ≡ take i xs ++ x ∷ []
-next_taken {A} xs i x lt is = take_more xs i x lt ∙ ap (λ (y : A). take i xs ++ y ∷ []) (sym is)
-
-pub next_mapped : {A B : Type 0} (f : A → B) (xs : List A) (i : ℕ) (x : A) → i < length xs → x ≡ get_or xs i x → map f (take (i + 1) xs) ≡ map f (take i xs) ++ f x ∷ []
-next_mapped f xs i x lt is = ap (map f) (next_taken xs i x lt is) ∙ map-append f (take i xs) (x ∷ [])
-
-pub next_dropped : {A : Type 0} (xs : List A) (i : ℕ) (x : A) → i < length xs → x ≡ get_or xs i x → drop i xs ≡ x ∷ drop (i + 1) xs
-next_dropped {A} xs i x lt is = drop_more xs i x lt ∙ ap (λ (y : A). y ∷ drop (i + 1) xs) (sym is)
-
-pub none_there_is : {A : Type 0} (xs : List A) → length xs ≡ 0 → xs ≡ []
-none_there_is [] h = refl
-none_there_is (x ∷ xs) h = absurd (omega (arith, h))
+-- the item before a place, of a loop that goes back
+pub next_before : {A : Type 0} (xs : List A) (i : ℕ) (x : A) → 0 < i → i ≤ length xs → x ≡ get_or xs (i - 1) x → drop (i - 1) xs ≡ x ∷ drop i xs
+next_before {A} xs i x some within is =
+    let low : i - 1 < length xs = omega arith in
+    let up : i - 1 + 1 ≡ i = omega arith in
+    drop_more xs (i - 1) x low ∙ ap (λ (y : A). y ∷ drop (i - 1 + 1) xs) (sym is) ∙ ap (λ (k : ℕ). x ∷ drop k xs) up

@@ -2,14 +2,12 @@
 use Rattle.std.proofs.Common.{◌≡◌, ℕ, ◌<◌, Bool, true, false, List, [], ◌∷◌, length, Option, Some, None, refl, sym, ap, ◌∙◌, arith, if◌then◌else◌}
 use Rattle.std.proofs.lemmas.Bool.{eqb-true, eq-eqb, ne_eqb}
 use Rattle.std.specs.Prelude.{slice_get, ◌==◌}
-use Rattle.std.specs.List.{fold}
 use Rattle.std.specs.Option.{option_map, option_and_then}
 use Rattle.ss_code_generator.proofs.Common.{above, after, code_of, expression_mode, field_mode, Final, Generator, Global, HasGrown, HasMode, height, Held, Instruction, IsAround, IsLocated, Local, Mode, mode_at, Operand, operand, or_integer, place, Placed, scope_for_modes, Site, Stays, Taken, TypedScope, Value, Variable, view_program}
 use Rattle.ss_code_instructions.specs.Carried.{mode_here, HasFieldMode}
-use Rattle.ss_program.specs.Program.{Expression, Program, Constant, Fetch, Attribute, OfSystemSet, OfSet, OfMember, Clock, TimeOf, Figure, FigureOf, Signed, Unary, Calculate}
+use Rattle.ss_program.specs.Program.{Expression, Program, Constant, Fetch, Attribute}
 use Rattle.ss_base.specs.declared.layout.ClassLayout.{ClassLayout}
 use Rattle.ss_world.specs.State.{modes_in}
-use Rattle.ss_code_instructions.specs.Instructions as i
 use Rattle.ss_code_instructions.specs.States.{cell_at}
 use Rattle.ss_code_instructions.proofs.Shaping.{mode_so}
 use Rattle.ss_code_generator.specs.declared.generator.Site.{Site as Here}
@@ -74,46 +72,19 @@ module _ (f : Final) where
   pub operand_mode : (t : Site) (e : Expression) (m : Mode) (make : Instruction) → t.scope.program ≡ f.program → HasMode t.scope e m → mode_here (code_of f.program) f.constants (place (after t e) make) (operand t e) ≡ Some m
   operand_mode t (Constant v) m make p h = ap Some h
   operand_mode t (Fetch x) m make p h = held_mode t x m make p h
-  operand_mode t (Attribute class field e) m make p h = on_top (height t) _ t.cells refl ∙ ap Some (mode_so t.scope (Attribute class field e) m h)
-  operand_mode t (OfSystemSet query set) m make p h = on_top (height t) _ t.cells refl ∙ ap Some (mode_so t.scope (OfSystemSet query set) m h)
-  operand_mode t (OfSet query set e) m make p h = on_top (height t) _ t.cells refl ∙ ap Some (mode_so t.scope (OfSet query set e) m h)
-  operand_mode t (OfMember query set e) m make p h = on_top (height t) _ t.cells refl ∙ ap Some (mode_so t.scope (OfMember query set e) m h)
-  operand_mode t Clock m make p h = on_top (height t) _ t.cells refl ∙ ap Some (mode_so t.scope Clock m h)
-  operand_mode t (TimeOf e) m make p h = on_top (height t) _ t.cells refl ∙ ap Some (mode_so t.scope (TimeOf e) m h)
-  operand_mode t (Figure fold k) m make p h = on_top (height t) _ t.cells refl ∙ ap Some (mode_so t.scope (Figure fold k) m h)
-  operand_mode t (FigureOf fold k e) m make p h = on_top (height t) _ t.cells refl ∙ ap Some (mode_so t.scope (FigureOf fold k e) m h)
-  operand_mode t (Signed sign e) m make p h = on_top (height t) _ t.cells refl ∙ ap Some (mode_so t.scope (Signed sign e) m h)
-  operand_mode t (Unary op e) m make p h = on_top (height t) _ t.cells refl ∙ ap Some (mode_so t.scope (Unary op e) m h)
-  operand_mode t (Calculate op a b) m make p h = on_top (height t) _ t.cells refl ∙ ap Some (mode_so t.scope (Calculate op a b) m h)
+  operand_mode t e m make p h = on_top (height t) _ t.cells refl ∙ ap Some (mode_so t.scope e m h)
 
   -- it has that mode under a further cell too
   pub mode_under : (u : Site) (y : Operand) (m n : Mode) (make other : Instruction) → mode_here (code_of f.program) f.constants (place u make) y ≡ Some m → mode_here (code_of f.program) f.constants (place (above u n) other) y ≡ Some m
-  mode_under u (i.Constant v) m n make other h = h
-  mode_under u (Held (Global k)) m n make other h = h
-  mode_under u (Held (Local k)) m n make other h = h
   mode_under u (Taken k) m n make other h = cell_under k m n u.cells h
   mode_under u (Stays k) m n make other h = cell_under k m n u.cells h
+  mode_under u (Held (Global k)) m n make other h = h
+  mode_under u _ m n make other h = h
 
   -- and after a further operand
   pub mode_after : (u : Site) (e : Expression) (y : Operand) (m : Mode) (make other : Instruction) → mode_here (code_of f.program) f.constants (place u make) y ≡ Some m → mode_here (code_of f.program) f.constants (place (after u e) other) y ≡ Some m
-  mode_after u (Constant v) (i.Constant w) m make other h = h
   mode_after u (Constant v) (Held (Global k)) m make other h = h
-  mode_after u (Constant v) (Held (Local k)) m make other h = h
-  mode_after u (Constant v) (Taken k) m make other h = h
-  mode_after u (Constant v) (Stays k) m make other h = h
-  mode_after u (Fetch x) (i.Constant w) m make other h = h
+  mode_after u (Constant v) _ m make other h = h
   mode_after u (Fetch x) (Held (Global k)) m make other h = h
-  mode_after u (Fetch x) (Held (Local k)) m make other h = h
-  mode_after u (Fetch x) (Taken k) m make other h = h
-  mode_after u (Fetch x) (Stays k) m make other h = h
-  mode_after u (Attribute class field e) y m make other h = mode_under u y m _ make other h
-  mode_after u (OfSystemSet query set) y m make other h = mode_under u y m _ make other h
-  mode_after u (OfSet query set e) y m make other h = mode_under u y m _ make other h
-  mode_after u (OfMember query set e) y m make other h = mode_under u y m _ make other h
-  mode_after u Clock y m make other h = mode_under u y m _ make other h
-  mode_after u (TimeOf e) y m make other h = mode_under u y m _ make other h
-  mode_after u (Figure fold k) y m make other h = mode_under u y m _ make other h
-  mode_after u (FigureOf fold k e) y m make other h = mode_under u y m _ make other h
-  mode_after u (Signed sign e) y m make other h = mode_under u y m _ make other h
-  mode_after u (Unary op e) y m make other h = mode_under u y m _ make other h
-  mode_after u (Calculate op a b) y m make other h = mode_under u y m _ make other h
+  mode_after u (Fetch x) _ m make other h = h
+  mode_after u e y m make other h = mode_under u y m _ make other h

@@ -1,12 +1,12 @@
 -- Operands, and instructions that read them.
 use Rattle.std.proofs.Common.{◌≡◌, suc, ◌+◌, ◌<◌, ◌^◌, List, [], ◌∷◌, ◌++◌, length, Option, Some, None, Result, Ok, Err, refl, sym, ap, ◌∙◌, subst, arith}
 use Rattle.std.specs.Prelude.{IfOk}
-use Rattle.ss_code_generator.proofs.Common.{Address, Constant, Expression, Final, Generator, HasBorne, HasEmittedTo, HasGrown, HasReadBy, HasReadOperand, Held, Instruction, IsAround, IsInFrame, IsLocated, IsRead, IsRunBy, IsSiteOperand, IsSiteTarget, IsTyped, Lined, Mode, on_line, Operand, Stays, Taken, TypedScope}
+use Rattle.ss_code_generator.proofs.Common.{Address, code_of, Expression, Final, Generator, HasBorne, HasEmittedTo, HasGenerated, HasGrown, HasPrintModes, HasReadBy, HasReadOperand, Instruction, IsAround, IsCarriedOut, IsInFrame, IsLocated, IsRead, IsSiteOperand, IsSiteTarget, IsTyped, Lined, Mode, on_line, Operand, Placed, Stays, Taken, TypedScope}
 use Rattle.ss_code_instructions.specs.Translation.{after, expression_code, expression_mode, height, next, operand, operand_code, place, Site, stay, with_operand, leaf, or_cell, or_in_cell, unless_leaf}
 use Rattle.ss_code_instructions.specs.declared.instruction.Instruction.{Instruction as Running}
 use Rattle.ss_code_generator.specs.declared.expressions.Operand.{Operand as Read}
 use Rattle.ss_code_generator.specs.declared.generator.Site.{Site as Here}
-use Rattle.ss_code_generator.proofs.Emitting.{around_old, stands_old, stands_above, adds_then, adds_one, adds_same}
+use Rattle.ss_code_generator.proofs.Emitting.{around_old, grows_then, stands_old, stands_above, adds_then, adds_one, adds_same}
 
 -- ## Addresses
 
@@ -19,17 +19,14 @@ cell_at_site f g here t a s h =
 
 -- an operand has the same address at all sites of a section
 pub operand_at : (f : Final) (t u : Site) (y : Operand) (a : Address) → u.scope ≡ t.scope → IsSiteOperand f t y a → IsSiteOperand f u y a
-operand_at f t u (Constant v) a e h = h
-operand_at f t u (Held x) a e h = h
 operand_at f t u (Taken k) a e h = (h.0, h.1 ∙ sym (ap (λ s. length s.locals + k) e))
 operand_at f t u (Stays k) a e h = (h.0, h.1 ∙ sym (ap (λ s. length s.locals + k) e))
+operand_at f t u _ a e h = h
 
 -- an operand that stays lies where it was
 pub stays_at : (f : Final) (t : Site) (y : Operand) (a : Address) → IsSiteOperand f t y a → IsSiteOperand f t (stay y) a
-stays_at f t (Constant v) a h = h
-stays_at f t (Held x) a h = h
 stays_at f t (Taken k) a h = h
-stays_at f t (Stays k) a h = h
+stays_at f t _ a h = h
 
 -- ## Operands
 
@@ -63,21 +60,22 @@ cell_reads_at old mid new p q here e a none grows cell room m = record {
 pub read_stands : (f : Final) (g : Generator) (here higher : Here) (t : Site) (e : Expression) (o : Read) → IsAround f g → IsLocated f g here t → IsRead f t e o → higher.line ≡ here.line → (here.height + o.cells < 2 ^ 64 → higher.height ≡ here.height + o.cells) → IsLocated f g higher (after t e)
 read_stands f g here higher t e o around located r line above = stands_above f g here higher t (after t e) o.cells around.small located line above refl refl r.high r.deep
 
--- ## Looks, and owners
-
--- an operand that is looked at
-pub looked_reads : (old new : Generator) (p q r : Lined) (here : Here) (e : Expression) (o : Read) (Good : TypedScope → Type 0) (make : Operand → Instruction) (y : Running) → HasReadOperand old new p q here e o → r ≡ q ++ on_line here.line y ∷ [] → ((f : Final) (t : Site) → IsAround f new → IsLocated f new here t → Good t.scope → IsRead f t e o → IsTyped e t.scope × IsRunBy f (place (after t e) (make (operand t e))) y) → ((s : TypedScope) → Good s → IsTyped e s) → HasReadBy old new p r here Good e o (λ t. with_operand t e make)
-looked_reads old new p q r here e o Good make y m is h typed = record {
-  grows = m.grows;
-  adds = λ f t u around located good.
-      let read = m.more f t tt around located (typed t.scope good) in
-      let w = h f t around located good read in
-      adds_then f p q r (operand_code t e) (place (after t e) (make (operand t e)) ∷ []) (m.adds f t tt around located w.0)
-      (adds_one f q r here.line (place (after t e) (make (operand t e))) y is located.line w.1);
-  more = λ f t u around located good. m.more f t tt around located (typed t.scope good);
+-- the operand, and an instruction that reads it and carries out what fits there
+pub one_read : {I : Type 0} (old mid new : Generator) (p q s : Lined) (here : Here) (e : Expression) (o : Read) (Fit More : Final → Site → I → Type 0) (make : Site → I → Operand → Instruction) (y : Running) → HasGrown old mid → HasReadOperand mid new p q here e o → s ≡ q ++ on_line here.line y ∷ [] → ((f : Final) (t : Site) (x : I) → Fit f t x → IsTyped e t.scope) → ((f : Final) (t : Site) (x : I) → IsAround f new → IsLocated f new here t → Fit f t x → IsRead f t e o → IsCarriedOut (code_of f.program) f.constants (place (after t e) (make t x (operand t e))) y × HasPrintModes f.prints (after t e).cells (make t x (operand t e))) → ((f : Final) (t : Site) (x : I) → IsRead f t e o → More f t x) → HasGenerated old new p s here Fit (λ t x. with_operand t e (make t x)) More
+one_read old mid new p q s here e o Fit More make y grows m is typed runs also = record {
+  grows = grows_then old mid new grows m.grows;
+  adds = λ f t x around located fits.
+      let read = m.more f t tt around located (typed f t x fits) in
+      let c = runs f t x around located fits read in
+      let ins : Placed = place (after t e) (make t x (operand t e)) in
+      adds_then f p q s (operand_code t e) (ins ∷ []) (m.adds f t tt around located (typed f t x fits))
+      (adds_one f q s here.line ins y is located.line (record { carries = c.0; deep = read.deep; shown = c.1 }));
+  more = λ f t x around located fits. also f t x (m.more f t tt around located (typed f t x fits));
 }
 
--- an operand that is not
+-- ## Looks, and owners
+
+-- an operand that is not looked at
 pub unlooked_reads : (old new : Generator) (p q : Lined) (here : Here) (e : Expression) (o : Read) (Good : TypedScope → Type 0) → ((s : TypedScope) → Good s → IsTyped e s) → HasReadOperand old new p q here e o → HasReadBy old new p q here Good e o (λ t. operand_code t e)
 unlooked_reads old new p q here e o Good typed m = record {
   grows = m.grows;
@@ -85,16 +83,13 @@ unlooked_reads old new p q here e o Good typed m = record {
   more = λ f t u around located good. m.more f t u around located (typed t.scope good);
 }
 
-pub entity_bears : (old new : Generator) (p q : Lined) (here : Here) (e : Expression) (o : Read) → HasReadOperand old new p q here e o → HasBorne old new p q here (Some e) o
-entity_bears old new p q here e o m = record {
+-- an operand that a call gives is one of an owner
+pub entity_ok : {E : Type 0} (r : Result Read E) (old new : Generator) (p q : Lined) (here : Here) (e : Expression) → IfOk r (λ o. HasReadOperand old new p q here e o) → IfOk r (λ o. HasBorne old new p q here (Some e) o)
+entity_ok (Ok o) old new p q here e m = record {
   grows = m.grows;
   adds = λ f t u around located good. m.adds f t u around located (_, good);
   more = λ f t u around located good.
       let r = m.more f t u around located (_, good) in
       record { at = r.at; high = r.high; deep = r.deep };
 }
-
--- an operand that a call gives is one of an owner
-pub entity_ok : {E : Type 0} (r : Result Read E) (old new : Generator) (p q : Lined) (here : Here) (e : Expression) → IfOk r (λ o. HasReadOperand old new p q here e o) → IfOk r (λ o. HasBorne old new p q here (Some e) o)
-entity_ok (Ok o) old new p q here e h = entity_bears old new p q here e o h
-entity_ok (Err x) old new p q here e h = tt
+entity_ok (Err x) old new p q here e m = tt

@@ -7,11 +7,11 @@ use Rattle.ss_code_instructions.specs.declared.instruction.Instruction.TheVarian
 use Rattle.ss_code_instructions.specs.Instructions as i
 use Rattle.ss_code_generator.specs.declared.generator.Site.{Site as Here}
 use Rattle.ss_code_generator.specs.declared.targets.Spot.TheVariants as spots
-use Rattle.ss_code_generator.proofs.Emitting.{grows_same, stands_above, adds_none, adds_then, adds_one, adds_same}
+use Rattle.ss_code_generator.proofs.Emitting.{grows_same, stands_above, adds_none, adds_then, adds_one, adds_same, emits}
 use Rattle.ss_code_generator.proofs.Operands.{operand_at, stays_at}
 use Rattle.ss_code_generator.proofs.Modes.{on_top}
 use Rattle.ss_code_generator.proofs.Watching.{text_unwatched, kept_integer}
-use Rattle.ss_code_generator.proofs.Assigned.{assignment_kept, kept_at, move_runs, store_runs, lands_kept}
+use Rattle.ss_code_generator.proofs.Assigned.{assignment_by, kept_at, move_runs, store_runs, lands_kept}
 
 -- ## What is found
 
@@ -61,12 +61,13 @@ attribute_looked old new p q v here class field e s false m is = record {
 
 -- ## Places that are found
 
-pub count_spotted : (g : Generator) (p : Lined) (here : Here) (c : CountedClass) (s : Spot) → ((f : Final) (here : Here) (t : Site) → IsAround f g → IsLocated f g here t → IsSpot f t (ToCount c) s) → HasGenerated g g p p here (λ f t (u : Unit {0}). IsTypedPlace (ToCount c) t.scope) (λ t u. []) (λ f t u. IsSpot f t (ToCount c) s)
-count_spotted g p here c s h = record {
+pub count_spotted_ok : {E : Type 0} (g : Generator) (p : Lined) (here : Here) (c : CountedClass) (found : Result Spot E) → IfOk found (λ s. (f : Final) (here : Here) (t : Site) → IsAround f g → IsLocated f g here t → IsSpot f t (ToCount c) s) → IfOk found (λ s. HasGenerated g g p p here (λ f t (u : Unit {0}). IsTypedPlace (ToCount c) t.scope) (λ t u. []) (λ f t u. IsSpot f t (ToCount c) s))
+count_spotted_ok g p here c (Ok s) h = record {
   grows = grows_same g;
   adds = λ f t u around located good. adds_none f p;
   more = λ f t u around located good. h f here t around located;
 }
+count_spotted_ok g p here c (Err e) h = tt
 
 pub attribute_spotted : (old new : Generator) (p q : Lined) (here : Here) (c : Site → List Placed) (class field : ℕ) (e : Expression) (s : AttributeSpot) → MakesAttribute old new p q here c class field e s → HasGenerated old new p q here (λ f t (u : Unit {0}). IsTypedPlace (ToAttribute class field e) t.scope) (λ t u. c t) (λ f t u. IsSpot f t (ToAttribute class field e) (spots.Attribute s))
 attribute_spotted old new p q here c class field e s m = record {
@@ -78,27 +79,16 @@ attribute_spotted old new p q here c class field e s m = record {
 -- ## What an operand is given to
 
 module _ (g : Generator) (p q : Lined) (here : Here) (from : Address) where
-  pub gives_for : (IsIt Other : Final → Site → Place → Type 0) → ((f : Final) (t : Site) (x : Place) → Other f t x → IsIt f t x) → HasAssigned g p q here from IsIt → HasAssigned g p q here from Other
-  gives_for IsIt Other so m = record {
-    grows = m.grows;
-    adds = λ f u x around located fits. m.adds f u x around located (so f x.resolved x.place fits.0, fits.1, fits.2, fits.3, fits.4);
-    more = λ f u x around located fits. tt;
-  }
-
-  -- and another one
+  -- a variable that no statistic watches
   moved_at_place : (s : VariableSpot) → s.watched ≡ None → q ≡ p ++ on_line here.line (moving s.mode from s.address) ∷ [] → (f : Final) (t u : Site) (y : Operand) (x : Place) (m : Mode) → IsPlaceOf t x s → t.scope ≡ u.scope → IsSiteOperand f u y from → HasHeldMode u.scope x m → mode_here (code_of f.program) f.constants (place u Leave) y ≡ Some m → IsLocated f g here u → HasAdded f p q (assigned_code t u x y)
   moved_at_place s watched is f t u y (ToVariable x) m v same at holds mode located =
       let same_mode : m ≡ s.mode = sym (v.mode ∙ ap (λ (k : TypedScope). or_integer (mode_at k x)) same ∙ ap or_integer holds) in
       adds_one f p q here.line (place u (assignment u x y)) (moving s.mode from s.address) is located.line (move_runs f t u x y s from v watched same at (mode ∙ ap Some same_mode) located.deep)
-  moved_at_place s watched is f t u y (ToAttribute class field e) m v same at holds mode located = absurd v
-  moved_at_place s watched is f t u y (ToCount c) m v same at holds mode located = absurd v
+  moved_at_place s watched is f t u y _ m v same at holds mode located = absurd v
 
   pub moved_given : (s : VariableSpot) → s.watched ≡ None → q ≡ p ++ on_line here.line (moving s.mode from s.address) ∷ [] → HasAssigned g p q here from (λ f t x. IsPlaceOf t x s)
-  moved_given s watched is = record {
-    grows = grows_same g;
-    adds = λ f u x around located fits. moved_at_place s watched is f x.resolved u x.from x.place x.mode fits.0 fits.1 fits.2 fits.3 fits.4 located;
-    more = λ f u x around located fits. tt;
-  }
+  moved_given s watched is =
+      emits (grows_same g) (λ f u x around located fits. moved_at_place s watched is f x.resolved u x.from x.place x.mode fits.0 fits.1 fits.2 fits.3 fits.4 located)
 
 -- what goes to an attribute that was found
 pub stored : (f : Final) (p q : Lined) (l : Line) (from : Address) (s : AttributeSpot) → q ≡ p ++ on_line l (storing s.mode s.class s.field s.entity from s.is_watched) ∷ [] → (g : Generator) → IsAround f g → (t u : Site) (class field : ℕ) (e : Expression) (z y : Operand) (m : Mode) → IsAttribute f t class field e s → t.scope ≡ u.scope → IsSiteOperand f u z s.entity → IsSiteOperand f u y from → field_mode u.scope.program class field ≡ Some m → u.line ≡ l → u.scope.program ≡ f.program → height u ≤ f.depth → HasAdded f p q (place u (i.SetAttribute class field z y) ∷ [])
@@ -114,36 +104,28 @@ stored f p q l from s is g around t u class field e z y m v same entity at holds
 
 module _ (g : Generator) (p q : Lined) (here : Here) (from : Address) where
   stored_at_place : (s : AttributeSpot) → q ≡ p ++ on_line here.line (storing s.mode s.class s.field s.entity from s.is_watched) ∷ [] → (f : Final) (t u : Site) (y : Operand) (x : Place) (m : Mode) → IsSpot f t x (spots.Attribute s) → t.scope ≡ u.scope → IsSiteOperand f u y from → HasHeldMode u.scope x m → IsAround f g → IsLocated f g here u → HasAdded f p q (assigned_code t u x y)
-  stored_at_place s is f t u y (ToVariable x) m v same at holds around located = absurd v
   stored_at_place s is f t u y (ToAttribute class field e) m v same at holds around located =
       stored f p q here.line from s is g around t u class field e (operand t e) y m v same (operand_at f t u (operand t e) s.entity (sym same) v.entity.at) at holds located.line located.program located.deep
-  stored_at_place s is f t u y (ToCount c) m v same at holds around located = absurd v
+  stored_at_place s is f t u y _ m v same at holds around located = absurd v
 
   pub attribute_given : (s : AttributeSpot) → q ≡ p ++ on_line here.line (storing s.mode s.class s.field s.entity from s.is_watched) ∷ [] → HasAssigned g p q here from (λ f t x. IsSpot f t x (spots.Attribute s))
-  attribute_given s is = record {
-    grows = grows_same g;
-    adds = λ f u x around located fits. stored_at_place s is f x.resolved u x.from x.place x.mode fits.0 fits.1 fits.2 fits.3 around located;
-    more = λ f u x around located fits. tt;
-  }
+  attribute_given s is =
+      emits (grows_same g) (λ f u x around located fits. stored_at_place s is f x.resolved u x.from x.place x.mode fits.0 fits.1 fits.2 fits.3 around located)
 
 -- N. of a class: it is looked whether there are entities yet
 module _ (g : Generator) (p q v : Lined) (here : Here) (from : Address) (class : ℕ) (s : VariableSpot) (is : q ≡ p ++ on_line here.line (r.LookCount class) ∷ []) (m : HasAssigned g q v here from (λ f t x. IsPlaceOf t x s)) where
   counted_at_place : (f : Final) (t u : Site) (y : Operand) (x : Place) (k : Mode) → IsSpot f t x (spots.Count class s) → t.scope ≡ u.scope → IsSiteOperand f u y from → HasHeldMode u.scope x k → mode_here (code_of f.program) f.constants (place u Leave) y ≡ Some k → IsAround f g → IsLocated f g here u → HasAdded f p v (assigned_code t u x y)
-  counted_at_place f t u y (ToVariable x) k h same at holds mode around located = absurd h
-  counted_at_place f t u y (ToAttribute c field e) k h same at holds mode around located = absurd h
   counted_at_place f t u y (ToCount c) k h same at holds mode around located =
       let it : Assignment = record { resolved = t; place = ToVariable (Global c.variable); from = y; mode = k } in
       let look : Instruction = i.LookCount c.class in
       adds_then f p q v (place u look ∷ []) (place u (assignment u (Global c.variable) y) ∷ [])
       (adds_one f p q here.line (place u look) (r.LookCount class) is located.line (record { carries = ap i.LookCount (sym h.0); deep = located.deep; shown = tt }))
       (m.adds f u it around located (h.1, same, at, holds, mode))
+  counted_at_place f t u y _ k h same at holds mode around located = absurd h
 
   pub count_given : HasAssigned g p v here from (λ f t x. IsSpot f t x (spots.Count class s))
-  count_given = record {
-    grows = grows_same g;
-    adds = λ f u x around located fits. counted_at_place f x.resolved u x.from x.place x.mode fits.0 fits.1 fits.2 fits.3 fits.4 around located;
-    more = λ f u x around located fits. tt;
-  }
+  count_given =
+      emits (grows_same g) (λ f u x around located fits. counted_at_place f x.resolved u x.from x.place x.mode fits.0 fits.1 fits.2 fits.3 fits.4 around located)
 
 -- ## What a value is given to that lies where it comes at first
 
@@ -154,16 +136,12 @@ ComesToCell (spots.Attribute s) = Unit {0}
 ComesToCell (spots.Count class s) = Unit {0}
 
 module _ (g : Generator) (p q : Lined) (here higher : Here) (from : Address) (s : Spot) (line : higher.line ≡ here.line) (up : here.height + 1 < 2 ^ 64 → higher.height ≡ here.height + 1) (m : HasAssigned g p q higher from (λ f t x. IsSpot f t x s)) where
-  -- one cell higher
-  stands_higher : (f : Final) (u : Site) (k : Mode) → IsAround f g → IsLocated f g here u → height u < f.depth → IsLocated f g higher (above u k)
-  stands_higher f u k around located low =
-      let high : height (above u k) ≡ height u + 1 = omega arith in
-      stands_above f g here higher u (above u k) 1 around.small located line up refl refl high (omega (arith, high, low))
-
   given_higher : (f : Final) (t u : Site) (x : Place) (k : Mode) → IsSpot f t x s → t.scope ≡ u.scope → IsSiteTarget f u (next u) from → height u < f.depth → HasHeldMode u.scope x k → IsAround f g → IsLocated f g here u → HasAdded f p q (assigned_code t (above u k) x (Taken (height u)))
   given_higher f t u x k v same at low holds around located =
+      let high : height (above u k) ≡ height u + 1 = omega arith in
+      let on = stands_above f g here higher u (above u k) 1 around.small located line up refl refl high (omega (arith, high, low)) in
       let it : Assignment = record { resolved = t; place = x; from = Taken (height u); mode = k } in
-      m.adds f (above u k) it around (stands_higher f u k around located low) (v, same, at, holds, on_top (height u) k u.cells refl)
+      m.adds f (above u k) it around on (v, same, at, holds, on_top (height u) k u.cells refl)
 
 taken_at_place : (g : Generator) (p q : Lined) (here higher : Here) (from : Address) (s : Spot) → higher.line ≡ here.line → (here.height + 1 < 2 ^ 64 → higher.height ≡ here.height + 1) → HasAssigned g p q higher from (λ f t x. IsSpot f t x s) → ComesToCell s → (f : Final) (t u : Site) (x : Place) (k : Mode) → IsSpot f t x s → t.scope ≡ u.scope → IsSiteTarget f u (landing u x) from → HasTargetRoom f (landing u x) → HasHeldMode u.scope x k → IsAround f g → IsLocated f g here u → HasAdded f p q (landed_code t u x k)
 taken_at_place g p q here higher from (spots.Variable s) line up m cell f t u (ToVariable x) k v same at room holds around located =
@@ -176,26 +154,14 @@ taken_at_place g p q here higher from (spots.Variable s) line up m cell f t u (T
     let h = given_higher g p q here higher from (spots.Variable s) line up m f t u (ToVariable x) Integer v same there low integer around located in
     let z : Site = above u Integer in
     let code : place z (assignment z x (Taken (height u))) ∷ [] ≡ landed_code t u (ToVariable x) k =
-    ap (λ (a : Instruction). place z a ∷ []) (assignment_kept z x (Taken (height u)) kept) ∙ sym (ap (λ (b : Bool). if b then place z (i.Keep (Taken (height u)) x) ∷ [] else []) kept) in
+    ap (λ (a : Instruction). place z a ∷ []) (assignment_by z x (Taken (height u)) true kept) ∙ sym (ap (λ (b : Bool). if b then place z (i.Keep (Taken (height u)) x) ∷ [] else []) kept) in
     adds_same f p q (place z (assignment z x (Taken (height u))) ∷ []) (landed_code t u (ToVariable x) k) code h
-taken_at_place g p q here higher from (spots.Variable s) line up m cell f t u (ToAttribute class field e) k v same at room holds around located = absurd v
-taken_at_place g p q here higher from (spots.Variable s) line up m cell f t u (ToCount c) k v same at room holds around located = absurd v
-taken_at_place g p q here higher from (spots.Attribute s) line up m cell f t u (ToVariable x) k v same at room holds around located = absurd v
 taken_at_place g p q here higher from (spots.Attribute s) line up m cell f t u (ToAttribute class field e) k v same at room holds around located =
     given_higher g p q here higher from (spots.Attribute s) line up m f t u (ToAttribute class field e) k v same at room holds around located
-taken_at_place g p q here higher from (spots.Attribute s) line up m cell f t u (ToCount c) k v same at room holds around located = absurd v
-taken_at_place g p q here higher from (spots.Count class s) line up m cell f t u (ToVariable x) k v same at room holds around located = absurd v
-taken_at_place g p q here higher from (spots.Count class s) line up m cell f t u (ToAttribute c field e) k v same at room holds around located = absurd v
 taken_at_place g p q here higher from (spots.Count class s) line up m cell f t u (ToCount c) k v same at room holds around located =
     given_higher g p q here higher from (spots.Count class s) line up m f t u (ToCount c) k v same at room holds around located
+taken_at_place g p q here higher from _ line up m cell f t u _ k v same at room holds around located = absurd v
 
 pub taken : (g : Generator) (p q : Lined) (here higher : Here) (from : Address) (s : Spot) → higher.line ≡ here.line → (here.height + 1 < 2 ^ 64 → higher.height ≡ here.height + 1) → HasAssigned g p q higher from (λ f t x. IsSpot f t x s) → ComesToCell s → HasAssignedLanded g p q here from (λ f t x. IsSpot f t x s)
-taken g p q here higher from s line up m cell = record {
-  grows = grows_same g;
-  adds = λ f u x around located fits. taken_at_place g p q here higher from s line up m cell f x.resolved u x.place x.mode fits.0 fits.1 fits.2 fits.3 fits.4 around located;
-  more = λ f u x around located fits. tt;
-}
-
-pub count_spotted_ok : {E : Type 0} (g : Generator) (p : Lined) (here : Here) (c : CountedClass) (found : Result Spot E) → IfOk found (λ s. (f : Final) (here : Here) (t : Site) → IsAround f g → IsLocated f g here t → IsSpot f t (ToCount c) s) → IfOk found (λ s. HasGenerated g g p p here (λ f t (u : Unit {0}). IsTypedPlace (ToCount c) t.scope) (λ t u. []) (λ f t u. IsSpot f t (ToCount c) s))
-count_spotted_ok g p here c (Ok s) h = count_spotted g p here c s h
-count_spotted_ok g p here c (Err e) h = tt
+taken g p q here higher from s line up m cell =
+    emits (grows_same g) (λ f u x around located fits. taken_at_place g p q here higher from s line up m cell f x.resolved u x.place x.mode fits.0 fits.1 fits.2 fits.3 fits.4 around located)

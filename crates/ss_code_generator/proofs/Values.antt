@@ -1,6 +1,6 @@
 -- What the generator emits for each form of an expression.
-use Rattle.std.proofs.Common.{◌≡◌, ℕ, ◌+◌, ◌<◌, ◌≤◌, ◌^◌, List, [], ◌∷◌, ◌++◌, length, get_or, take, Some, None, refl, sym, ap, ◌∙◌, arith}
-use Rattle.ss_code_generator.proofs.Common.{Address, after, asking_member, asking_set, calculating, code_of, Constant, expression_code, fetching, field_mode, Final, Generator, Global, HasEmittedTo, HasGrown, HasMode, HasPrintModes, HasReadOperand, height, Held, Instruction, Integer, IsAround, IsInteger, IsLocated, IsRunBy, IsSiteOperand, IsSiteTarget, IsTyped, Lined, Local, MemberQuery, Mode, mode_at, moving, on_line, Operand, operand, operand_code, operator_of, or_integer, place, Placed, pos, SetQuery, Sign, Site, slice_get, take_all, take_more, Target, TypedScope, Value, Variable, view_expression, view_program, Whole, with_operand}
+use Rattle.std.proofs.Common.{◌≡◌, ℕ, ◌+◌, ◌<◌, ◌^◌, List, [], ◌∷◌, ◌++◌, length, get_or, take, Some, None, refl, sym, ap, ◌∙◌, arith}
+use Rattle.ss_code_generator.proofs.Common.{Address, after, asking_member, asking_set, calculating, code_of, Constant, fetching, field_mode, Final, Generator, Global, HasEmittedTo, HasGrown, HasMode, HasNoMore, HasPrintModes, HasReadOperand, height, Held, Instruction, Integer, IsAround, IsInteger, IsLocated, IsSiteOperand, IsSiteTarget, IsTyped, Lined, Local, MemberQuery, Mode, mode_at, moving, on_line, Operand, operand, operand_code, operator_of, or_integer, place, Placed, pos, SetQuery, Sign, Site, slice_get, take_all, take_more, Target, TypedScope, Value, Variable, view_expression, view_program, Whole, with_operand}
 use Rattle.std.proofs.lemmas.List.Sums.{fold-append}
 use Rattle.ss_code_generator.specs.Calculations.{with_operations, HasEmittedExpression, operation_code, LeftOperand, HasOperated}
 use Rattle.ss_code_instructions.specs.Carried.{IsCarriedOut, IsInFrame, IsVariableAt}
@@ -16,59 +16,35 @@ use Rattle.ss_code_instructions.specs.Instructions as i
 use Rattle.ss_code_generator.specs.declared.expressions.Operand.{Operand as Read}
 use Rattle.ss_code_generator.specs.declared.generator.Site.{Site as Here}
 use Rattle.ss_code_pieces.specs.Preamble.{mode_in}
-use Rattle.ss_code_generator.proofs.Emitting.{around_old, grows_then, stands_old, adds_then, adds_one, adds_same, makes_later}
+use Rattle.ss_code_generator.proofs.Emitting.{around_old, grows_same, grows_then, stands_old, adds_then, adds_one, makes_later, emits_one, emits}
 use Rattle.ss_code_generator.proofs.Forms as forms
 use Rattle.ss_code_generator.proofs.Modes.{held_mode, has_field}
-use Rattle.ss_code_generator.proofs.Operands.{cell_reads_at, read_stands}
+use Rattle.ss_code_generator.proofs.Operands.{cell_reads_at, read_stands, one_read}
 
 -- ## Forms without an operand
 
--- an instruction that is no PRINT runs where what it carries out is known
-calm : (f : Final) (t : Site) (ins : Instruction) (y : Running) → IsCarriedOut (code_of f.program) f.constants (place t ins) y → height t ≤ f.depth → HasPrintModes f.prints t.cells ins → IsRunBy f (place t ins) y
-calm f t ins y c deep s = record { carries = c; deep = deep; shown = s }
-
 module _ (old new : Generator) (p : Lined) (here : Here) (to : Address) where
   pub constant_emitted : (q : Lined) (v : Value) (from : Address) → HasGrown old new → ((f : Final) (t : Site) → IsAround f new → IsSiteOperand f t (Constant v) from) → q ≡ p ++ on_line here.line (moving (mode_of v) from to) ∷ [] → HasEmittedExpression old new p q here to (AConstant v)
-  constant_emitted q v from grows at is = record {
-    grows = grows;
-    adds = λ f t x around located fits.
-        adds_one f p q here.line (place t (i.Move (Constant v) x)) (moving (mode_of v) from to) is located.line
-        (calm f t (i.Move (Constant v) x) (moving (mode_of v) from to)
-        (forms.moves (code_of f.program) f.constants (place t (i.Move (Constant v) x)) (mode_of v) from to (Constant v, at f t around, (refl, (x, fits.0, refl)))) located.deep tt);
-    more = λ f t x around located fits. tt;
-  }
+  constant_emitted q v from grows at is =
+      emits_one old new p q here (λ f t (x : Target). IsSiteTarget f t x to × IsTyped (AConstant v) t.scope) (λ t x. i.Move (Constant v) x) (moving (mode_of v) from to) grows is (λ f t x around located fits.
+      (forms.moves (code_of f.program) f.constants (place t (i.Move (Constant v) x)) (mode_of v) from to (Constant v, at f t around, (refl, (x, fits.0, refl))), tt))
 
   pub fetch_emitted : (q : Lined) (x : Variable) (m : Mode) (from : Address) → HasGrown old new → IsVariableAt x from → ((f : Final) (t : Site) → IsAround f new → IsLocated f new here t → or_integer (mode_at t.scope x) ≡ m) → q ≡ p ++ on_line here.line (moving m from to) ∷ [] → HasEmittedExpression old new p q here to (Fetch x)
-  fetch_emitted q x m from grows at mode is = record {
-    grows = grows;
-    adds = λ f t y around located fits.
-        let n : Mode = fits.1.0 in
-        let same : n ≡ m = sym (ap or_integer fits.1.1) ∙ mode f t around located in
-        let held = held_mode f t x n (i.Move (Held x) y) located.program fits.1.1 ∙ ap Some same in
-        adds_one f p q here.line (place t (i.Move (Held x) y)) (moving m from to) is located.line
-        (calm f t (i.Move (Held x) y) (moving m from to)
-        (forms.moves (code_of f.program) f.constants (place t (i.Move (Held x) y)) m from to (Held x, at, (held, (y, fits.0, refl)))) located.deep tt);
-    more = λ f t y around located fits. tt;
-  }
+  fetch_emitted q x m from grows at mode is =
+      emits_one old new p q here (λ f t (y : Target). IsSiteTarget f t y to × IsTyped (Fetch x) t.scope) (λ t y. i.Move (Held x) y) (moving m from to) grows is (λ f t y around located fits.
+      let n : Mode = fits.1.0 in
+      let same : n ≡ m = sym (ap or_integer fits.1.1) ∙ mode f t around located in
+      let held = held_mode f t x n (i.Move (Held x) y) located.program fits.1.1 ∙ ap Some same in
+      (forms.moves (code_of f.program) f.constants (place t (i.Move (Held x) y)) m from to (Held x, at, (held, (y, fits.0, refl))), tt))
 
   pub system_set_emitted : (q : Lined) (query : SetQuery) (set : ℕ) (zero : Address) → HasGrown old new → ((f : Final) (t : Site) → IsAround f new → IsSiteOperand f t (Constant (Whole (pos 0))) zero) → q ≡ p ++ on_line here.line (asking_set query set zero to) ∷ [] → HasEmittedExpression old new p q here to (OfSystemSet query set)
-  system_set_emitted q query set zero grows at is = record {
-    grows = grows;
-    adds = λ f t x around located fits.
-        adds_one f p q here.line (place t (i.OfSet query set None x)) (asking_set query set zero to) is located.line
-        (calm f t (i.OfSet query set None x) (asking_set query set zero to)
-        (forms.asks_set (code_of f.program) f.constants (place t (i.OfSet query set None x)) query set zero to (None, at f t around, (x, fits.0, refl))) located.deep tt);
-    more = λ f t x around located fits. tt;
-  }
+  system_set_emitted q query set zero grows at is =
+      emits_one old new p q here (λ f t (x : Target). IsSiteTarget f t x to × IsTyped (OfSystemSet query set) t.scope) (λ t x. i.OfSet query set None x) (asking_set query set zero to) grows is (λ f t x around located fits.
+      (forms.asks_set (code_of f.program) f.constants (place t (i.OfSet query set None x)) query set zero to (None, at f t around, (x, fits.0, refl)), tt))
 
   pub figure_emitted : (q : Lined) (fold' : Fold) (k : ℕ) (zero : Address) → HasGrown old new → ((f : Final) (t : Site) → IsAround f new → IsSiteOperand f t (Constant (Whole (pos 0))) zero) → q ≡ p ++ on_line here.line (r.Figure k zero to fold') ∷ [] → HasEmittedExpression old new p q here to (Figure fold' k)
-  figure_emitted q fold' k zero grows at is = record {
-    grows = grows;
-    adds = λ f t x around located fits.
-        adds_one f p q here.line (place t (i.Figure fold' k None x)) (r.Figure k zero to fold') is located.line
-        (calm f t (i.Figure fold' k None x) (r.Figure k zero to fold') (None, at f t around, (x, fits.0, refl)) located.deep tt);
-    more = λ f t x around located fits. tt;
-  }
+  figure_emitted q fold' k zero grows at is =
+      emits_one old new p q here (λ f t (x : Target). IsSiteTarget f t x to × IsTyped (Figure fold' k) t.scope) (λ t x. i.Figure fold' k None x) (r.Figure k zero to fold') grows is (λ f t x around located fits. ((None, at f t around, (x, fits.0, refl)), tt))
 
   -- ## Forms with one operand
 
@@ -79,18 +55,9 @@ module _ (old new : Generator) (p : Lined) (here : Here) (to : Address) where
       IsCarriedOut (code_of f.program) f.constants (place (after t e) (make x (operand t e))) y × HasPrintModes f.prints (after t e).cells (make x (operand t e))
 
   pub one_emitted : (q s : Lined) (e : Expression) (o : Read) (g : Generator) (Good : TypedScope → Type 0) (make : Target → Operand → Instruction) (y : Running) → HasGrown g new → HasReadOperand old g p q here e o → ((k : TypedScope) → Good k → HasMode k e Integer) → s ≡ q ++ on_line here.line y ∷ [] → Suits e o new Good make y → HasEmittedTo old new p s here to Good (λ t x. with_operand t e (make x))
-  one_emitted q s e o g Good make y grows m number is suits = record {
-    grows = grows_then old g new m.grows grows;
-    adds = λ f t x around located fits.
-        let mine = around_old f g new grows around in
-        let there = stands_old f g new here t grows located in
-        let typed : IsTyped e t.scope = (Integer, number t.scope fits.1) in
-        let read = m.more f t tt mine there typed in
-        let c = suits f t x around located fits.0 fits.1 read.at in
-        adds_then f p q s (operand_code t e) (place (after t e) (make x (operand t e)) ∷ []) (m.adds f t tt mine there typed)
-        (adds_one f q s here.line (place (after t e) (make x (operand t e))) y is located.line (record { carries = c.0; deep = read.deep; shown = c.1 }));
-    more = λ f t x around located fits. tt;
-  }
+  one_emitted q s e o g Good make y grows m number is suits =
+      one_read old old new p q s here e o (λ f t (x : Target). IsSiteTarget f t x to × Good t.scope) HasNoMore (λ t x. make x) y (grows_same old) (makes_later old g new p q here _ _ _ grows m) is
+      (λ f t x fits. (Integer, number t.scope fits.1)) (λ f t x around located fits read. suits f t x around located fits.0 fits.1 read.at) (λ f t x read. tt)
 
   module _ (q s : Lined) (e : Expression) (o : Read) (g : Generator) (grows : HasGrown g new) (m : HasReadOperand old g p q here e o) where
     pub attribute_emitted : (class field : ℕ) (n : Mode) → ((f : Final) (t : Site) → IsAround f new → IsLocated f new here t → or_integer (field_mode t.scope.program class field) ≡ n) → s ≡ q ++ on_line here.line (fetching n class field o.address to) ∷ [] → HasEmittedExpression old new p s here to (Attribute class field e)
@@ -135,45 +102,30 @@ module _ (old new : Generator) (p : Lined) (here : Here) (to : Address) where
 
 -- an operation on a number that is there
 pub operation_emitted : (old new : Generator) (p q s : Lined) (here higher : Here) (left right : Read) (to : Address) (op : Operation) → higher.line ≡ here.line → (here.height + left.cells < 2 ^ 64 → higher.height ≡ here.height + left.cells) → HasReadOperand old new p q higher (view_expression op.operand) right → s ≡ q ++ on_line here.line (calculating op.operator left.address right.address to) ∷ [] → HasOperated old new p s here left to op
-operation_emitted old new p q s here higher left right to op line above m is = record {
-  grows = m.grows;
-  adds = λ f t x around located fits.
-      let b : Expression = view_expression op.operand in
-      let u : Site = after t x.left in
-      let there = read_stands f new here higher t x.left left around located fits.0 line above in
-      let typed : IsTyped b u.scope = (Integer, fits.2) in
-      let read = m.more f u tt around there typed in
-      let ins : Instruction = i.Calculate op.operator (operand t x.left) (operand u b) x.to in
-      let from : IsSiteOperand f (after u b) (operand t x.left) left.address = fits.0.at in
-      let c = forms.calculates (code_of f.program) f.constants (place (after u b) ins) op.operator left.address right.address to (operand t x.left, from, (operand u b, read.at, (x.to, fits.1, refl))) in
-      adds_then f p q s (operand_code u b) (place (after u b) ins ∷ []) (m.adds f u tt around there typed)
-      (adds_one f q s here.line (place (after u b) ins) (calculating op.operator left.address right.address to) is located.line (record { carries = c; deep = read.deep; shown = tt }));
-  more = λ f t x around located fits. tt;
-}
-
--- a number and an operation after it are an expression
-pub calculated_code : (t : Site) (e : Expression) (o : Operation) (to : Target) → operand_code t e ++ operation_code t e o to ≡ expression_code t to (with_operation e o)
-calculated_code t e o to = refl
-
--- what is typed as a whole has typed parts: the number before the last operation, and what comes after it
-pub parts_typed : (s : TypedScope) (e : Expression) (o : Operation) → IsTyped (with_operation e o) s → IsInteger e s × IsInteger (view_expression o.operand) s
-parts_typed s e o h = (h.1.1, h.1.2)
+operation_emitted old new p q s here higher left right to op line above m is =
+    emits m.grows (λ f t x around located fits.
+    let b : Expression = view_expression op.operand in
+    let u : Site = after t x.left in
+    let there = read_stands f new here higher t x.left left around located fits.0 line above in
+    let typed : IsTyped b u.scope = (Integer, fits.2) in
+    let read = m.more f u tt around there typed in
+    let ins : Instruction = i.Calculate op.operator (operand t x.left) (operand u b) x.to in
+    let from : IsSiteOperand f (after u b) (operand t x.left) left.address = fits.0.at in
+    let c = forms.calculates (code_of f.program) f.constants (place (after u b) ins) op.operator left.address right.address to (operand t x.left, from, (operand u b, read.at, (x.to, fits.1, refl))) in
+    adds_then f p q s (operand_code u b) (place (after u b) ins ∷ []) (m.adds f u tt around there typed)
+    (adds_one f q s here.line (place (after u b) ins) (calculating op.operator left.address right.address to) is located.line (record { carries = c; deep = read.deep; shown = tt })))
 
 -- one operation more, whose result goes to a target
 pub more_emitted : (old mid new : Generator) (p q s : Lined) (here : Here) (e : Expression) (o : Operation) (left : Read) (to : Address) → HasReadOperand old mid p q here e left → HasOperated mid new q s here left to o → HasEmittedExpression old new p s here to (with_operation e o)
-more_emitted old mid new p q s here e o left to m n = record {
-  grows = grows_then old mid new m.grows n.grows;
-  adds = λ f t x around located fits.
-      let mine = around_old f mid new n.grows around in
-      let there = stands_old f mid new here t n.grows located in
-      let parts = parts_typed t.scope e o fits.1 in
-      let typed : IsTyped e t.scope = (Integer, parts.0) in
-      let both : LeftOperand = record { left = e; to = x } in
-      adds_same f p s (operand_code t e ++ operation_code t e o x) (expression_code t x (with_operation e o)) (calculated_code t e o x)
-      (adds_then f p q s (operand_code t e) (operation_code t e o x) (m.adds f t tt mine there typed)
-      (n.adds f t both around located (m.more f t tt mine there typed, fits.0, parts.1)));
-  more = λ f t x around located fits. tt;
-}
+more_emitted old mid new p q s here e o left to m n =
+    emits (grows_then old mid new m.grows n.grows) (λ f t x around located fits.
+    let mine = around_old f mid new n.grows around in
+    let there = stands_old f mid new here t n.grows located in
+    let parts : IsInteger e t.scope × IsInteger (view_expression o.operand) t.scope = (fits.1.1.1, fits.1.1.2) in
+    let typed : IsTyped e t.scope = (Integer, parts.0) in
+    let both : LeftOperand = record { left = e; to = x } in
+    adds_then f p q s (operand_code t e) (operation_code t e o x) (m.adds f t tt mine there typed)
+    (n.adds f t both around located (m.more f t tt mine there typed, fits.0, parts.1)))
 
 -- one operation more, whose result goes into the next cell
 pub next_reads : (old mid cell new : Generator) (p q s : Lined) (here : Here) (e : Expression) (o : Operation) (left : Read) (a : Address) → HasReadOperand old mid p q here e left → HasGrown mid cell → IsInFrame (length cell.locals.items + here.height) a → here.height < cell.deepest → HasOperated cell new q s here left a o → HasReadOperand old new p s here (with_operation e o) (record { address = a; cells = 1 })

@@ -7,7 +7,7 @@ ghost use Rattle.ss_program.specs.View.{view_expression, view_condition, view_ph
 ghost use Rattle.ss_program.specs.WellTyped.{IsTypedCondition, IsTypedStatement, IsTypedBlock};
 ghost use Rattle.ss_code_instructions.specs.Instructions.{Call as Calls, Destroy as Destroys, Skip as Skips, Leave};
 ghost use Rattle.ss_code_instructions.specs.Translation.{with_operand, values_code, after_values, place, height as high_of, if_code, gives_code, block_code, block_prints};
-ghost use Rattle.ss_code_pieces.specs.Lined.{no_code, on_line};
+ghost use Rattle.ss_code_pieces.specs.Lined.{no_code};
 ghost use Rattle.ss_code_generator.specs.Emitted.{HasEmitted, HasEmittedAroundBoth};
 ghost use Rattle.ss_code_generator.specs.Spots.{IsTypedPlace};
 ghost use Rattle.ss_code_generator.specs.Printed.{statement_site, line_or_none, HasPrintedBy, HasEmittedStatement, HasEmittedBlock};
@@ -36,13 +36,6 @@ fn put_one_side(code: &mut Piece, test: Piece, then: &Piece) -> Result<(), Alloc
 }
 
 impl Generator<'_> {
-    // An instruction without operands.
-    fn put(&self, code: &mut Piece, site: Site, instruction: Instruction) -> Result<(), AllocError>
-        ensures { OnOk result (code.new ≡ code.old ++ on_line site.line instruction ∷ []) }
-    {
-        code.put(site.line, instruction)
-    }
-
     // IF: a jump past the second side comes before it, if it has code.
     fn branches(
         &mut self,
@@ -150,8 +143,8 @@ impl Generator<'_> {
                 yielding,
                 ..
             } => self.call(code, site, *routine, given, yielding),
-            Statement::Return => self.put(code, site, Instruction::Leave),
-            Statement::Stop => self.put(code, site, Instruction::Halt),
+            Statement::Return => code.put(site.line, Instruction::Leave),
+            Statement::Stop => code.put(site.line, Instruction::Halt),
             Statement::Read { targets, .. } => self.reads(code, site, targets),
             Statement::Simulate => self.simulate(code, site),
             Statement::If {

@@ -1,7 +1,7 @@
 -- The code of assignments to variables, and to N. of a permanent class.
 use Rattle.std.proofs.Common.{◌≡◌, ℕ, ◌+◌, Bool, true, false, List, [], ◌∷◌, ◌++◌, length, Some, Ok, Err, refl, subst, arith}
 use Rattle.std.specs.Prelude.{Result as OkOr, slice_get, if◌then◌else◌}
-use Rattle.ss_code_instructions.proofs.Common.{above, assignable_count, assigned_variable, assignment, class_at, Code, core_at, count_code, CountedClass, CreatedTwice, deliver, did, Fails, Failure, Frame, Global, height, InCount, Integer, Into, InVariable, is_kept, is_made, is_permanent, Left, Line, looked, MachineState, Moved, next, onward, Operand, Outcome, outcome_then, Part, place, Placed, RunState, settle, Site, Store, Target, turned, TypeError, unless_fault, Value, Variable, variable_code, WentOn, where_fit, with_operand_value, write, Written}
+use Rattle.ss_code_instructions.proofs.Common.{above, assignable_count, assigned_variable, assignment, class_at, Code, core_at, count_code, CountedClass, CreatedTwice, deliver, did, Fails, Failure, Frame, Global, height, InCount, Integer, Into, InVariable, is_kept, is_made, is_permanent, Left, Line, looked, MachineState, Mode, Moved, next, onward, Operand, Outcome, outcome_then, Part, place, Placed, RunState, settle, Site, Store, Target, turned, TypeError, unless_fault, Value, Variable, variable_code, WentOn, where_fit, with_operand_value, write, Written}
 use Rattle.ss_code_instructions.specs.Instructions as i
 use Rattle.ss_code_instructions.proofs.Steps.{HasAt, Reaches, here, at, arrive}
 use Rattle.ss_code_instructions.proofs.Parts.{Leads, onwards, breaks, whatever, step_leads, did_leads, at_the_height, Runs, same, done, put_on, went, seq, alike, change_runs}
@@ -64,6 +64,13 @@ module _ (code : Code) where
       after_look true false = refl
 
 module _ (code : Code) (n : ℕ) where
+  -- N. of a permanent class takes the value in the topmost cell
+  pub count_taken : (t : Site) (mode : Mode) (c : CountedClass) (v : Value) → Runs code n (height t) (put_on v) (count_code (above t mode) c (i.Taken (height t))) done (write t.line (InCount c) v)
+  count_taken t mode c v = record {
+    by = λ p cells frames w high has in_.
+        count_run code (above t mode) c (i.Taken (height t)) v p (v ∷ cells) cells frames w (λ go. at_the_height (height t) cells (go v cells) high) has;
+  }
+
   -- a variable takes the value that some code leaves at a target
   pub variable_runs : (t : Site) (x : Variable) (source : Target → List Placed) (m : Part Value) → ((to : Target) → Tops to (height t) → Runs code n (height t) same (source to) (on to) (λ w. outcome_then (m w) (put_then t.line to))) → Runs code n (height t) same (variable_code t x source) done (λ w. outcome_then (m w) (write t.line (InVariable x)))
   variable_runs t x source m runs = by (is_kept t x)

@@ -2,14 +2,14 @@
 use Rattle.std.proofs.Common.{◌≡◌, ℕ, ◌+◌, Bool, true, false, not, List, [], ◌∷◌, ◌++◌, length, Some, Ok, Err, ℤ, refl, sym, ap, ◌∙◌, subst, arith, length-append, ◌⊎◌, inl, inr}
 use Rattle.std.proofs.lemmas.Bool.{eqb-true, and_parts, false≢true}
 use Rattle.std.specs.Prelude.{Result as OkOr, slice_get, ◌==◌, ◌&&◌, if◌then◌else◌}
-use Rattle.ss_code_instructions.proofs.Common.{act, after, assigned_attribute, Attribute, attribute, Calculate, calculated, change, Clock, Code, Constant, Core, core_at, did, entity, entity_code, Expression, Fails, Failure, Faulted, FaultKind, Fetch, fetched, Figure, FigureOf, Frame, give_to, Global, height, Held, if_ok, InAttribute, is_due, leaf, let_code, lies_above, Line, Local, look, looked, looked_at, Mode, Moved, OfMember, OfSet, OfSystemSet, onward, Operand, operand, operand_code, or_zero, outcome_then, Part, place, Placed, RunState, settle, Signed, Site, stay, Stays, Store, sure, Taken, TimeOf, ToAttribute, turned, TypeError, Unary, Value, value, Variable, with_cells, with_operand, with_operand_value, with_values, write}
+use Rattle.ss_code_instructions.proofs.Common.{act, after, assigned_attribute, Attribute, attribute, Calculate, calculated, change, Code, Constant, Core, core_at, did, entity, entity_code, Expression, Fails, Failure, Faulted, FaultKind, Fetch, fetched, FigureOf, Frame, give_to, Global, height, Held, if_ok, InAttribute, is_due, leaf, let_code, lies_above, Line, Local, look, looked, looked_at, Mode, Moved, OfMember, OfSet, onward, Operand, operand, operand_code, or_zero, outcome_then, Part, place, Placed, RunState, settle, Signed, Site, Store, sure, TimeOf, ToAttribute, turned, TypeError, Unary, Value, value, Variable, with_cells, with_operand, with_operand_value, with_values, write}
 use Rattle.ss_code_instructions.specs.Facts.{must_look, is_leaf, is_constant, same_variable, is_fetch_of, looks_first}
 use Rattle.ss_code_instructions.specs.Instructions as i
-use Rattle.ss_code_instructions.proofs.Steps.{HasAt, has_front, has_back, Reaches, here, free, at, left_to, arrive}
-use Rattle.ss_code_instructions.proofs.Parts.{Within, onwards, breaks, step_leads, did_leads, Runs, same, done}
+use Rattle.ss_code_instructions.proofs.Steps.{HasAt, Reaches, here, free, at, left_to, arrive}
+use Rattle.ss_code_instructions.proofs.Parts.{Within, onwards, breaks, step_leads, did_leads, Runs, same, done, turned_then}
 use Rattle.ss_code_instructions.proofs.Operands.{held, held_height, sure_is, reads, reads_both, one_join}
 use Rattle.ss_code_instructions.proofs.Expressions.{evaluates}
-use Rattle.ss_code_instructions.proofs.Members.{stay_reads}
+use Rattle.ss_code_instructions.proofs.Members.{looked_join}
 
 -- ## A value whose evaluation begins with the look at the entity
 
@@ -21,36 +21,14 @@ variable_same (Local k) (Local j) q = ap Local (eqb-true k j q)
 
 fetch_value : (x : Variable) (e : Expression) (v : Value) (s : Store) → is_fetch_of x e ≡ true → fetched x s ≡ Some v → value e s ≡ Ok v
 fetch_value x (Fetch y) v s q f = ap sure (ap (λ z. fetched z s) (sym (variable_same x y q)) ∙ f)
-fetch_value x (Constant c) v s q f = absurd cc
-fetch_value x (Attribute class field e) v s q f = absurd cc
-fetch_value x (OfSystemSet query set) v s q f = absurd cc
-fetch_value x (OfSet query set e) v s q f = absurd cc
-fetch_value x (OfMember query set e) v s q f = absurd cc
-fetch_value x Clock v s q f = absurd cc
-fetch_value x (TimeOf e) v s q f = absurd cc
-fetch_value x (Figure fold j) v s q f = absurd cc
-fetch_value x (FigureOf fold j e) v s q f = absurd cc
-fetch_value x (Signed sign e) v s q f = absurd cc
-fetch_value x (Unary op e) v s q f = absurd cc
-fetch_value x (Calculate op a b) v s q f = absurd cc
+fetch_value x _ v s q f = absurd cc
 
 pub err_first : {A B : Type 0} (r : OkOr A Failure) (f : A → OkOr B Failure) (t : Failure) → r ≡ Err t → if_ok r f ≡ Err t
 err_first r f t e = ap (λ r. if_ok r f) e
 
 constant_value : (e : Expression) (s : Store) → is_constant e ≡ true → (c : Value) × (value e s ≡ Ok c)
 constant_value (Constant c) s q = (c, refl)
-constant_value (Fetch y) s q = absurd cc
-constant_value (Attribute class field e) s q = absurd cc
-constant_value (OfSystemSet query set) s q = absurd cc
-constant_value (OfSet query set e) s q = absurd cc
-constant_value (OfMember query set e) s q = absurd cc
-constant_value Clock s q = absurd cc
-constant_value (TimeOf e) s q = absurd cc
-constant_value (Figure fold j) s q = absurd cc
-constant_value (FigureOf fold j e) s q = absurd cc
-constant_value (Signed sign e) s q = absurd cc
-constant_value (Unary op e) s q = absurd cc
-constant_value (Calculate op a b) s q = absurd cc
+constant_value _ s q = absurd cc
 
 -- it fails as the look does
 pub first_look : (class : ℕ) (x : Variable) (e : Expression) (v : Value) (s : Store) (t : Failure) → looks_first class x e ≡ true → fetched x s ≡ Some v → entity class v s ≡ Err t → value e s ≡ Err t
@@ -77,55 +55,29 @@ first_look class x (Calculate op a b) v s t q f h = by (λ q. first_look class x
         let c = constant_value a s i in
         ap (λ r. if_ok r (λ x. if_ok (value b s) (λ y. calculated op x y))) c.1
         ∙ err_first (value b s) _ t (right q)
-first_look class x (Constant c) v s t q f h = absurd (false≢true q)
-first_look class x (Fetch y) v s t q f h = absurd (false≢true q)
-first_look class x (OfSystemSet query set) v s t q f h = absurd (false≢true q)
-first_look class x Clock v s t q f h = absurd (false≢true q)
-first_look class x (Figure fold j) v s t q f h = absurd (false≢true q)
+first_look class x _ v s t q f h = absurd (false≢true q)
 
-leaf_if : (e : Expression) → not (is_leaf e) ≡ false → is_leaf e ≡ true
-leaf_if e q = by (is_leaf e) q
-  where
-    by : (b : Bool) → not b ≡ false → b ≡ true
-    by true q = refl
-    by false q = absurd cc
+not_false : (b : Bool) → not b ≡ false → b ≡ true
+not_false true q = refl
+not_false false q = absurd cc
 
 -- where a reference is not looked at before, the value is a constant or a variable, or fails as the look does
 pub unlooked : (class : ℕ) (r e : Expression) (v : Value) (s : Store) (t : Failure) → must_look class r e ≡ false → value r s ≡ Ok v → entity class v s ≡ Err t → (value e s ≡ Err t) ⊎ (is_leaf e ≡ true)
 unlooked class (Fetch x) e v s t q p h = by (is_leaf e) refl q
   where
-    found : (b : Bool) → not b ≡ false → b ≡ true
-    found true q = refl
-    found false q = absurd cc
-
     by : (b : Bool) → is_leaf e ≡ b → (if b then false else not (looks_first class x e)) ≡ false → (value e s ≡ Err t) ⊎ (is_leaf e ≡ true)
     by true i q = inr i
-    by false i q = inl (first_look class x e v s t (found (looks_first class x e) q) (sure_is (fetched x s) v p) h)
-unlooked class (Constant c) e v s t q p h = inr (leaf_if e q)
-unlooked class (Attribute k field r) e v s t q p h = inr (leaf_if e q)
-unlooked class (OfSystemSet query set) e v s t q p h = inr (leaf_if e q)
-unlooked class (OfSet query set r) e v s t q p h = inr (leaf_if e q)
-unlooked class (OfMember query set r) e v s t q p h = inr (leaf_if e q)
-unlooked class Clock e v s t q p h = inr (leaf_if e q)
-unlooked class (TimeOf r) e v s t q p h = inr (leaf_if e q)
-unlooked class (Figure fold j) e v s t q p h = inr (leaf_if e q)
-unlooked class (FigureOf fold j r) e v s t q p h = inr (leaf_if e q)
-unlooked class (Signed sign r) e v s t q p h = inr (leaf_if e q)
-unlooked class (Unary op r) e v s t q p h = inr (leaf_if e q)
-unlooked class (Calculate op a b) e v s t q p h = inr (leaf_if e q)
+    by false i q = inl (first_look class x e v s t (not_false (looks_first class x e) q) (sure_is (fetched x s) v p) h)
+unlooked class _ e v s t q p h = inr (not_false (is_leaf e) q)
 
 -- a constant or a variable lies below no cell
 pub low_constant : (x : Operand) (c : Value) → lies_above x (i.Constant c) ≡ false
 low_constant (i.Constant v) c = refl
-low_constant (Held y) c = refl
-low_constant (Taken h) c = refl
-low_constant (Stays h) c = refl
+low_constant _ c = refl
 
 pub low_held : (x : Operand) (y : Variable) → lies_above x (Held y) ≡ false
 low_held (i.Constant v) y = refl
-low_held (Held z) y = refl
-low_held (Taken h) y = refl
-low_held (Stays h) y = refl
+low_held _ y = refl
 
 module _ (code : Code) (n : ℕ) where
   -- an instruction that changes the store by two operands
@@ -168,17 +120,7 @@ module _ (code : Code) (n : ℕ) where
       leaf_faults t (after (after t r) (Constant c)).cells class field r (i.Constant c) v c kind q cells frames w high p h (low_constant (operand t r) c) (λ cs go. refl) has.0
   valued_faults t class field r (Fetch y) v kind q cells frames w high p h leaf_ has =
       leaf_faults t (after (after t r) (Fetch y)).cells class field r (Held y) v (or_zero (fetched y w.store)) kind q cells frames w high p h (low_held (operand t r) y) (λ cs go. refl) has.0
-  valued_faults t class field r (Attribute k f e) v kind q cells frames w high p h leaf_ has = absurd (false≢true leaf_)
-  valued_faults t class field r (OfSystemSet query set) v kind q cells frames w high p h leaf_ has = absurd (false≢true leaf_)
-  valued_faults t class field r (OfSet query set e) v kind q cells frames w high p h leaf_ has = absurd (false≢true leaf_)
-  valued_faults t class field r (OfMember query set e) v kind q cells frames w high p h leaf_ has = absurd (false≢true leaf_)
-  valued_faults t class field r Clock v kind q cells frames w high p h leaf_ has = absurd (false≢true leaf_)
-  valued_faults t class field r (TimeOf e) v kind q cells frames w high p h leaf_ has = absurd (false≢true leaf_)
-  valued_faults t class field r (Figure fold j) v kind q cells frames w high p h leaf_ has = absurd (false≢true leaf_)
-  valued_faults t class field r (FigureOf fold j e) v kind q cells frames w high p h leaf_ has = absurd (false≢true leaf_)
-  valued_faults t class field r (Signed sign e) v kind q cells frames w high p h leaf_ has = absurd (false≢true leaf_)
-  valued_faults t class field r (Unary op e) v kind q cells frames w high p h leaf_ has = absurd (false≢true leaf_)
-  valued_faults t class field r (Calculate op a b) v kind q cells frames w high p h leaf_ has = absurd (false≢true leaf_)
+  valued_faults t class field r _ v kind q cells frames w high p h leaf_ has = absurd (false≢true leaf_)
 
   -- the reference is evaluated, and looked at, before the value
   abbrev let_part : Line → (class field : ℕ) → Expression → Value → Part (Unit {0})
@@ -190,9 +132,8 @@ module _ (code : Code) (n : ℕ) where
   spot_then l class field e (Ok v) w = by (entity class v w.store)
     where
       by : (m : OkOr ℤ Failure) → outcome_then (looked l m w) (λ n w. outcome_then (look l (value e) w) (write l (InAttribute class field v))) ≡ outcome_then (looked l (turned (InAttribute class field) (turned (λ n. v) m)) w) (λ p w. outcome_then (look l (value e) w) (write l p))
-      by (Ok n) = refl
       by (Err (Fails kind)) = refl
-      by (Err TypeError) = refl
+      by _ = refl
 
   pub let_attribute_runs : (t : Site) (class field : ℕ) (r e : Expression) → Runs code n (height t) same (let_code t (ToAttribute class field r) e) done (give_to t.line (ToAttribute class field r) (look t.line (value e)))
   let_attribute_runs t class field r e = record { by = λ p cells frames w high has in_. choose p cells frames w high in_ (must_look class r e) refl has }
@@ -217,17 +158,9 @@ module _ (code : Code) (n : ℕ) where
                   (valued t class field r e v j end cells frames w in_ high found len h)
               by (inr f) = valued_faults t class field r e v kind j cells frames w high found known f h
       choose p cells frames w high in_ true q has =
-          let c : List Placed = operand_code t r in
-          let look_ : Placed = place (after t r) (i.LookEntity class (stay (operand t r))) in
-          let front : List Placed = c ++ look_ ∷ [] in
+          let front : List Placed = entity_code t true class r in
           let rest : List Placed = value_code t class field r e in
-          let end : p + length c + 1 + length rest ≡ p + length (front ++ rest) = omega (arith, length-append front rest, length-append c (look_ ∷ [])) in
-          let middle : p + length front ≡ p + length c + 1 = omega (arith, length-append c (look_ ∷ [])) in
-          let h0 = has_front code.places p front rest has in
-          let h1 = subst (λ j. HasAt code.places j rest) middle (has_back code.places p front rest has) in
-          subst (λ o. Reaches code (at p cells frames w) (arrive (λ o w'. at (p + length (front ++ rest)) cells frames w') frames o)) (spot_then t.line class field e (value r w.store) w)
-          (one_join code n t r (evaluates code n t r) (look_ ∷ []) (λ o w'. at (p + length (front ++ rest)) cells frames w') (let_part t.line class field e) p cells frames w high h0 in_ (λ v found has'.
-          step_leads code look_ (core_at (p + length c) (held (leaf r) v cells) frames w.store) w _ _ has'.0 refl
-          (stay_reads t r v w.store cells (λ x below. did t.line (entity class x w.store) (λ _. onward below (core_at (p + length c) (held (leaf r) v cells) frames w.store) w.store)) high found)
-          (did_leads code t.line (entity class v w.store) _ w (λ o w'. at (p + length (front ++ rest)) cells frames w') frames (λ n w. outcome_then (look t.line (value e) w) (write t.line (InAttribute class field v))) (λ m known.
-          onwards (valued t class field r e v (p + length c + 1) (p + length (front ++ rest)) cells frames w in_ high found end h1)))))
+          let end : p + length front + length rest ≡ p + length (front ++ rest) = omega (arith, length-append front rest) in
+          subst (λ o. Reaches code (at p cells frames w) (arrive (λ o w'. at (p + length (front ++ rest)) cells frames w') frames o)) (turned_then t.line (if_ok (value r w.store) (looked_at (λ x. entity class x w.store))) (InAttribute class field) (λ q w. outcome_then (look t.line (value e) w) (write t.line q)) w)
+          (looked_join code n t r (i.LookEntity class) (entity class) (λ x. refl) (λ x p cells frames s. refl) rest (λ o w'. at (p + length (front ++ rest)) cells frames w') (λ v w. outcome_then (look t.line (value e) w) (write t.line (InAttribute class field v))) p cells frames w high has in_ (λ v found has'.
+          valued t class field r e v (p + length front) (p + length (front ++ rest)) cells frames w in_ high found end has'))

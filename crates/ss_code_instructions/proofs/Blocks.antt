@@ -1,7 +1,7 @@
 -- The code of statements, one by one and in lists.
 use Rattle.std.proofs.Common.{◌≡◌, ℕ, ◌+◌, List, [], ◌∷◌, length, refl, subst}
 use Rattle.ss_code_instructions.proofs.Common.{after_values, block_code, block_prints, Calls, choose, Code, condition_code, effects, height, holds, if_code, in_loop, Line, look, no_line, outcome_then, Part, Placed, Site, site_at_line, statement_prints, Value}
-use Rattle.ss_program.specs.Program.{Block, Call, Cancel, Change, Condition, Create, CreateEvery, Destroy, Each, Entity, File, Find, For, Head, If, Let, Loop, Members, Numbers, Print, Read, Remove, RemoveEnd, Reset, Return, Schedule, ScheduleNew, Simulate, Skip, Statement, Stop, Then, TheSystem, Done}
+use Rattle.ss_program.specs.Program.{Block, Call, Cancel, Change, Condition, Create, CreateEvery, Destroy, File, Find, For, Head, If, Let, Loop, Members, Print, Read, Remove, RemoveEnd, Reset, Return, Schedule, ScheduleNew, Simulate, Skip, Statement, Stop, Then, TheSystem, Done}
 use Rattle.ss_code_instructions.proofs.Steps.{has_front, has_back}
 use Rattle.ss_code_instructions.proofs.Parts.{Runs, same, done, onto, seq}
 use Rattle.ss_code_instructions.proofs.Branching.{if_run, if_alone_run}
@@ -24,10 +24,8 @@ use Rattle.ss_code_instructions.proofs.Scheduling.{schedule_runs, schedule_new_r
 
 -- the cells of a loop are as many at each line
 line_high : (t : Site) (l : Line) (head : Head) → height (in_loop t head) ≡ height (in_loop (site_at_line t l) head)
-line_high t l (Numbers x a b c) = refl
-line_high t l (Each x class) = refl
 line_high t l (Members x set TheSystem start reverse) = refl
-line_high t l (Members x set (Entity e) start reverse) = refl
+line_high t l _ = refl
 
 module _ (code : Code) (n : ℕ) where
   -- IF

@@ -2,7 +2,7 @@
 use Rattle.std.proofs.Common.{◌≡◌, ℕ, suc, ◌+◌, Bool, true, false, List, [], ◌∷◌, ◌++◌, length, Option, Some, None, Ok, Err, ℤ, refl, sym, ap, ◌∙◌, subst, arith, length-append}
 use Rattle.std.proofs.lemmas.Bool.{lt-ltb}
 use Rattle.std.specs.Prelude.{nat_lt, Result as OkOr, if◌then◌else◌}
-use Rattle.ss_code_instructions.proofs.Common.{after, Attribute, attribute, Calculate, calculated, change, change_by, change_code, changed_attribute, Clock, Code, Constant, entity, Expression, expression_mode, Fails, Failure, Fetch, Figure, FigureOf, height, Held, if_ok, leaf, lies_above, Line, look, looked, MachineState, Moved, OfMember, OfSet, OfSystemSet, Operand, operand, operand_code, operator_of, or_cell, or_in_cell, outcome_then, place, Placed, RunState, settle, Sign, Signed, Site, Store, Taken, TimeOf, ToAttribute, turned, TypeError, Unary, Value, with_operand_value, with_values, write}
+use Rattle.ss_code_instructions.proofs.Common.{after, attribute, calculated, change, change_by, change_code, changed_attribute, Code, Constant, entity, Expression, expression_mode, Fails, Failure, Fetch, height, Held, if_ok, leaf, lies_above, Line, look, looked, MachineState, Moved, Operand, operand, operand_code, operator_of, or_cell, or_in_cell, outcome_then, place, Placed, RunState, settle, Sign, Site, Store, Taken, ToAttribute, turned, TypeError, Value, with_operand_value, with_values, write}
 use Rattle.ss_meaning.specs.Expressions.{looked_at, value, spot}
 use Rattle.ss_meaning.specs.Places.{assigned_attribute, InAttribute, held as held_at}
 use Rattle.ss_code_instructions.specs.Instructions as i
@@ -20,17 +20,7 @@ next_above n = lt-ltb n (suc n) (omega arith)
 pub under_none : (e : Expression) (x y : Operand) → leaf e ≡ Some y → lies_above x y ≡ false
 under_none (Constant u) x y q = let e : i.Constant u ≡ y = cc in subst (λ y. lies_above x y ≡ false) e (low_constant x u)
 under_none (Fetch z) x y q = let e : Held z ≡ y = cc in subst (λ y. lies_above x y ≡ false) e (low_held x z)
-under_none (Attribute class field e) x y q = absurd cc
-under_none (OfSystemSet query set) x y q = absurd cc
-under_none (OfSet query set e) x y q = absurd cc
-under_none (OfMember query set e) x y q = absurd cc
-under_none Clock x y q = absurd cc
-under_none (TimeOf e) x y q = absurd cc
-under_none (Figure fold j) x y q = absurd cc
-under_none (FigureOf fold j e) x y q = absurd cc
-under_none (Signed sign e) x y q = absurd cc
-under_none (Unary op e) x y q = absurd cc
-under_none (Calculate op a b) x y q = absurd cc
+under_none _ x y q = absurd cc
 
 -- which of two operands is read first
 pub by_order : (k : Bool) (x y : Operand) (s : Store) (cs : List Value) (go : Value → Value → List Value → Moved) → lies_above x y ≡ k → with_values x y s cs go ≡ (if k then with_operand_value x s cs (λ v above. with_operand_value y s above (λ w below. go v w below)) else with_operand_value y s cs (λ w above. with_operand_value x s above (λ v below. go v w below)))
@@ -85,9 +75,8 @@ module _ (code : Code) (n : ℕ) where
   change_is l sign class field v z w (Ok n) e = of (attribute class field v w.store)
     where
       sum : (r : OkOr Value Failure) → outcome_then (looked l (if_ok r (λ u. assigned_attribute class field v u w.store)) w) settle ≡ outcome_then (looked l r w) (write l (InAttribute class field v))
-      sum (Ok u) = refl
       sum (Err (Fails kind)) = refl
-      sum (Err TypeError) = refl
+      sum _ = refl
 
       of : (a : OkOr Value Failure) → outcome_then (looked l (if_ok a (λ x. if_ok (calculated (operator_of sign) x z) (λ u. assigned_attribute class field v u w.store))) w) settle ≡ outcome_then (looked l (if_ok a (λ x. calculated (operator_of sign) x z)) w) (write l (InAttribute class field v))
       of (Ok x) = sum (calculated (operator_of sign) x z)

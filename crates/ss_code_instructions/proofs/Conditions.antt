@@ -1,7 +1,7 @@
 -- The code of conditions.
-use Rattle.std.proofs.Common.{◌≡◌, ℕ, ◌+◌, Bool, true, false, not, List, [], ◌∷◌, ◌++◌, length, Option, Ok, Err, refl, ap, subst, arith}
+use Rattle.std.proofs.Common.{◌≡◌, ℕ, ◌+◌, Bool, true, false, not, List, [], ◌∷◌, ◌++◌, length, Option, Ok, Err, refl, subst, arith}
 use Rattle.std.specs.Prelude.{Result as OkOr}
-use Rattle.ss_code_instructions.proofs.Common.{after, alternatives_code, Code, Compare, Condition, condition_code, core_at, DataEnded, did, due, Empty, Expression, expression_of, Fails, Failure, FaultKind, fit, Guard, guard_code, GuardKind, guards_code, height, if_ok, is_empty, is_ended, is_in, Line, look, looked, looked_code, may_fault, Member, member, Moved, negated_code, onward_if, operand, outcome_then, past, place, related, RunState, SetOwner, Site, sure, Test, test_code, tests_code, turned, TypeError, Value, WentOn, with_owner}
+use Rattle.ss_code_instructions.proofs.Common.{after, alternatives_code, Code, Compare, Condition, condition_code, core_at, DataEnded, did, due, Empty, Expression, expression_of, Fails, Failure, fit, Guard, guard_code, GuardKind, guards_code, height, if_ok, is_empty, is_ended, is_in, Line, look, looked, looked_code, may_fault, Member, member, Moved, negated_code, onward_if, operand, outcome_then, past, place, related, RunState, SetOwner, Site, sure, Test, test_code, tests_code, turned, TypeError, Value, WentOn, with_owner}
 use Rattle.ss_meaning.specs.Expressions.{holds, member_value, not_if, owner_value, passed, both, either, all_hold, passes, all_pass}
 use Rattle.ss_base.specs.declared.words.GuardKind.TheVariants as guards
 use Rattle.ss_code_instructions.specs.Instructions as i
@@ -9,16 +9,12 @@ use Rattle.ss_code_instructions.proofs.Steps.{Comes, Reaches, here, at, arrive}
 use Rattle.ss_code_instructions.proofs.Parts.{onwards, Lands, same, done, alike, look_lands}
 use Rattle.ss_code_instructions.proofs.Looking.{fit_did, two_lands, owner_lands}
 use Rattle.ss_code_instructions.proofs.Members.{member_owner_run}
+use Rattle.ss_code_instructions.proofs.Attributes.{err_first}
 use Rattle.ss_code_instructions.proofs.Branching.{both_lands, either_lands, not_lands}
 
 turned_did : {A B : Type 0} (l : Line) (r : OkOr A Failure) (g : A → B) (go : B → Moved) → did l r (λ a. go (g a)) ≡ did l (turned g r) go
-turned_did l (Ok a) g go = refl
 turned_did l (Err (Fails k)) g go = refl
-turned_did l (Err TypeError) g go = refl
-
--- where the first of two fails
-first_fails : {A B : Type 0} (r : OkOr A Failure) (f : A → OkOr B Failure) (kind : FaultKind) → r ≡ Err (Fails kind) → if_ok r f ≡ Err (Fails kind)
-first_fails r f kind q = ap (λ r. if_ok r f) q
+turned_did l _ g go = refl
 
 module _ (code : Code) (n : ℕ) (t : Site) where
   -- whether an entity is in a set
@@ -28,14 +24,13 @@ module _ (code : Code) (n : ℕ) (t : Site) where
         let c = looked_code t (may_fault (expression_of o)) e (i.LookMember set) ++ with_owner (after t e) o (λ y. i.UnlessMember negated set (operand t e) y skip) in
         subst (λ z. Reaches code (at p cells frames w) (arrive (λ b w'. at (past skip b (p + length c)) cells frames w') frames z)) (in_set (member_value set e w.store) w)
         (member_owner_run code n {A = Bool} {B = Bool} t set e o (λ x y. i.UnlessMember negated set x y skip) (λ v u. is_in set v u) (λ q cells0 frames s below b. onward_if skip (not_if negated b) below (core_at q cells0 frames s)) (λ b w'. at (past skip b (p + length c)) cells frames w') (λ b. WentOn (not_if negated b))
-        (λ v u s kind q. first_fails (member set v s) _ kind q) (λ x y. refl) (λ x y p cells frames s. refl) p cells frames w high has in_
+        (λ v u s kind q. err_first (member set v s) _ (Fails kind) q) (λ x y. refl) (λ x y p cells frames s. refl) p cells frames w high has in_
         (λ q cells0 b len. onwards (subst (λ j. Reaches code (at (past skip (not_if negated b) (q + 1)) cells frames w) (Comes (at (past skip (not_if negated b) j) cells frames w))) len here)));
   }
     where
       last : (r : OkOr Bool Failure) (w : RunState) → outcome_then (looked t.line r w) (λ b. WentOn (not_if negated b)) ≡ looked t.line (turned (not_if negated) r) w
-      last (Ok b) w = refl
       last (Err (Fails kind)) w = refl
-      last (Err TypeError) w = refl
+      last _ w = refl
 
       owned : (v : Value) (r : OkOr (Option Value) Failure) (w : RunState) → outcome_then (looked t.line r w) (λ u w. outcome_then (look t.line (is_in set v u) w) (λ b. WentOn (not_if negated b))) ≡ looked t.line (if_ok r (λ u. turned (not_if negated) (is_in set v u w.store))) w
       owned v (Ok u) w = last (is_in set v u w.store) w

@@ -1,6 +1,6 @@
 -- The code of calls and of events: into a section, and back.
 use Rattle.std.proofs.Common.{◌≡◌, ℕ, zero, suc, ◌+◌, ◌==◌, Bool, true, false, List, [], ◌∷◌, ◌++◌, length, Option, Some, None, Ok, refl, sym, ap, ◌∙◌, subst, arith, if◌then◌else◌}
-use Rattle.ss_code_instructions.proofs.Common.{AnEvent, ARoutine, at_height, Beginning, Block, Called, Calls, Coming, Core, core_at, effects, EntryPoint, eqb-true, Event, event_begun, Faulted, fit, Frame, Left, Line, MachineState, Moved, needed, next_event, opened, Outcome, outcome_then, OutOfTicks, Part, Placed, Program, Returned, Routine, RunState, slice_get, Stopped, Store, then_nothing, TypedScope, Value, WentOn, with_block, Wrong, yielded}
+use Rattle.ss_code_instructions.proofs.Common.{AnEvent, ARoutine, at_height, Beginning, Block, Called, Calls, Coming, Core, core_at, effects, EntryPoint, eqb-true, Event, event_begun, fit, Frame, Left, Line, MachineState, Moved, needed, next_event, opened, Outcome, outcome_then, Part, Placed, Program, Returned, Routine, RunState, slice_get, Store, then_nothing, TypedScope, Value, WentOn, with_block, Wrong, yielded}
 use Rattle.ss_code_instructions.specs.Machine.{act, Code, enter, take_event, take_next, enter_with}
 use Rattle.ss_code_instructions.specs.Translation.{block_code, block_prints, first_site, place, routine_entry, section_code, Site, routine_scope, event_scope, event_entry}
 use Rattle.ss_meaning.specs.Meaning.{calls, with_locals, come_back, enclosed, routine_called, event_routine, begin, event_taken, setting_of}
@@ -56,10 +56,7 @@ module _ (code : Code) where
   back_run n t p f frames s (WentOn u w) has g =
       landed_back f frames w s (yielded f.first f.count w.store.locals) (reaches_on g (leave_run code n t p [] f frames w has))
   back_run n t p f frames s (Left Returned w) has g = landed_back f frames w s (yielded f.first f.count w.store.locals) g
-  back_run n t p f frames s (Left Stopped w) has g = g
-  back_run n t p f frames s (Left (Faulted kind line) w) has g = g
-  back_run n t p f frames s (Left OutOfTicks w) has g = g
-  back_run n t p f frames s (Left Wrong w) has g = g
+  back_run n t p f frames s (Left _ w) has g = g
 
   module _ (n : ℕ) (h : Calls) (ok : CallsRun code n h) where
     -- a section from its beginning on

@@ -7,14 +7,11 @@ use Rattle.ss_meaning.specs.Values.{applied, calculated, Fails, Failure, if_ok, 
 use Rattle.ss_code_instructions.specs.Instructions as i
 use Rattle.ss_code_instructions.proofs.Steps.{Reaches, at, arrive}
 use Rattle.ss_code_instructions.proofs.Parts.{Leads, step_leads, Runs, same, put_on, went, look_then, alike}
-use Rattle.ss_code_instructions.proofs.Operands.{on, Tops, put_then, computes, held, reads, reads_both, Evaluates, leaf_runs, operand_runs, one_join, two_join}
+use Rattle.ss_code_instructions.proofs.Operands.{on, Tops, put_then, computes, held, reads_both, Evaluates, leaf_runs, operand_runs, read_runs, two_join}
 
 if_ok_ok : {A : Type 0} (r : OkOr A Failure) → if_ok r Ok ≡ r
 if_ok_ok (Ok a) = refl
 if_ok_ok (Err t) = refl
-
-end_of : (place : ℕ) (a : List Placed) (x : Placed) → place + length a + 1 ≡ place + length (a ++ x ∷ [])
-end_of place a x = omega (arith, length-append a (x ∷ []))
 
 module _ (code : Code) (n : ℕ) where
   -- the code of an expression computes its value, and leaves it at a target
@@ -31,19 +28,10 @@ module _ (code : Code) (n : ℕ) where
 
   -- one instruction that computes a value from that of an operand
   one_runs : (t : Site) (to : Target) (e : Expression) (make : Operand → Instruction) (f : Value → Store → OkOr Value Failure) → Tops to (height t) → Evaluates code n t e → ((x : Operand) → is_due (make x) ≡ false) → ((x : Operand) (p : ℕ) (cells : List Value) (frames : List Frame) (s : Store) → act code t.line (make x) (core_at p cells frames s) ≡ with_operand_value x s cells (λ v below. deliver t.line to (f v s) below (core_at p cells frames s))) → Runs code n (height t) same (one_operand t e (expression_code t (next t) e) make) (on to) (λ w. outcome_then (look t.line (λ s. if_ok (value e s) (λ v. f v s)) w) (put_then t.line to))
-  one_runs t to e make f tops r calm acts = record {
-    by = λ p cells frames w high has in_.
-        let c = operand_code t e in
-        let x : Placed = place (after t e) (make (operand t e)) in
-        let k = λ (v : Value) (w' : RunState). at (p + length (c ++ x ∷ [])) (on to v cells) frames w' in
-        subst (λ o. Reaches code (at p cells frames w) (arrive k frames o)) (look_then t.line (value e w.store) f (put_then t.line to) w)
-        (one_join code n t e r (x ∷ []) k (λ v w. outcome_then (look t.line (f v) w) (put_then t.line to)) p cells frames w high has in_ (λ v q has'.
-        step_leads code x (core_at (p + length c) (held (leaf e) v cells) frames w.store) w _ _ has'.0 (calm (operand t e))
-        (acts (operand t e) (p + length c) (held (leaf e) v cells) frames w.store
-        ∙ reads t e v w.store cells (λ v below. deliver t.line to (f v w.store) below (core_at (p + length c) (held (leaf e) v cells) frames w.store)) high q)
-        (subst (λ j. Leads code w (deliver t.line to (f v w.store) cells (core_at (p + length c) (held (leaf e) v cells) frames w.store)) (arrive (λ v w'. at j (on to v cells) frames w') frames (outcome_then (looked t.line (f v w.store) w) (put_then t.line to)))) (end_of p c x)
-        (computes code t.line to (f v w.store) (p + length c) cells (held (leaf e) v cells) frames w (subst (Tops to) (sym high) tops)))));
-  }
+  one_runs t to e make f tops r calm acts =
+      alike code n (height t) (λ w. look_then t.line (value e w.store) f (put_then t.line to) w)
+      (read_runs code n t e r make (on to) (λ p cells0 frames s v below. deliver t.line to (f v s) below (core_at p cells0 frames s)) (λ v w. outcome_then (look t.line (f v) w) (put_then t.line to)) calm acts (λ v p cells cells0 frames w high.
+      computes code t.line to (f v w.store) p cells cells0 frames w (subst (Tops to) (sym high) tops)))
 
   -- and from those of two operands
   two_runs : (t : Site) (to : Target) (a b : Expression) (make : (x y : Operand) → Instruction) (f : Value → Value → Store → OkOr Value Failure) → Tops to (height t) → Evaluates code n t a → Evaluates code n (after t a) b → ((x y : Operand) → is_due (make x y) ≡ false) → ((x y : Operand) (p : ℕ) (cells : List Value) (frames : List Frame) (s : Store) → act code t.line (make x y) (core_at p cells frames s) ≡ with_values x y s cells (λ v w below. deliver t.line to (f v w s) below (core_at p cells frames s))) → Runs code n (height t) same (operand_code t a ++ one_operand (after t a) b (expression_code (after t a) (next (after t a)) b) (make (operand t a))) (on to) (λ w. outcome_then (look t.line (λ s. if_ok (value a s) (λ x. if_ok (value b s) (λ y. f x y s))) w) (put_then t.line to))

@@ -1,6 +1,6 @@
 -- The code of a FOR by its head: how it ends; and that it does what the FOR does, whatever its turns.
 use Rattle.std.proofs.Common.{◌≡◌, ℕ, suc, ◌+◌, ◌-◌, ◌≤◌, Bool, List, ◌∷◌, ◌++◌, length, Option, refl, sym, ap, ◌∙◌, subst, arith, length-append, append_assoc}
-use Rattle.ss_code_instructions.proofs.Common.{begin_code, Code, Each, Entity, Expression, for_code, forget, forget_to, Frame, Head, height, in_loop, Members, number_loop, Numbers, over, owner_cell, owner_code, owner_kept, Part, place, Placed, range_code, RunState, SetOwner, Site, Start, start_code, TheSystem, Turn, turns_code, Value, Variable, walk_loop}
+use Rattle.ss_code_instructions.proofs.Common.{begin_code, Code, Each, Expression, for_code, forget, forget_to, Frame, Head, height, in_loop, Members, number_loop, Numbers, over, owner_cell, owner_code, owner_kept, Part, place, Placed, range_code, RunState, SetOwner, Site, Start, start_code, TheSystem, Turn, turns_code, Value, Variable, walk_loop}
 use Rattle.ss_code_instructions.specs.Instructions as i
 use Rattle.ss_code_instructions.proofs.Steps.{HasAt, has_back, Reaches, at, arrive}
 use Rattle.ss_code_instructions.proofs.Parts.{Within, Lands, same, done}
@@ -15,10 +15,8 @@ one_forget : (t u : Site) (k : ℕ) → height u - height t ≡ suc k → length
 one_forget t u k e = ap (λ j. length (forget u j)) e
 
 pub forgets_one : (t : Site) (head : Head) → length (forget_to t (in_loop t head)) ≡ 1
-forgets_one t (Numbers x a b c) = one_forget t (in_loop t (Numbers x a b c)) 2 (three_more (height t))
-forgets_one t (Each x class) = one_forget t (in_loop t (Each x class)) 2 (three_more (height t))
 forgets_one t (Members x set TheSystem start reverse) = one_forget t (in_loop t (Members x set TheSystem start reverse)) 1 (two_more (height t))
-forgets_one t (Members x set (Entity e) start reverse) = one_forget t (in_loop t (Members x set (Entity e) start reverse)) 2 (three_more (height t))
+forgets_one t head = one_forget t (in_loop t head) 2 (three_more (height t))
 
 record Closing (t : Site) (head : Head) (turn : List Placed) : Type 0 where
   pub front : List Placed

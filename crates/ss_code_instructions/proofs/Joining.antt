@@ -1,29 +1,22 @@
 -- Each member of a set of a heap lives, as an entity of the class of the set's members. So it may be one of the set. That is so at first, and no
 -- operation changes it.
 use Rattle.std.proofs.Common.{◌≡◌, ℕ, zero, suc, ◌+◌, ◌-◌, ◌<◌, Bool, true, false, List, [], ◌∷◌, ◌++◌, length, Option, Some, None, Ok, Err, ℤ, pos, negsuc, refl, sym, ap, ◌∙◌, subst, arith, ◌⊎◌, inl, inr, true≢false}
-use Rattle.std.proofs.lemmas.Bool.{eqb-true, eqb-false, eq-eqb, and_parts, and_from}
-use Rattle.std.specs.Prelude.{slice_get, slice_set, replicate, is_some, cond, nat_lt, nat_le, ◌==◌, ◌&&◌, ◌||◌, Result, if◌then◌else◌}
-use Rattle.ss_code_instructions.proofs.Common.{Discipline, FaultKind, IsInList, SetLayout, Value}
-use Rattle.ss_world.specs.Disciplines.{filed, ranks_after, put_ranked, take, first_removed, last_removed}
-use Rattle.ss_world.specs.State.{assigned, created, State, timed, Record, Members, and_then, kind_of, issued_record, numbered_record, indexed_record, records_in, of_class, entity_of_kind, entity_in, notice, number_in, first_record, record_with_value, with_time, with_indexed, with_entity_of_kind, with_created, LAST_NUMBER, MOST_ENTITIES, is_made_in, is_made, with_made, made_many, created_all, members_of, contains, owner_among, is_filed, with_members, in_a_set, owns_members, let_go, destroyed, first_state}
+use Rattle.std.proofs.lemmas.Bool.{eqb-true, eqb-false, eq-eqb, and_parts, and_from, or_left, or_right}
+use Rattle.std.specs.Prelude.{slice_get, slice_set, replicate, is_some, cond, nat_lt, ◌==◌, ◌&&◌, Result, if◌then◌else◌}
+use Rattle.ss_code_instructions.proofs.Common.{FaultKind, IsInList, SetLayout, Value}
+use Rattle.ss_world.specs.State.{assigned, created, State, timed, Record, Members, and_then, kind_of, issued_record, numbered_record, indexed_record, records_in, of_class, entity_of_kind, entity_in, notice, number_in, first_record, record_with_value, with_time, with_entity_of_kind, with_created, LAST_NUMBER, is_made_in, is_made, with_made, created_all, members_of, contains, owner_among, is_filed, with_members, in_a_set, destroyed, first_state}
 use Rattle.ss_base.specs.declared.fault.FaultKind.TheVariants as faults
 use Rattle.ss_base.specs.declared.layout.ClassKind.{ClassKind}
 use Rattle.ss_base.specs.declared.layout.ClassKind.TheVariants.{Permanent, Temporary, Notice}
-use Rattle.ss_base.specs.declared.layout.Discipline.TheVariants.{Fifo, Lifo, Ranked}
 use Rattle.ss_base.specs.declared.layout.Layout.{Layout}
-use Rattle.ss_base.specs.declared.layout.RankKey.{RankKey}
-use Rattle.ss_world.specs.Sets.{member_in, member_class, joiner, owner, first_in, last_in, put_before, put_after, less, with_list_of, put_in, put_beside, taken_out, filed_first, filed_last, filed_before, filed_after, removed, AreMembersApart}
+use Rattle.ss_world.specs.Sets.{member_in, member_class, joiner, with_list_of}
 use Rattle.ss_meaning.specs.Fitting.{class_of_record, living, made, IsIndex, IsLivingAs, IsLiving}
 use Rattle.ss_meaning.proofs.Fine.{Sane, sane_then}
-use Rattle.ss_meaning.proofs.Heaps.{HasRecord, IsEntityAs, entity_known, entity_lives, notice_known, set_length}
+use Rattle.ss_meaning.proofs.Filings.{Keeps, MayJoin}
+use Rattle.ss_meaning.proofs.Heaps.{IsEntityAs, created_all_keeps, destroyed_keeps, entity_known, entity_lives, get_other, made_at, notice_known, number_is, set_class}
 
 abbrev pub Joined : State → Type 0
 Joined h = (s o x : ℕ) → s < length h.layout.sets → IsInList x (members_of h.lists s o) → IsLiving h (member_class h.layout s) (pos x)
-
--- whatever the first of two operations gives
-each_then : {A B : Type 0} (Q : B → Type 0) (r : Result A FaultKind) (f : A → Result B FaultKind) → ((a : A) → Sane Q (f a)) → Sane Q (and_then r f)
-each_then Q (Ok a) f h = h a
-each_then Q (Err k) f h = tt
 
 -- ## What lives may be a member, and what may be one lives
 
@@ -71,65 +64,28 @@ joiner_lives h s (negsuc n) =
     sane_then (λ n. IsLiving h (member_class h.layout s) (pos n)) (entity_in h (member_class h.layout s) (negsuc n)) (λ r. Ok 0) (entity_known h (member_class h.layout s) (negsuc n)) (λ r q.
     absurd (no_negative (kind_of h.layout (member_class h.layout s)) h (member_class h.layout s) n r q))
 
--- so it is where sets are apart
-pub apart_joined : (h : State) → AreMembersApart h → Joined h
-apart_joined h a s o x i m = subst (Sane (λ n. IsLiving h (member_class h.layout s) (pos n))) (a.members s o x i m).1 (joiner_lives h s (pos x))
-
 -- and where there is no entity
 pub first_joined : (l : Layout) → Joined (first_state l)
 first_joined l s o x i m = absurd m
 
 -- ## Other entities
 
--- another record of the same class in place of one
-class_stays : (rs : List (Option Record)) (i : ℕ) (r q : Record) → slice_get rs i ≡ Some (Some r) → q.class ≡ r.class → (k : ℕ) → class_of_record (slice_get (slice_set rs i (Some q)) k) ≡ class_of_record (slice_get rs k)
-class_stays [] i r q g c k = absurd cc
-class_stays (o ∷ rs) zero r q g c zero = let here : o ≡ Some r = cc in ap Some c ∙ sym (ap (λ y. class_of_record (Some y)) here)
-class_stays (o ∷ rs) zero r q g c (suc k) = refl
-class_stays (o ∷ rs) (suc i) r q g c zero = refl
-class_stays (o ∷ rs) (suc i) r q g c (suc k) = class_stays rs i r q g c k
-
-number_is : (h : State) (x : ℤ) (r : Record) → HasRecord h x r → slice_get h.records (number_in x - 1) ≡ Some (Some r)
-number_is h (pos zero) r q = absurd q
-number_is h (pos (suc i)) r q = let one : suc i - 1 ≡ i = omega arith in subst (λ k. slice_get h.records k ≡ Some (Some r)) (sym one) q
-number_is h (negsuc k) r q = absurd q
-
--- other records, in which what lived goes on to live
-lives_by_records : (k : ClassKind) (h : State) (rs : List (Option Record)) (c x : ℕ) → ((i : ℕ) → x ≡ suc i → class_of_record (slice_get h.records i) ≡ Some c → class_of_record (slice_get rs i) ≡ Some c) → IsLivingAs k h c (pos x) → IsLivingAs k (record h { records = rs }) c (pos x)
-lives_by_records Permanent h rs c x f q = q
-lives_by_records Temporary h rs c zero f q = absurd cc
-lives_by_records Temporary h rs c (suc i) f q = f i refl q
-lives_by_records Notice h rs c zero f q = absurd cc
-lives_by_records Notice h rs c (suc i) f q = f i refl q
+-- another state, in which what lived goes on to live
+lives_by : (k : ClassKind) (h g : State) (c x : ℕ) → (k ≡ Permanent → IsIndex (made h c) (pos x) → IsIndex (made g c) (pos x)) → ((i : ℕ) → x ≡ suc i → class_of_record (slice_get h.records i) ≡ Some c → class_of_record (slice_get g.records i) ≡ Some c) → IsLivingAs k h c (pos x) → IsLivingAs k g c (pos x)
+lives_by Permanent h g c x p f q = p refl q
+lives_by Temporary h g c zero p f q = absurd cc
+lives_by Temporary h g c (suc i) p f q = f i refl q
+lives_by Notice h g c zero p f q = absurd cc
+lives_by Notice h g c (suc i) p f q = f i refl q
 
 recorded : (h : State) (i : ℕ) (r q : Record) → slice_get h.records i ≡ Some (Some r) → q.class ≡ r.class → Joined h → Joined (record h { records = slice_set h.records i (Some q) })
 recorded h i r q g c j s o x k m =
-    lives_by_records (kind_of h.layout (member_class h.layout s)) h (slice_set h.records i (Some q)) (member_class h.layout s) x (λ y e p. class_stays h.records i r q g c y ∙ p) (j s o x k m)
-
--- other records of permanent entities, as many of each class
-row_set : (o : Option (Option (List Record))) (i : ℕ) (r : Record) → length (records_in (Some (with_indexed o i r))) ≡ length (records_in o)
-row_set None i r = refl
-row_set (Some None) i r = refl
-row_set (Some (Some rs)) i r = set_length rs (i - 1) r
-
-rows_set : (ps : List (Option (List Record))) (c i : ℕ) (r : Record) (k : ℕ) → length (records_in (slice_get (slice_set ps c (with_indexed (slice_get ps c) i r)) k)) ≡ length (records_in (slice_get ps k))
-rows_set [] c i r k = refl
-rows_set (o ∷ ps) zero i r zero = row_set (Some o) i r
-rows_set (o ∷ ps) zero i r (suc k) = refl
-rows_set (o ∷ ps) (suc c) i r zero = refl
-rows_set (o ∷ ps) (suc c) i r (suc k) = rows_set ps c i r k
-
-lives_by_rows : (k : ClassKind) (h : State) (ps : List (Option (List Record))) (c x : ℕ) → (k ≡ Permanent → IsIndex (made h c) (pos x) → IsIndex (length (records_in (slice_get ps c))) (pos x)) → IsLivingAs k h c (pos x) → IsLivingAs k (record h { permanents = ps }) c (pos x)
-lives_by_rows Permanent h ps c x f q = f refl q
-lives_by_rows Temporary h ps c zero f q = absurd cc
-lives_by_rows Temporary h ps c (suc i) f q = q
-lives_by_rows Notice h ps c zero f q = absurd cc
-lives_by_rows Notice h ps c (suc i) f q = q
+    lives_by (kind_of h.layout (member_class h.layout s)) h (record h { records = slice_set h.records i (Some q) }) (member_class h.layout s) x (λ _ p. p) (λ y e p. set_class h.records i r q g c y ∙ p) (j s o x k m)
 
 indexed_set : (h : State) (c n : ℕ) (r : Record) → Joined h → Joined (with_entity_of_kind h Permanent c n r)
 indexed_set h c n r j s o x k m =
-    lives_by_rows (kind_of h.layout (member_class h.layout s)) h (slice_set h.permanents c (with_indexed (slice_get h.permanents c) n r)) (member_class h.layout s) x
-    (λ _ p. subst (λ y. IsIndex y (pos x)) (sym (rows_set h.permanents c n r (member_class h.layout s))) p) (j s o x k m)
+    lives_by (kind_of h.layout (member_class h.layout s)) h (with_entity_of_kind h Permanent c n r) (member_class h.layout s) x
+    (λ _ p. subst (λ y. IsIndex y (pos x)) (sym (made_at h.permanents c n r (member_class h.layout s))) p) (λ i e p. p) (j s o x k m)
 
 -- ## Assigning
 
@@ -157,7 +113,7 @@ class_before (x ∷ xs) y (suc i) c q = class_before xs y i c q
 
 with_created_joined : (h : State) (c : ℕ) → Joined h → Joined (with_created h c)
 with_created_joined h c j s o x k m =
-    lives_by_records (kind_of h.layout (member_class h.layout s)) h (h.records ++ Some (first_record h.layout c) ∷ []) (member_class h.layout s) x
+    lives_by (kind_of h.layout (member_class h.layout s)) h (with_created h c) (member_class h.layout s) x (λ _ p. p)
     (λ i e p. class_before h.records (Some (first_record h.layout c)) i (member_class h.layout s) p) (j s o x k m)
 
 pub created_joined : (h : State) (c : ℕ) → Joined h → Sane (λ (b : ℤ × State). Joined b.1) (created h c)
@@ -166,13 +122,6 @@ created_joined h c j = by (nat_lt (length h.records) LAST_NUMBER)
     by : (b : Bool) → Sane (λ (b : ℤ × State). Joined b.1) (if b then Ok (pos (length h.records + 1), with_created h c) else Err faults.Overflow)
     by true = with_created_joined h c j
     by false = tt
-
-get_other : {A : Type 0} (xs : List A) (c : ℕ) (a : A) (k : ℕ) → (c ≡ k → ⊥) → slice_get (slice_set xs c a) k ≡ slice_get xs k
-get_other [] c a k h = refl
-get_other (x ∷ xs) zero a zero h = absurd (h refl)
-get_other (x ∷ xs) zero a (suc k) h = refl
-get_other (x ∷ xs) (suc c) a zero h = refl
-get_other (x ∷ xs) (suc c) a (suc k) h = get_other xs c a k (λ q. h (ap suc q))
 
 -- a class whose entities are not made has none
 none_made : (o : Option (Option (List Record))) (x : ℕ) → is_made_in o ≡ false → IsIndex (length (records_in o)) (pos x) → ⊥
@@ -183,35 +132,16 @@ none_made (Some (Some rs)) (suc i) q p = absurd (true≢false q)
 
 with_made_joined : (h : State) (c n : ℕ) → is_made h c ≡ false → Joined h → Joined (with_made h c n)
 with_made_joined h c n q j s o x k m =
-    lives_by_rows (kind_of h.layout (member_class h.layout s)) h (slice_set h.permanents c (Some (replicate n (first_record h.layout c)))) (member_class h.layout s) x (λ _ p. rows (member_class h.layout s) (c == member_class h.layout s) refl p) (j s o x k m)
+    lives_by (kind_of h.layout (member_class h.layout s)) h (with_made h c n) (member_class h.layout s) x (λ _ p. rows (member_class h.layout s) (c == member_class h.layout s) refl p) (λ i e p. p) (j s o x k m)
   where
     rows : (d : ℕ) (b : Bool) → (c == d) ≡ b → IsIndex (made h d) (pos x) → IsIndex (length (records_in (slice_get (slice_set h.permanents c (Some (replicate n (first_record h.layout c)))) d))) (pos x)
     rows d true e p = absurd (none_made (slice_get h.permanents c) x q (subst (λ d. IsIndex (made h d) (pos x)) (sym (eqb-true c d e)) p))
     rows d false e p = subst (λ o. IsIndex (length (records_in o)) (pos x)) (sym (get_other h.permanents c (Some (replicate n (first_record h.layout c))) d (eqb-false c d e))) p
 
 pub created_all_joined : (h : State) (c : ℕ) (z : ℤ) → Joined h → Sane Joined (created_all h c z)
-created_all_joined h c z j = by (is_made h c) refl
-  where
-    in_range : is_made h c ≡ false → (n : ℕ) (b : Bool) → Sane Joined (if b then Ok (with_made h c n) else Err faults.BadCount)
-    in_range q n true = with_made_joined h c n q j
-    in_range q n false = tt
-
-    many : is_made h c ≡ false → (z : ℤ) → Sane Joined (made_many h c z)
-    many q (pos n) = in_range q n (nat_le n MOST_ENTITIES)
-    many q (negsuc k) = tt
-
-    by : (b : Bool) → is_made h c ≡ b → Sane Joined (if b then Err faults.CreatedTwice else made_many h c z)
-    by true q = tt
-    by false q = many q z
+created_all_joined h c z j = created_all_keeps Joined h c z (λ n q. with_made_joined h c n q j)
 
 -- ## Other members
-
-lives_by_lists : (k : ClassKind) (h : State) (ms : List Members) (c x : ℕ) → IsLivingAs k h c (pos x) → IsLivingAs k (record h { lists = ms }) c (pos x)
-lives_by_lists Permanent h ms c x q = q
-lives_by_lists Temporary h ms c zero q = absurd cc
-lives_by_lists Temporary h ms c (suc i) q = q
-lives_by_lists Notice h ms c zero q = absurd cc
-lives_by_lists Notice h ms c (suc i) q = q
 
 -- the members of a set once one of the lists is another
 members_with : (ms : List Members) (s o : ℕ) (l : List ℕ) (s' o' x : ℕ) → IsInList x (members_of (with_members ms s o l) s' o') → ((s ≡ s') × IsInList x l) ⊎ IsInList x (members_of ms s' o')
@@ -242,157 +172,28 @@ members_with (y ∷ ms) s o l s' o' x m = by ((y.set == s) && (y.owner == o)) re
 -- another list, whose members live
 listed : (h : State) (s o : ℕ) (l : List ℕ) → ((x : ℕ) → s < length h.layout.sets → IsInList x l → IsLiving h (member_class h.layout s) (pos x)) → Joined h → Joined (with_list_of h s o l)
 listed h s o l f j s' o' x k m =
-    lives_by_lists (kind_of h.layout (member_class h.layout s')) h (with_members h.lists s o l) (member_class h.layout s') x (by (members_with h.lists s o l s' o' x m))
+    lives_by (kind_of h.layout (member_class h.layout s')) h (with_list_of h s o l) (member_class h.layout s') x (λ _ p. p) (λ i e p. p) (by (members_with h.lists s o l s' o' x m))
   where
     by : ((s ≡ s') × IsInList x l) ⊎ IsInList x (members_of h.lists s' o') → IsLiving h (member_class h.layout s') (pos x)
     by (inl g) = subst (λ d. IsLiving h (member_class h.layout d) (pos x)) g.0 (f x (subst (λ d. d < length h.layout.sets) (sym g.0) k) g.1)
     by (inr g) = j s' o' x k g
 
--- ## Filing
+-- ## Filing and removing
 
-abbrev Puts : (ℕ → List ℕ → List ℕ) → Type 0
-Puts put = (x : ℕ) (l : List ℕ) (y : ℕ) → IsInList y (put x l) → (x ≡ y) ⊎ IsInList y l
-
-put_lives : (put : ℕ → List ℕ → List ℕ) → Puts put → (h : State) (s o x : ℕ) → IsLiving h (member_class h.layout s) (pos x) → Joined h → Joined (with_list_of h s o (put x (members_of h.lists s o)))
-put_lives put p h s o x lives j = listed h s o (put x (members_of h.lists s o)) (λ y k m. by y k (p x (members_of h.lists s o) y m)) j
+-- another list, each member of which was there or may be one
+pub keeps_joined : (h : State) (s : ℕ) → Joined h → Keeps Joined h s
+keeps_joined h s j o l known = listed h s o l (λ y k m. by y k (known y m)) j
   where
-    by : (y : ℕ) → s < length h.layout.sets → (x ≡ y) ⊎ IsInList y (members_of h.lists s o) → IsLiving h (member_class h.layout s) (pos y)
-    by y k (inl e) = subst (λ z. IsLiving h (member_class h.layout s) (pos z)) e lives
+    by : (y : ℕ) → s < length h.layout.sets → MayJoin h s y ⊎ IsInList y (members_of h.lists s o) → IsLiving h (member_class h.layout s) (pos y)
+    by y k (inl g) = subst (λ r. Sane (λ n. IsLiving h (member_class h.layout s) (pos n)) r) g.1 (joiner_lives h s g.0)
     by y k (inr m) = j s o y k m
-
-put_joined : (put : ℕ → List ℕ → List ℕ) → Puts put → (h : State) (s o x : ℕ) → IsLiving h (member_class h.layout s) (pos x) → Joined h → Sane Joined (put_in put h s o x)
-put_joined put p h s o x lives j = by (is_filed h.lists s x)
-  where
-    by : (b : Bool) → Sane Joined (if b then Err faults.FiledTwice else Ok (with_list_of h s o (put x (members_of h.lists s o))))
-    by true = tt
-    by false = put_lives put p h s o x lives j
-
-beside_joined : (put : ℕ → ℕ → List ℕ → List ℕ) → ((k : ℕ) → Puts (put k)) → (h : State) (s o x k : ℕ) → IsLiving h (member_class h.layout s) (pos x) → Joined h → Sane Joined (put_beside put h s o x k)
-beside_joined put p h s o x k lives j = by (is_filed h.lists s x) (contains (members_of h.lists s o) k)
-  where
-    by : (b c : Bool) → Sane Joined (if b then Err faults.FiledTwice else (if c then Ok (with_list_of h s o (put k x (members_of h.lists s o))) else Err faults.NotFiled))
-    by true c = tt
-    by false true = put_lives (put k) (p k) h s o x lives j
-    by false false = tt
-
-puts_first : Puts (λ y l. y ∷ l)
-puts_first x l y m = m
-
-puts_last : Puts (λ y l. l ++ y ∷ [])
-puts_last x [] y m = m
-puts_last x (z ∷ zs) y (inl e) = inr (inl e)
-puts_last x (z ∷ zs) y (inr m) = by (puts_last x zs y m)
-  where
-    by : (x ≡ y) ⊎ IsInList y zs → (x ≡ y) ⊎ IsInList y (z ∷ zs)
-    by (inl e) = inl e
-    by (inr m) = inr (inr m)
-
--- after an item that stays
-passed : (x z y : ℕ) (zs : List ℕ) (l : List ℕ) → (IsInList y l → (x ≡ y) ⊎ IsInList y zs) → IsInList y (z ∷ l) → (x ≡ y) ⊎ IsInList y (z ∷ zs)
-passed x z y zs l f (inl e) = inr (inl e)
-passed x z y zs l f (inr m) = by (f m)
-  where
-    by : (x ≡ y) ⊎ IsInList y zs → (x ≡ y) ⊎ IsInList y (z ∷ zs)
-    by (inl e) = inl e
-    by (inr m) = inr (inr m)
-
-puts_before : (k : ℕ) → Puts (put_before k)
-puts_before k x [] y m = m
-puts_before k x (z ∷ zs) y m = by (z == k) (λ g. puts_before k x zs y g) m
-  where
-    by : (b : Bool) → (IsInList y (put_before k x zs) → (x ≡ y) ⊎ IsInList y zs) → IsInList y (cond b (x ∷ (z ∷ zs)) (z ∷ put_before k x zs)) → (x ≡ y) ⊎ IsInList y (z ∷ zs)
-    by true f m = m
-    by false f m = passed x z y zs (put_before k x zs) f m
-
-puts_after : (k : ℕ) → Puts (put_after k)
-puts_after k x [] y m = m
-puts_after k x (z ∷ zs) y m = by (z == k) (λ g. puts_after k x zs y g) m
-  where
-    by : (b : Bool) → (IsInList y (put_after k x zs) → (x ≡ y) ⊎ IsInList y zs) → IsInList y (cond b (z ∷ (x ∷ zs)) (z ∷ put_after k x zs)) → (x ≡ y) ⊎ IsInList y (z ∷ zs)
-    by true f m = passed x z y zs (x ∷ zs) (λ g. g) m
-    by false f m = passed x z y zs (put_after k x zs) f m
-
-puts_ranked : (h : State) (c : ℕ) (ks : List RankKey) → Puts (put_ranked h c ks)
-puts_ranked h c ks x [] y m = m
-puts_ranked h c ks x (z ∷ zs) y m = by (ranks_after h c ks (pos z) (pos x)) (λ g. puts_ranked h c ks x zs y g) m
-  where
-    by : (b : Bool) → (IsInList y (put_ranked h c ks x zs) → (x ≡ y) ⊎ IsInList y zs) → IsInList y (cond b (x ∷ (z ∷ zs)) (z ∷ put_ranked h c ks x zs)) → (x ≡ y) ⊎ IsInList y (z ∷ zs)
-    by true f m = m
-    by false f m = passed x z y zs (put_ranked h c ks x zs) f m
-
--- a member that is looked at, and an owner
-with_member : {B : Type 0} (Q : B → Type 0) (h : State) (s : ℕ) (o x : ℤ) (go : ℕ → ℕ → Result B FaultKind) → ((n m : ℕ) → IsLiving h (member_class h.layout s) (pos n) → Sane Q (go n m)) → Sane Q (and_then (joiner h s x) (λ n. and_then (owner h s o) (λ m. go n m)))
-with_member Q h s o x go f =
-    sane_then Q (joiner h s x) (λ n. and_then (owner h s o) (λ m. go n m)) (joiner_lives h s x) (λ n g. each_then Q (owner h s o) (λ m. go n m) (λ m. f n m g))
-
-pub first_filed : (h : State) (s : ℕ) (o x : ℤ) → Joined h → Sane Joined (filed_first h s o x)
-first_filed h s o x j = with_member Joined h s o x (λ n m. put_in (λ y l. y ∷ l) h s m n) (λ n m g. put_joined (λ y l. y ∷ l) puts_first h s m n g j)
-
-pub last_filed : (h : State) (s : ℕ) (o x : ℤ) → Joined h → Sane Joined (filed_last h s o x)
-last_filed h s o x j = with_member Joined h s o x (λ n m. put_in (λ y l. l ++ y ∷ []) h s m n) (λ n m g. put_joined (λ y l. l ++ y ∷ []) puts_last h s m n g j)
-
-pub before_filed : (h : State) (s : ℕ) (o x y : ℤ) → Joined h → Sane Joined (filed_before h s o x y)
-before_filed h s o x y j =
-    sane_then Joined (joiner h s x) (λ n. and_then (joiner h s y) (λ k. and_then (owner h s o) (λ m. put_beside put_before h s m n k))) (joiner_lives h s x) (λ n g.
-    with_member Joined h s o y (λ k m. put_beside put_before h s m n k) (λ k m u. beside_joined put_before puts_before h s m n k g j))
-
-pub after_filed : (h : State) (s : ℕ) (o x y : ℤ) → Joined h → Sane Joined (filed_after h s o x y)
-after_filed h s o x y j =
-    sane_then Joined (joiner h s x) (λ n. and_then (joiner h s y) (λ k. and_then (owner h s o) (λ m. put_beside put_after h s m n k))) (joiner_lives h s x) (λ n g.
-    with_member Joined h s o y (λ k m. put_beside put_after h s m n k) (λ k m u. beside_joined put_after puts_after h s m n k g j))
-
-pub filed_joined : (h : State) (d : Discipline) (s : ℕ) (o x : ℤ) → Joined h → Sane Joined (filed h d s o x)
-filed_joined h Fifo s o x j = last_filed h s o x j
-filed_joined h Lifo s o x j = first_filed h s o x j
-filed_joined h (Ranked ks) s o x j =
-    with_member Joined h s o x (λ n m. put_in (put_ranked h (member_class h.layout s) ks) h s m n) (λ n m g. put_joined (put_ranked h (member_class h.layout s) ks) (puts_ranked h (member_class h.layout s) ks) h s m n g j)
-
--- ## Removing
-
-less_in : (x : ℕ) (l : List ℕ) (y : ℕ) → IsInList y (less x l) → IsInList y l
-less_in x [] y m = m
-less_in x (z ∷ zs) y m = by (z == x) (λ g. less_in x zs y g) m
-  where
-    by : (b : Bool) → (IsInList y (less x zs) → IsInList y zs) → IsInList y (cond b zs (z ∷ less x zs)) → IsInList y (z ∷ zs)
-    by true f m = inr m
-    by false f (inl e) = inl e
-    by false f (inr m) = inr (f m)
-
-out_joined : (h : State) (s o x : ℕ) → Joined h → Sane Joined (taken_out h s o x)
-out_joined h s o x j = by (contains (members_of h.lists s o) x)
-  where
-    by : (b : Bool) → Sane Joined (if b then Ok (with_list_of h s o (less x (members_of h.lists s o))) else Err faults.NotFiled)
-    by true = listed h s o (less x (members_of h.lists s o)) (λ y k m. j s o y k (less_in x (members_of h.lists s o) y m)) j
-    by false = tt
-
-pub removed_joined : (h : State) (s : ℕ) (o x : ℤ) → Joined h → Sane Joined (removed h s o x)
-removed_joined h s o x j = with_member Joined h s o x (λ n m. taken_out h s m n) (λ n m g. out_joined h s m n j)
-
-take_joined : (h : State) (s : ℕ) (o z : ℤ) → Joined h → Sane (λ (r : ℤ × State). Joined r.1) (take h s o z)
-take_joined h s o (pos zero) j = tt
-take_joined h s o (pos (suc n)) j = sane_then (λ (r : ℤ × State). Joined r.1) (removed h s o (pos (suc n))) (λ t. Ok (pos (suc n), t)) (removed_joined h s o (pos (suc n)) j) (λ t g. g)
-take_joined h s o (negsuc k) j = sane_then (λ (r : ℤ × State). Joined r.1) (removed h s o (negsuc k)) (λ t. Ok (negsuc k, t)) (removed_joined h s o (negsuc k) j) (λ t g. g)
-
-pub first_removed_joined : (h : State) (s : ℕ) (o : ℤ) → Joined h → Sane (λ (r : ℤ × State). Joined r.1) (first_removed h s o)
-first_removed_joined h s o j = each_then (λ (r : ℤ × State). Joined r.1) (first_in h s o) (take h s o) (λ z. take_joined h s o z j)
-
-pub last_removed_joined : (h : State) (s : ℕ) (o : ℤ) → Joined h → Sane (λ (r : ℤ × State). Joined r.1) (last_removed h s o)
-last_removed_joined h s o j = each_then (λ (r : ℤ × State). Joined r.1) (last_in h s o) (take h s o) (λ z. take_joined h s o z j)
 
 -- ## Destroying: what is in a set stays
 
-or_first : (a b : Bool) → a ≡ true → (a || b) ≡ true
-or_first true b q = refl
-or_first false b q = absurd (true≢false (sym q))
-
-or_second : (a b : Bool) → b ≡ true → (a || b) ≡ true
-or_second true b q = refl
-or_second false b q = q
-
 contains_so : (xs : List ℕ) (x : ℕ) → IsInList x xs → contains xs x ≡ true
 contains_so [] x m = absurd m
-contains_so (y ∷ ys) x (inl e) = or_first (y == x) (contains ys x) (eq-eqb y x e)
-contains_so (y ∷ ys) x (inr m) = or_second (y == x) (contains ys x) (contains_so ys x m)
+contains_so (y ∷ ys) x (inl e) = or_left (y == x) (contains ys x) (eq-eqb y x e)
+contains_so (y ∷ ys) x (inr m) = or_right (y == x) (contains ys x) (contains_so ys x m)
 
 -- some list that is not empty has an owner
 among_so : (some all : List Members) (s o x : ℕ) → contains (members_of all s o) x ≡ true → (members_of some s o ≡ [] → ⊥) → is_some (owner_among some all s x) ≡ true
@@ -421,15 +222,15 @@ in_set_so (u ∷ ts) b zero d ms c x t q e g f =
     let at : d ≡ b = omega (arith, e) in
     let class : u.member ≡ c = ap (λ (y : SetLayout). y.member) same ∙ g in
     let filed_ : is_filed ms b x ≡ true = subst (λ y. is_filed ms y x ≡ true) at f in
-    or_first ((u.member == c) && is_filed ms b x) (in_a_set ts (b + 1) ms c x) (and_from (u.member == c) (is_filed ms b x) (eq-eqb u.member c class) filed_)
+    or_left ((u.member == c) && is_filed ms b x) (in_a_set ts (b + 1) ms c x) (and_from (u.member == c) (is_filed ms b x) (eq-eqb u.member c class) filed_)
 in_set_so (u ∷ ts) b (suc k) d ms c x t q e g f =
     let at : d ≡ b + 1 + k = omega (arith, e) in
-    or_second ((u.member == c) && is_filed ms b x) (in_a_set ts (b + 1) ms c x) (in_set_so ts (b + 1) k d ms c x t q at g f)
+    or_right ((u.member == c) && is_filed ms b x) (in_a_set ts (b + 1) ms c x) (in_set_so ts (b + 1) k d ms c x t q at g f)
 
 -- what is in no set goes
 cut_joined : (h : State) (c i : ℕ) (r : Record) → slice_get h.records i ≡ Some (Some r) → r.class ≡ c → in_a_set h.layout.sets 0 h.lists c (suc i) ≡ false → Joined h → Joined (record h { records = slice_set h.records i None })
 cut_joined h c i r g own apart j s o x k m =
-    lives_by_records (kind_of h.layout (member_class h.layout s)) h (slice_set h.records i None) (member_class h.layout s) x (λ n e p. by n e p (i == n) refl) (j s o x k m)
+    lives_by (kind_of h.layout (member_class h.layout s)) h (record h { records = slice_set h.records i None }) (member_class h.layout s) x (λ _ p. p) (λ n e p. by n e p (i == n) refl) (j s o x k m)
   where
     -- it is no member of this set
     never : (n : ℕ) → x ≡ suc n → i ≡ n → class_of_record (slice_get h.records n) ≡ Some (member_class h.layout s) → ⊥
@@ -448,28 +249,5 @@ cut_joined h c i r g own apart j s o x k m =
     by n e p true q = absurd (never n e (eqb-true i n q) p)
     by n e p false q = ap class_of_record (get_other h.records i None n (eqb-false i n q)) ∙ p
 
-single_is : (k : ClassKind) (h : State) (c : ℕ) (x : ℤ) (r : Record) → (k ≡ Permanent → ⊥) → IsEntityAs k h c x r → HasRecord h x r × (r.class ≡ c)
-single_is Permanent h c x r other q = absurd (other refl)
-single_is Temporary h c x r other q = q
-single_is Notice h c x r other q = q
-
-let_go_joined : (h : State) (c : ℕ) (x : ℤ) (r : Record) → HasRecord h x r → r.class ≡ c → Joined h → Sane Joined (let_go h c (number_in x))
-let_go_joined h c (pos zero) r q own j = absurd q
-let_go_joined h c (negsuc k) r q own j = absurd q
-let_go_joined h c (pos (suc i)) r q own j = first (in_a_set h.layout.sets 0 h.lists c (suc i)) refl
-  where
-    one : suc i - 1 ≡ i
-    one = omega arith
-
-    second : in_a_set h.layout.sets 0 h.lists c (suc i) ≡ false → (b : Bool) → Sane Joined (if b then Err faults.OwnsMembers else Ok (record h { records = slice_set h.records (suc i - 1) None }))
-    second apart true = tt
-    second apart false = subst (λ k. Joined (record h { records = slice_set h.records k None })) (sym one) (cut_joined h c i r q own apart j)
-
-    first : (b : Bool) → in_a_set h.layout.sets 0 h.lists c (suc i) ≡ b → Sane Joined (if b then Err faults.InASet else (if owns_members h.layout.sets 0 h.lists c (suc i) then Err faults.OwnsMembers else Ok (record h { records = slice_set h.records (suc i - 1) None })))
-    first true apart = tt
-    first false apart = second apart (owns_members h.layout.sets 0 h.lists c (suc i))
-
 pub destroyed_joined : (h : State) (c : ℕ) (x : ℤ) → (kind_of h.layout c ≡ Permanent → ⊥) → Joined h → Sane Joined (destroyed h c x)
-destroyed_joined h c x other j =
-    sane_then Joined (entity_in h c x) (λ r. let_go h c (number_in x)) (entity_known h c x) (λ r q.
-    let e = single_is (kind_of h.layout c) h c x r other q in let_go_joined h c x r e.0 e.1 j)
+destroyed_joined h c x other j = destroyed_keeps Joined h c x other (λ i r e q own apart. cut_joined h c i r q own apart j)

@@ -9,8 +9,8 @@ use Rattle.ss_meaning.specs.Store.{fetched, Setting, Store, with_heap, with_hist
 use Rattle.ss_world.specs.State.{assigned, created, State, timed, kind_in, notice, created_all, destroyed}
 use Rattle.ss_base.specs.declared.fault.FaultKind.TheVariants.{Scheduled, AlreadyScheduled, PastTime}
 use Rattle.ss_world.specs.PendingList.{is_pending, scheduled, cancelled, least_event}
-use Rattle.ss_base.specs.declared.words.End.TheVariants as sides
-use Rattle.ss_code_instructions.proofs.Joining.{Joined, assigned_joined, timed_joined, created_joined, created_all_joined, first_filed, last_filed, before_filed, after_filed, filed_joined, removed_joined, first_removed_joined, last_removed_joined, destroyed_joined}
+use Rattle.ss_meaning.proofs.Filings.{first_sane, last_sane, before_sane, after_sane, removed_sane, filed_sane, end_sane}
+use Rattle.ss_code_instructions.proofs.Joining.{Joined, assigned_joined, timed_joined, created_joined, created_all_joined, keeps_joined, destroyed_joined}
 
 -- what an operation gives, where it gives anything, has a property
 abbrev pub Only : {A : Type 0} → (A → Type 0) → Result A Failure → Type 0
@@ -158,13 +158,13 @@ recounted_same set owner s h p = each (Same s) (due (count_in h set owner)) _ (�
 filed_by_lasts : (f : Filing) (set : ℕ) (o x : ℤ) (s : Store) → Only (HeapLasts s) (filed_by f set o x s)
 filed_by_lasts ByRule set o x s =
     each (HeapLasts s) (sure (slice_get s.world.setting.disciplines set)) _ (λ d. fitting (HeapLasts s) (is_fit s.world.heap.layout set d) _
-    (due_lasts s Joined (filed s.world.heap d set o x) (λ j. filed_joined s.world.heap d set o x j)))
-filed_by_lasts Foremost set o x s = due_lasts s Joined (filed_first s.world.heap set o x) (λ j. first_filed s.world.heap set o x j)
-filed_by_lasts Hindmost set o x s = due_lasts s Joined (filed_last s.world.heap set o x) (λ j. last_filed s.world.heap set o x j)
+    (due_lasts s Joined (filed s.world.heap d set o x) (λ j. filed_sane Joined s.world.heap d set o x (keeps_joined s.world.heap set j))))
+filed_by_lasts Foremost set o x s = due_lasts s Joined (filed_first s.world.heap set o x) (λ j. first_sane Joined s.world.heap set o x (keeps_joined s.world.heap set j))
+filed_by_lasts Hindmost set o x s = due_lasts s Joined (filed_last s.world.heap set o x) (λ j. last_sane Joined s.world.heap set o x (keeps_joined s.world.heap set j))
 filed_by_lasts (JustBefore y) set o x s =
-    each (HeapLasts s) (member set y s) _ (λ k. due_lasts s Joined (filed_before s.world.heap set o x k) (λ j. before_filed s.world.heap set o x k j))
+    each (HeapLasts s) (member set y s) _ (λ k. due_lasts s Joined (filed_before s.world.heap set o x k) (λ j. before_sane Joined s.world.heap set o x k (keeps_joined s.world.heap set j)))
 filed_by_lasts (JustAfter y) set o x s =
-    each (HeapLasts s) (member set y s) _ (λ k. due_lasts s Joined (filed_after s.world.heap set o x k) (λ j. after_filed s.world.heap set o x k j))
+    each (HeapLasts s) (member set y s) _ (λ k. due_lasts s Joined (filed_after s.world.heap set o x k) (λ j. after_sane Joined s.world.heap set o x k (keeps_joined s.world.heap set j)))
 
 pub filed_same : (f : Filing) (set : ℕ) (x : Value) (o : Option Value) (s : Store) → Only (Same s) (filed_in f set x o s)
 filed_same f set x o s =
@@ -175,17 +175,13 @@ pub removed_same : (set : ℕ) (x : Value) (o : Option Value) (s : Store) → On
 removed_same set x o s =
     each (Same s) (member set x s) _ (λ n. each (Same s) (owner_number set o s) _ (λ m.
     then_only (Same s) (HeapLasts s) (due (removed s.world.heap set m n)) (recounted set m s)
-    (due_lasts s Joined (removed s.world.heap set m n) (λ j. removed_joined s.world.heap set m n j)) (λ h p. recounted_same set m s h p)))
-
-end_joined : (end : End) (h : State) (set : ℕ) (m : ℤ) → Joined h → Sane (λ (r : ℤ × State). Joined r.1) (end_removed end h set m)
-end_joined sides.First h set m j = first_removed_joined h set m j
-end_joined sides.Last h set m j = last_removed_joined h set m j
+    (due_lasts s Joined (removed s.world.heap set m n) (λ j. removed_sane Joined s.world.heap set m n (keeps_joined s.world.heap set j))) (λ h p. recounted_same set m s h p)))
 
 pub end_same : (end : End) (set : ℕ) (o : Option Value) (s : Store) → Only (SameWith {A = Value} s) (removed_at end set o s)
 end_same end set o s =
     each (SameWith s) (owner_number set o s) _ (λ m.
     then_only (SameWith s) (λ (r : ℤ × State). HeapLasts s r.1) (due (end_removed end s.world.heap set m)) _
-    (due_lasts s (λ (r : ℤ × State). Joined r.1) (end_removed end s.world.heap set m) (λ j. end_joined end s.world.heap set m j)) (λ r p.
+    (due_lasts s (λ (r : ℤ × State). Joined r.1) (end_removed end s.world.heap set m) (λ j. end_sane Joined end s.world.heap set m (keeps_joined s.world.heap set j))) (λ r p.
     made_from (SameWith s) (Same s) (λ t. (Whole r.0, t)) (recounted set m s r.1) (recounted_same set m s r.1 p) (λ t q. q)))
 
 endowed_same : (class field : ℕ) (x : Value) (vs : List Value) (s : Store) → Only (Same s) (endowed class field x vs s)

@@ -1,6 +1,6 @@
 -- Operands that stay: they lie above nothing, and are read later on.
 use Rattle.std.proofs.Common.{◌≡◌, false, List, ◌∷◌, ◌++◌, length, Option, Some, None, Ok, refl, ap, ◌∙◌}
-use Rattle.ss_code_instructions.proofs.Common.{Expression, fit, height, Held, leaf, lies_above, Moved, Operand, operand, or_cell, Site, stay, Stays, Store, Taken, Value, value, with_operand_value}
+use Rattle.ss_code_instructions.proofs.Common.{Expression, fit, height, leaf, lies_above, Moved, Operand, operand, or_cell, Site, stay, Store, Value, value, with_operand_value}
 use Rattle.ss_code_instructions.specs.Instructions as i
 use Rattle.ss_code_instructions.proofs.Operands.{held, leaf_reads}
 use Rattle.ss_code_instructions.proofs.Members.{leaf_stays}
@@ -10,9 +10,7 @@ use Rattle.ss_code_instructions.proofs.Stacked.{under_cell}
 -- what stays lies above nothing
 pub stay_low : (x y : Operand) → lies_above (stay x) y ≡ false
 stay_low (i.Constant v) y = refl
-stay_low (Held z) y = refl
-stay_low (Taken h) y = refl
-stay_low (Stays h) y = refl
+stay_low _ y = refl
 
 -- an operand that stays gives the same value later, under further cells
 pub stay_later : (t : Site) (r : Expression) (y : Value) (s u : Store) (more cells : List Value) (go : Value → List Value → Moved) → length cells ≡ height t → value r s ≡ Ok y → Alike s u → with_operand_value (stay (operand t r)) u (more ++ held (leaf r) y cells) go ≡ go y (more ++ held (leaf r) y cells)

@@ -1,14 +1,14 @@
 -- LET, ADD and SUBTRACT, for each place that they assign.
-use Rattle.std.proofs.Common.{◌≡◌, ℕ, ◌+◌, Bool, true, false, List, [], ◌∷◌, ◌++◌, length, Option, Some, None, refl, sym, subst, arith, length-append}
+use Rattle.std.proofs.Common.{◌≡◌, ℕ, ◌+◌, Bool, true, false, List, ◌++◌, length, Option, Some, None, refl, sym, subst, arith, length-append}
 use Rattle.std.specs.Prelude.{if◌then◌else◌}
-use Rattle.ss_code_instructions.proofs.Common.{above, after, assigned_variable, calculated, change_by, change_code, Code, core_at, count_code, CountedClass, deliver, did, Expression, expression_code, fetched, Frame, give_to, Global, height, if_ok, InCount, Integer, InVariable, is_kept, leaf, let_code, look, looked, MachineState, next, onward, operand, operand_code, operator_of, or_zero, outcome_then, Part, Place, place, RunState, settle, Sign, Site, sure, ToAttribute, ToCount, ToVariable, Value, value, Variable, with_operand, with_operand_value, write}
-use Rattle.ss_code_instructions.specs.Instructions.{Held, Placed, Taken, Target as To}
+use Rattle.ss_code_instructions.proofs.Common.{above, after, assigned_variable, calculated, change_by, change_code, Code, core_at, count_code, CountedClass, deliver, did, Expression, expression_code, fetched, Frame, give_to, Global, height, if_ok, InCount, Integer, InVariable, is_kept, leaf, let_code, look, looked, next, onward, operand, operand_code, operator_of, or_zero, outcome_then, Part, Place, RunState, settle, Sign, Site, sure, ToAttribute, ToCount, ToVariable, Value, value, Variable, with_operand, with_operand_value, write}
+use Rattle.ss_code_instructions.specs.Instructions.{Held, Placed, Target as To}
 use Rattle.ss_code_instructions.specs.Instructions as i
-use Rattle.ss_code_instructions.proofs.Steps.{has_front, has_back, Comes, Reaches, here, at, arrive, join}
-use Rattle.ss_code_instructions.proofs.Parts.{Leads, onwards, whatever, step_leads, did_leads, at_the_height, Runs, same, done, went, then_then, alike}
-use Rattle.ss_code_instructions.proofs.Operands.{on, Tops, put_then, computes, held, reads, one_join}
+use Rattle.ss_code_instructions.proofs.Steps.{Reaches, here, at, arrive}
+use Rattle.ss_code_instructions.proofs.Parts.{Leads, onwards, whatever, did_leads, Runs, same, done, put_on, went, then_then, seq, alike}
+use Rattle.ss_code_instructions.proofs.Operands.{on, Tops, put_then, computes, held, reads, read_runs, one_join}
 use Rattle.ss_code_instructions.proofs.Expressions.{leaves, evaluates}
-use Rattle.ss_code_instructions.proofs.Assigning.{written_goal, variable_runs, count_run}
+use Rattle.ss_code_instructions.proofs.Assigning.{written_goal, variable_runs, count_run, count_taken}
 use Rattle.ss_code_instructions.proofs.Attributes.{let_attribute_runs}
 use Rattle.ss_code_instructions.proofs.Changing.{change_attribute_runs}
 
@@ -28,18 +28,9 @@ module _ (code : Code) (n : ℕ) where
   let_variable_runs t x e = by (is_kept t x)
     where
       by : (b : Bool) → Runs code n (height t) same (if b then with_operand t e (λ y. i.Keep y x) else expression_code t (i.Into x) e) done (λ w. outcome_then (look t.line (value e) w) (write t.line (InVariable x)))
-      by true = record {
-        by = λ p cells frames w high has in_.
-            let ce : List Placed = operand_code t e in
-            let last : Placed = place (after t e) (i.Keep (operand t e) x) in
-            let end : p + length ce + 1 ≡ p + length (ce ++ last ∷ []) = omega (arith, length-append ce (last ∷ [])) in
-            let ends : Unit {0} → RunState → MachineState = λ o w'. at (p + length (ce ++ last ∷ [])) cells frames w' in
-            one_join code n t e (evaluates code n t e) (last ∷ []) ends (write t.line (InVariable x)) p cells frames w high has in_ (λ v found has'.
-            step_leads code last (core_at (p + length ce) (held (leaf e) v cells) frames w.store) w _ _ has'.0 refl
-            (reads t e v w.store cells (λ v below. did t.line (assigned_variable x v w.store) (λ s. onward below (core_at (p + length ce) (held (leaf e) v cells) frames w.store) s)) high found)
-            (did_leads code t.line (assigned_variable x v w.store) (λ s. onward cells (core_at (p + length ce) (held (leaf e) v cells) frames w.store) s) w ends frames settle (λ s done_.
-            onwards (subst (λ j. Reaches code (at (p + length ce + 1) cells frames (record w { store = s })) (Comes (at j cells frames (record w { store = s })))) end here))));
-      }
+      by true =
+          read_runs code n t e (evaluates code n t e) (λ y. i.Keep y x) done (λ p cells0 frames s v below. did t.line (assigned_variable x v s) (λ u. onward below (core_at p cells0 frames s) u)) (write t.line (InVariable x)) (λ y. refl) (λ y p cells frames s. refl) (λ v p cells cells0 frames w high.
+          did_leads code t.line (assigned_variable x v w.store) (λ u. onward cells (core_at p cells0 frames w.store) u) w (λ o w'. at (p + 1) cells frames w') frames settle (λ u done_. onwards here))
       by false = record {
         by = λ p cells frames w high has in_.
             written_goal (at p cells frames w) (λ w'. at (p + length (expression_code t (i.Into x) e)) cells frames w') frames (look t.line (value e) w) (write t.line (InVariable x)) ((leaves code n t (i.Into x) tt e).by p cells frames w high has in_);
@@ -57,19 +48,10 @@ module _ (code : Code) (n : ℕ) where
   sum_part t sign x e w = outcome_then (look t.line (value e) w) (λ y. look t.line (λ s. if_ok (sure (fetched x s)) (λ v. calculated (operator_of sign) v y)))
 
   sum_runs : (t : Site) (sign : Sign) (x : Variable) (e : Expression) (to : To) → Tops to (height t) → Runs code n (height t) same (with_operand t e (λ y. i.Calculate (operator_of sign) (Held x) y to)) (on to) (λ w. outcome_then (sum_part t sign x e w) (put_then t.line to))
-  sum_runs t sign x e to tops = record {
-    by = λ p cells frames w high has in_.
-        let ce : List Placed = operand_code t e in
-        let last : Placed = place (after t e) (i.Calculate (operator_of sign) (Held x) (operand t e) to) in
-        let end : p + length ce + 1 ≡ p + length (ce ++ last ∷ []) = omega (arith, length-append ce (last ∷ [])) in
-        let k : Value → RunState → MachineState = λ v w'. at (p + length (ce ++ last ∷ [])) (on to v cells) frames w' in
-        subst (λ o. Reaches code (at p cells frames w) (arrive k frames o)) (sym (then_then (look t.line (value e) w) (λ y. look t.line (λ s. if_ok (sure (fetched x s)) (λ v. calculated (operator_of sign) v y))) (put_then t.line to)))
-        (one_join code n t e (evaluates code n t e) (last ∷ []) k (λ y w. outcome_then (look t.line (λ s. if_ok (sure (fetched x s)) (λ v. calculated (operator_of sign) v y)) w) (put_then t.line to)) p cells frames w high has in_ (λ y found has'.
-        step_leads code last (core_at (p + length ce) (held (leaf e) y cells) frames w.store) w _ _ has'.0 refl
-        (reads t e y w.store cells (λ u above. with_operand_value (Held x) w.store above (λ v below. deliver t.line to (calculated (operator_of sign) v u) below (core_at (p + length ce) (held (leaf e) y cells) frames w.store))) high found)
-        (subst (λ j. Leads code w (deliver t.line to (calculated (operator_of sign) (or_zero (fetched x w.store)) y) cells (core_at (p + length ce) (held (leaf e) y cells) frames w.store)) (arrive (λ v w'. at j (on to v cells) frames w') frames (outcome_then (looked t.line (if_ok (sure (fetched x w.store)) (λ v. calculated (operator_of sign) v y)) w) (put_then t.line to)))) end
-        (sum_leads (fetched x w.store) y (p + length ce) cells (held (leaf e) y cells) frames w (subst (Tops to) (sym high) tops)))));
-  }
+  sum_runs t sign x e to tops =
+      alike code n (height t) (λ w. sym (then_then (look t.line (value e) w) (λ y. look t.line (λ s. if_ok (sure (fetched x s)) (λ v. calculated (operator_of sign) v y))) (put_then t.line to)))
+      (read_runs code n t e (evaluates code n t e) (λ y. i.Calculate (operator_of sign) (Held x) y to) (on to) (λ p cells0 frames s u above. with_operand_value (Held x) s above (λ v below. deliver t.line to (calculated (operator_of sign) v u) below (core_at p cells0 frames s))) (λ y w. outcome_then (look t.line (λ s. if_ok (sure (fetched x s)) (λ v. calculated (operator_of sign) v y)) w) (put_then t.line to)) (λ y. refl) (λ y p cells frames s. refl) (λ y p cells cells0 frames w high.
+      sum_leads (fetched x w.store) y p cells cells0 frames w (subst (Tops to) (sym high) tops)))
     where
       sum_leads : (o : Option Value) (y : Value) (p : ℕ) (cells cells0 : List Value) (frames : List Frame) (w : RunState) → Tops to (length cells) → Leads code w (deliver t.line to (calculated (operator_of sign) (or_zero o) y) cells (core_at p cells0 frames w.store)) (arrive (λ v w'. at (p + 1) (on to v cells) frames w') frames (outcome_then (looked t.line (if_ok (sure o) (λ v. calculated (operator_of sign) v y)) w) (put_then t.line to)))
       sum_leads None y p cells cells0 frames w h = whatever
@@ -78,18 +60,7 @@ module _ (code : Code) (n : ℕ) where
   change_count_runs : (t : Site) (sign : Sign) (c : CountedClass) (e : Expression) → Runs code n (height t) same (change_code t sign (ToCount c) e) done (change_by t.line sign (ToCount c) e)
   change_count_runs t sign c e =
       alike code n (height t) (λ w. then_then (look t.line (value e) w) (λ y. look t.line (λ s. if_ok (sure (fetched (Global c.variable) s)) (λ v. calculated (operator_of sign) v y))) (write t.line (InCount c)))
-      (record {
-        by = λ p cells frames w high has in_.
-            let ce : List Placed = with_operand t e (λ y. i.Calculate (operator_of sign) (Held (Global c.variable)) y (next t)) in
-            let last : List Placed = count_code (above t Integer) c (Taken (height t)) in
-            let end : p + length ce + 2 ≡ p + length (ce ++ last) = omega (arith, length-append ce last) in
-            join (at p cells frames w) (λ v w'. at (p + length ce) (v ∷ cells) frames w') (λ o w'. at (p + length (ce ++ last)) cells frames w') frames (sum_part t sign (Global c.variable) e w) (write t.line (InCount c))
-            (subst (λ o. Reaches code (at p cells frames w) (arrive (λ v w'. at (p + length ce) (v ∷ cells) frames w') frames o)) (went (sum_part t sign (Global c.variable) e w))
-            ((sum_runs t sign (Global c.variable) e (next t) refl).by p cells frames w high (has_front code.places p ce last has) in_))
-            (λ v w' k.
-            subst (λ j. Reaches code (at (p + length ce) (v ∷ cells) frames w') (arrive (λ o w'. at j cells frames w') frames (write t.line (InCount c) v w'))) end
-            (count_run code (above t Integer) c (Taken (height t)) v (p + length ce) (v ∷ cells) cells frames w' (λ go. at_the_height (height t) cells (go v cells) high) (has_back code.places p ce last has)));
-      })
+      (seq code n (height t) {mid = put_on} (alike code n (height t) (λ w. went (sum_part t sign (Global c.variable) e w)) (sum_runs t sign (Global c.variable) e (next t) refl)) (λ v. count_taken code n t Integer c v))
 
   pub change_runs_at : (t : Site) (sign : Sign) (p : Place) (e : Expression) → Runs code n (height t) same (change_code t sign p e) done (change_by t.line sign p e)
   change_runs_at t sign (ToVariable x) e =

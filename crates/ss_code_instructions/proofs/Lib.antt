@@ -47,7 +47,6 @@ pub mod Entering
 pub mod Whole
 pub mod Pieces
 pub mod Holding
-pub mod Sizes
 pub mod Landing
 pub mod Bounding
 pub mod Suiting

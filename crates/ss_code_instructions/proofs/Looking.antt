@@ -1,9 +1,9 @@
 -- Instructions that look at operands, and go on or jump.
 use Rattle.std.proofs.Common.{◌≡◌, ℕ, ◌+◌, false, List, [], ◌∷◌, ◌++◌, length, Option, Some, None, Ok, Err, refl, sym, ap, ◌∙◌, subst, arith, length-append}
 use Rattle.std.specs.Prelude.{Result as OkOr}
-use Rattle.ss_code_instructions.proofs.Common.{act, after, after_bearer, Bearer, bearer, bearer_code, Code, core_at, did, Entity, Expression, expression_of, Fails, Failure, fit, Frame, height, if_ok, Instruction, is_due, leaf, Line, look, looked, MachineState, Moved, Operand, operand, operand_code, outcome_then, owner_value, Part, place, Placed, RunState, SetOwner, Site, Store, sure, TheSystem, To, turned, TypeError, Value, value, value_if_any, WentOn, with_bearer, with_operand, with_operand_value, with_owner, with_values}
+use Rattle.ss_code_instructions.proofs.Common.{act, after, after_bearer, Bearer, bearer, bearer_code, Code, core_at, did, Entity, Expression, expression_of, Fails, Failure, fit, Frame, height, if_ok, Instruction, is_due, leaf, Line, look, looked, MachineState, Moved, Operand, operand, operand_code, outcome_then, owner_value, Part, place, Placed, RunState, SetOwner, Site, Store, sure, TheSystem, To, turned, TypeError, Value, value, value_if_any, WentOn, with_bearer, with_operand, with_owner, with_values}
 use Rattle.ss_code_instructions.proofs.Steps.{HasAt, Comes, Reaches, here, at, arrive}
-use Rattle.ss_code_instructions.proofs.Parts.{Within, Leads, onwards, step_leads, did_leads, Lands, same, done, went, looks_then, turned_then}
+use Rattle.ss_code_instructions.proofs.Parts.{Within, Leads, onwards, step_leads, did_leads, Lands, same, done, went, looks_then, turned_then, alike}
 use Rattle.ss_code_instructions.proofs.Operands.{held, held_height, reads, reads_both, one_join, two_join}
 use Rattle.ss_code_instructions.proofs.Expressions.{evaluates}
 
@@ -35,25 +35,22 @@ module _ (code : Code) (n : ℕ) where
       f (Some v) (held (leaf e) v) (ap (turned Some) q)
       (record { reads = λ cells go h. reads t e v w.store cells (λ v below. go (Some v) below) h q; high = λ cells h. held_height t e v cells h }) has'))
 
-  -- ## Instructions that look and go on, or jump
-
-  -- one operand, and an instruction that looks at it
-  pub one_lands : {A : Type 0} (t : Site) (e : Expression) (make : Operand → Instruction) (land : A → ℕ → ℕ) (f : Value → Store → OkOr A Failure) (go : ℕ → List Value → List Frame → Store → Value → List Value → Moved) → ((x : Operand) → is_due (make x) ≡ false) → ((x : Operand) (p : ℕ) (cells : List Value) (frames : List Frame) (s : Store) → act code t.line (make x) (core_at p cells frames s) ≡ with_operand_value x s cells (go p cells frames s)) → ((p : ℕ) (cells : List Value) (frames : List Frame) (s : Store) (v : Value) (below : List Value) → go p cells frames s v below ≡ did t.line (f v s) (λ a. To (core_at (land a (p + 1)) below frames s))) → Lands code n (height t) same (with_operand t e make) land done (look t.line (λ s. if_ok (value e s) (λ v. f v s)))
-  one_lands t e make land f go calm acts goes = record {
+  -- an owner, or the entity of a statistic, and an instruction that reads it
+  pub bearer_lands : {B : Type 0} (t : Site) (o : Option Expression) (make : Bearer → Instruction) (land : B → ℕ → ℕ) (put : B → List Value → List Value) (go : ℕ → List Value → List Frame → Store → Option Value → List Value → Moved) (f : Option Value → Part B) → ((x : Bearer) → is_due (make x) ≡ false) → ((x : Bearer) (p : ℕ) (cells : List Value) (frames : List Frame) (s : Store) → act code t.line (make x) (core_at p cells frames s) ≡ with_bearer x s cells (go p cells frames s)) → ((v : Option Value) (p : ℕ) (cells cells0 : List Value) (frames : List Frame) (w : RunState) → length cells ≡ height t → Leads code w (go p cells0 frames w.store v cells) (arrive (λ b w'. at (land b (p + 1)) (put b cells) frames w') frames (f v w))) → Lands code n (height t) same (bearer_code t o ++ place (after_bearer t o) (make (bearer t o)) ∷ []) land put (λ w. outcome_then (look t.line (value_if_any o) w) f)
+  bearer_lands {B} t o make land put go f calm acts leads = record {
     by = λ p cells frames w high has in_.
-        let c = operand_code t e in
-        let x : Placed = place (after t e) (make (operand t e)) in
-        let end : p + length c + 1 ≡ p + length (c ++ x ∷ []) = omega (arith, length-append c (x ∷ [])) in
-        subst (λ o. Reaches code (at p cells frames w) (arrive (λ a w'. at (land a (p + length (c ++ x ∷ []))) cells frames w') frames o)) (looks_then t.line (value e w.store) f w)
-        (one_join code n t e (evaluates code n t e) (x ∷ []) (λ a w'. at (land a (p + length (c ++ x ∷ []))) cells frames w') (λ v. look t.line (f v)) p cells frames w high has in_ (λ v q has'.
-        step_leads code x (core_at (p + length c) (held (leaf e) v cells) frames w.store) w _ _ has'.0 (calm (operand t e))
-        (acts (operand t e) (p + length c) (held (leaf e) v cells) frames w.store
-        ∙ reads t e v w.store cells (go (p + length c) (held (leaf e) v cells) frames w.store) high q
-        ∙ goes (p + length c) (held (leaf e) v cells) frames w.store v cells)
-        (subst (λ o. Leads code w (did t.line (f v w.store) (λ a. To (core_at (land a (p + length c + 1)) cells frames w.store))) (arrive (λ a w'. at (land a (p + length (c ++ x ∷ []))) cells frames w') frames o)) (went (looked t.line (f v w.store) w))
-        (did_leads code t.line (f v w.store) _ w (λ a w'. at (land a (p + length (c ++ x ∷ []))) cells frames w') frames WentOn (λ a r.
-        onwards (subst (λ q. Reaches code (at (land a q) cells frames w) (Comes (at (land a (p + length (c ++ x ∷ []))) cells frames w))) (sym end) here))))));
+        let c : List Placed = bearer_code t o in
+        let last : Placed = place (after_bearer t o) (make (bearer t o)) in
+        let end : p + length c + 1 ≡ p + length (c ++ last ∷ []) = omega (arith, length-append c (last ∷ [])) in
+        let ends : B → RunState → MachineState = λ b w'. at (land b (p + length (c ++ last ∷ []))) (put b cells) frames w' in
+        bearer_join t o (last ∷ []) ends f p cells frames w high has in_ (λ v on_top q found has'.
+        step_leads code last (core_at (p + length c) (on_top cells) frames w.store) w _ _ has'.0 (calm (bearer t o))
+        (acts (bearer t o) (p + length c) (on_top cells) frames w.store ∙ found.reads cells (go (p + length c) (on_top cells) frames w.store) high)
+        (subst (λ j. Leads code w (go (p + length c) (on_top cells) frames w.store v cells) (arrive (λ b w'. at (land b j) (put b cells) frames w') frames (f v w))) end
+        (leads v (p + length c) cells (on_top cells) frames w high)));
   }
+
+  -- ## Instructions that look and go on, or jump
 
   -- two operands
   pub two_lands : {A : Type 0} (t : Site) (a b : Expression) (make : (x y : Operand) → Instruction) (land : A → ℕ → ℕ) (f : Value → Value → Store → OkOr A Failure) (go : ℕ → List Value → List Frame → Store → Value → Value → List Value → Moved) → ((x y : Operand) → is_due (make x y) ≡ false) → ((x y : Operand) (p : ℕ) (cells : List Value) (frames : List Frame) (s : Store) → act code t.line (make x y) (core_at p cells frames s) ≡ with_values x y s cells (go p cells frames s)) → ((p : ℕ) (cells : List Value) (frames : List Frame) (s : Store) (v u : Value) (below : List Value) → go p cells frames s v u below ≡ did t.line (f v u s) (λ a. To (core_at (land a (p + 1)) below frames s))) → Lands code n (height t) same (operand_code t a ++ with_operand (after t a) b (make (operand t a))) land done (look t.line (λ s. if_ok (value a s) (λ x. if_ok (value b s) (λ y. f x y s))))
@@ -82,19 +79,9 @@ module _ (code : Code) (n : ℕ) where
 
   -- an owner, and an instruction that looks at its set
   pub owner_lands : {A : Type 0} (t : Site) (o : SetOwner) (make : Bearer → Instruction) (land : A → ℕ → ℕ) (f : Option Value → Store → OkOr A Failure) (go : ℕ → List Value → List Frame → Store → Option Value → List Value → Moved) → ((x : Bearer) → is_due (make x) ≡ false) → ((x : Bearer) (p : ℕ) (cells : List Value) (frames : List Frame) (s : Store) → act code t.line (make x) (core_at p cells frames s) ≡ with_bearer x s cells (go p cells frames s)) → ((p : ℕ) (cells : List Value) (frames : List Frame) (s : Store) (v : Option Value) (below : List Value) → go p cells frames s v below ≡ did t.line (f v s) (λ a. To (core_at (land a (p + 1)) below frames s))) → Lands code n (height t) same (with_owner t o make) land done (look t.line (λ s. if_ok (owner_value o s) (λ v. f v s)))
-  owner_lands t o make land f go calm acts goes = record {
-    by = λ p cells frames w high has in_.
-        let e = expression_of o in
-        let c = bearer_code t e in
-        let x : Placed = place (after_bearer t e) (make (bearer t e)) in
-        let end : p + length c + 1 ≡ p + length (c ++ x ∷ []) = omega (arith, length-append c (x ∷ [])) in
-        subst (λ o. Reaches code (at p cells frames w) (arrive (λ a w'. at (land a (p + length (c ++ x ∷ []))) cells frames w') frames o)) (looks_then t.line (value_if_any e w.store) f w ∙ ap (λ r. looked t.line (if_ok r (λ v. f v w.store)) w) (sym (owner_is o w.store)))
-        (bearer_join t e (x ∷ []) (λ a w'. at (land a (p + length (c ++ x ∷ []))) cells frames w') (λ v. look t.line (f v)) p cells frames w high has in_ (λ v on_top q found has'.
-        step_leads code x (core_at (p + length c) (on_top cells) frames w.store) w _ _ has'.0 (calm (bearer t e))
-        (acts (bearer t e) (p + length c) (on_top cells) frames w.store
-        ∙ found.reads cells (go (p + length c) (on_top cells) frames w.store) high
-        ∙ goes (p + length c) (on_top cells) frames w.store v cells)
-        (subst (λ o. Leads code w (did t.line (f v w.store) (λ a. To (core_at (land a (p + length c + 1)) cells frames w.store))) (arrive (λ a w'. at (land a (p + length (c ++ x ∷ []))) cells frames w') frames o)) (went (looked t.line (f v w.store) w))
-        (did_leads code t.line (f v w.store) _ w (λ a w'. at (land a (p + length (c ++ x ∷ []))) cells frames w') frames WentOn (λ a r.
-        onwards (subst (λ q. Reaches code (at (land a q) cells frames w) (Comes (at (land a (p + length (c ++ x ∷ []))) cells frames w))) (sym end) here))))));
-  }
+  owner_lands t o make land f go calm acts goes =
+      alike code n (height t) (λ w. looks_then t.line (value_if_any (expression_of o) w.store) f w ∙ ap (λ r. looked t.line (if_ok r (λ v. f v w.store)) w) (sym (owner_is o w.store)))
+      (bearer_lands t (expression_of o) make land done go (λ v. look t.line (f v)) calm acts (λ v p cells cells0 frames w high.
+      subst (λ m. Leads code w m (arrive (λ a w'. at (land a (p + 1)) cells frames w') frames (look t.line (f v) w))) (sym (goes p cells0 frames w.store v cells))
+      (subst (λ o. Leads code w (did t.line (f v w.store) (λ a. To (core_at (land a (p + 1)) cells frames w.store))) (arrive (λ a w'. at (land a (p + 1)) cells frames w') frames o)) (went (looked t.line (f v w.store) w))
+      (did_leads code t.line (f v w.store) _ w (λ a w'. at (land a (p + 1)) cells frames w') frames WentOn (λ a r. onwards here)))))

@@ -1,10 +1,15 @@
 -- Where an instruction leads: what holds of each state that it may lead to.
-use Rattle.std.proofs.Common.{ℕ, ◌==◌, Bool, true, false, List, [], ◌∷◌, length, Option, Some, None, Ok, Err, ℤ}
+use Rattle.std.proofs.Common.{◌≡◌, ℕ, zero, suc, ◌==◌, Bool, true, false, List, [], ◌∷◌, ◌++◌, length, Option, Some, None, Ok, Err, ℤ, refl, ap, subst}
 use Rattle.std.specs.Prelude.{Result, if◌then◌else◌}
-use Rattle.ss_code_instructions.proofs.Common.{at_height, cell_at, Core, did, Fails, Failure, fetched, fit, lies_above, Line, Moved, or_zero, Rest, Sends, Store, Stuck, take_off, Text, To, TypeError, Value, Walk, Whole, with_bearer, with_block, with_loop, with_operand_value, with_position, with_top_number, with_topmost, with_values, with_walk_in_cells}
+use Rattle.ss_code_instructions.proofs.Common.{at_height, cell_at, Core, did, Done, Fails, Failure, fetched, fit, Goes, lies_above, Line, MachineState, Moved, or_zero, Rest, Sends, Store, Stuck, take_off, Text, To, TypeError, Value, Walk, when_due, Whole, with_bearer, with_block, with_loop, with_operand_value, with_position, with_rest, with_top_number, with_topmost, with_values, with_walk_in_cells}
 use Rattle.ss_code_instructions.specs.Instructions.{Bearer, Before, FilingPlace, First, Held, Last, Operand, Ranked, Stays, Taken, Constant, After}
 use Rattle.ss_meaning.specs.Sets.{ByRule, Foremost, Hindmost, JustAfter, JustBefore, Filing as Position}
-use Rattle.ss_code_instructions.proofs.Keeping.{Only, Where}
+use Rattle.ss_code_instructions.proofs.Keeping.{Only}
+
+-- the ticks before and after a step
+abbrev pub AreTicks : Bool → ℕ → ℕ → Type 0
+AreTicks false n t = t ≡ n
+AreTicks true n t = suc t ≡ n
 
 module _ (Good : Core → Type 0) where
   -- an instruction leads only to what is good
@@ -27,10 +32,6 @@ module _ (Good : Core → Type 0) where
   pub fit_any : {A : Type 0} (o : Option A) (go : A → Moved) → ((a : A) → Every (go a)) → Every (fit o go)
   fit_any None go h = tt
   fit_any (Some a) go h = h a
-
-  pub fit_where : {A : Type 0} (P : A → Type 0) (o : Option A) (go : A → Moved) → Where P o → ((a : A) → P a → Every (go a)) → Every (fit o go)
-  fit_where P None go p h = tt
-  fit_where P (Some a) go p h = h a p
 
   pub if_every : (b : Bool) (m n : Moved) → Every m → Every n → Every (if b then m else n)
   if_every true m n h g = h
@@ -79,6 +80,19 @@ module _ (Good : Core → Type 0) where
 
   pub walk : (h : ℕ) (cells : List Value) (go : Walk → List Value → Moved) → ((w : Walk) (below : List Value) → Every (go w below)) → Every (with_walk_in_cells h cells go)
   walk h cells go k = number cells _ (λ next over. number over _ (λ member below. high h below _ (k (record { member = member; next = next }) below)))
+
+  -- a step that goes on leads to what is good, and takes a tick where one is due
+  rested : (r : List ℕ) (t : ℕ) (m : Moved) (x : MachineState) → Every m → with_rest r t m ≡ Goes x → Good x.core × (x.ticks ≡ t)
+  rested r t (To c) x k e = let q : record { core = c; report = r; ticks = t } ≡ x = cc in subst (λ (y : MachineState). Good y.core × (y.ticks ≡ t)) q (k, refl)
+  rested r t (Sends bytes c) x k e =
+      let q : record { core = c; report = r ++ bytes; ticks = t } ≡ x = cc in subst (λ (y : MachineState). Good y.core × (y.ticks ≡ t)) q (k, refl)
+  rested r t (Rest Done) x k e = absurd cc
+  rested r t _ x k e = absurd cc
+
+  pub after_step : (b : Bool) (r : List ℕ) (t : ℕ) (m : Moved) (x : MachineState) → Every m → when_due b r t m ≡ Goes x → Good x.core × AreTicks b t x.ticks
+  after_step false r t m x k e = rested r t m x k e
+  after_step true r zero m x k e = absurd cc
+  after_step true r (suc t) m x k e = let q = rested r t m x k e in (q.0, ap suc q.1)
 
 -- what is good is good otherwise
 pub every_so : (P Q : Core → Type 0) (m : Moved) → ((d : Core) → P d → Q d) → Every P m → Every Q m

@@ -1,11 +1,11 @@
 -- What an instruction finds in its operands, and what it leaves at its target.
-use Rattle.std.proofs.Common.{◌≡◌, ℕ, suc, ◌+◌, Bool, false, List, [], ◌∷◌, ◌++◌, length, Option, Some, None, Ok, Err, refl, sym, ap, ◌∙◌, subst, arith, ◌⊎◌, inl, inr, if◌then◌else◌}
+use Rattle.std.proofs.Common.{◌≡◌, ℕ, suc, ◌+◌, Bool, false, List, [], ◌∷◌, ◌++◌, length, Option, Some, None, Ok, Err, refl, sym, ap, ◌∙◌, subst, arith, length-append, ◌⊎◌, inl, inr, if◌then◌else◌}
 use Rattle.std.proofs.lemmas.Bool.{eq-eqb, le-ltb}
 use Rattle.std.specs.Prelude.{nat_lt, Result as OkOr}
-use Rattle.ss_code_instructions.proofs.Common.{after, assigned_variable, Attribute, Calculate, change, Clock, Code, Constant, core_at, deliver, deliver_with, did, Expression, expression_code, expression_mode, Fails, Failure, FaultKind, Fetch, fetched, Figure, FigureOf, Frame, height, Held, Into, leaf, lies_above, Line, look, looked, MachineState, Mode, Moved, next, OfMember, OfSet, OfSystemSet, Onto, onward, Operand, operand, operand_code, or_cell, or_in_cell, or_zero, outcome_then, Part, place, Placed, RunState, settle, settle_with, Signed, Site, Stays, Store, sure, Taken, Target, TimeOf, turned, TypeError, Unary, unless_leaf, Value, value, Variable, WentOn, where_fit, with_operand_value, with_values, Written}
+use Rattle.ss_code_instructions.proofs.Common.{act, after, assigned_variable, change, Code, Constant, core_at, deliver, deliver_with, did, Expression, expression_code, expression_mode, Fails, Failure, FaultKind, Fetch, fetched, Frame, height, Held, Instruction, Into, is_due, leaf, lies_above, Line, look, looked, MachineState, Mode, Moved, next, Onto, onward, Operand, operand, operand_code, or_cell, or_in_cell, or_zero, outcome_then, Part, place, Placed, RunState, settle, settle_with, Site, Stays, Store, sure, Taken, Target, turned, TypeError, unless_leaf, Value, value, Variable, WentOn, where_fit, with_operand, with_operand_value, with_values, Written}
 use Rattle.ss_code_instructions.specs.Instructions as i
 use Rattle.ss_code_instructions.proofs.Steps.{HasAt, has_front, has_back, Comes, Reaches, here, free, reaches_on, at, arrive}
-use Rattle.ss_code_instructions.proofs.Parts.{Within, Leads, onwards, breaks, whatever, at_the_height, Runs, same, put_on}
+use Rattle.ss_code_instructions.proofs.Parts.{Within, Leads, step_leads, onwards, breaks, whatever, at_the_height, Runs, same, put_on}
 
 -- ## Targets
 
@@ -47,9 +47,8 @@ computes code l to r p cells cells0 frames w h =
     (delivers code l to (turned {B = Value × Store} (λ v. (v, w.store)) r) p cells cells0 frames w h)
   where
     back : (r : OkOr Value Failure) → outcome_then (looked l (turned {B = Value × Store} (λ v. (v, w.store)) r) w) settle_with ≡ looked l r w
-    back (Ok v) = refl
     back (Err (Fails kind)) = refl
-    back (Err TypeError) = refl
+    back _ = refl
 
 -- ## Operands
 
@@ -73,17 +72,7 @@ sure_is (Some b) a e = let q : b ≡ a = cc in ap Some q
 pub leaf_is : (e : Expression) (x : Operand) → leaf e ≡ Some x → ((v : Value) × (e ≡ Constant v)) ⊎ ((y : Variable) × (e ≡ Fetch y))
 leaf_is (Constant u) x q = inl (u, refl)
 leaf_is (Fetch y) x q = inr (y, refl)
-leaf_is (Attribute class field e) x q = absurd cc
-leaf_is (OfSystemSet query set) x q = absurd cc
-leaf_is (OfSet query set e) x q = absurd cc
-leaf_is (OfMember query set e) x q = absurd cc
-leaf_is Clock x q = absurd cc
-leaf_is (TimeOf e) x q = absurd cc
-leaf_is (Figure fold j) x q = absurd cc
-leaf_is (FigureOf fold j e) x q = absurd cc
-leaf_is (Signed sign e) x q = absurd cc
-leaf_is (Unary op e) x q = absurd cc
-leaf_is (Calculate op a b) x q = absurd cc
+leaf_is _ x q = absurd cc
 
 -- a constant and a variable are read as they are
 pub leaf_reads : (e : Expression) (x : Operand) (v : Value) (s : Store) → leaf e ≡ Some x → value e s ≡ Ok v → (cells : List Value) (go : Value → List Value → Moved) → with_operand_value x s cells go ≡ go v cells
@@ -94,17 +83,7 @@ leaf_reads (Constant u) x v s q r cells go =
 leaf_reads (Fetch y) x v s q r cells go =
     let e : Held y ≡ x = cc in
     subst (λ x. with_operand_value x s cells go ≡ go v cells) e (ap (λ o. go (or_zero o) cells) (sure_is (fetched y s) v r))
-leaf_reads (Attribute class field e) x v s q _ cells go = absurd cc
-leaf_reads (OfSystemSet query set) x v s q _ cells go = absurd cc
-leaf_reads (OfSet query set e) x v s q _ cells go = absurd cc
-leaf_reads (OfMember query set e) x v s q _ cells go = absurd cc
-leaf_reads Clock x v s q _ cells go = absurd cc
-leaf_reads (TimeOf e) x v s q _ cells go = absurd cc
-leaf_reads (Figure fold j) x v s q _ cells go = absurd cc
-leaf_reads (FigureOf fold j e) x v s q _ cells go = absurd cc
-leaf_reads (Signed sign e) x v s q _ cells go = absurd cc
-leaf_reads (Unary op e) x v s q _ cells go = absurd cc
-leaf_reads (Calculate op a b) x v s q _ cells go = absurd cc
+leaf_reads _ x v s q _ cells go = absurd cc
 
 -- an operand gives the value of its expression, and takes its cell off
 pub reads : (t : Site) (e : Expression) (v : Value) (s : Store) (cells : List Value) (go : Value → List Value → Moved) → length cells ≡ height t → value e s ≡ Ok v → with_operand_value (operand t e) s (held (leaf e) v cells) go ≡ go v cells
@@ -122,33 +101,12 @@ less_not n = le-ltb (suc n) n (omega arith)
 pub leaf_low : (e : Expression) (x y : Operand) → leaf e ≡ Some x → lies_above x y ≡ false
 leaf_low (Constant u) x y q = let e : i.Constant u ≡ x = cc in subst (λ x. lies_above x y ≡ false) e refl
 leaf_low (Fetch z) x y q = let e : Held z ≡ x = cc in subst (λ x. lies_above x y ≡ false) e refl
-leaf_low (Attribute class field e) x y q = absurd cc
-leaf_low (OfSystemSet query set) x y q = absurd cc
-leaf_low (OfSet query set e) x y q = absurd cc
-leaf_low (OfMember query set e) x y q = absurd cc
-leaf_low Clock x y q = absurd cc
-leaf_low (TimeOf e) x y q = absurd cc
-leaf_low (Figure fold j) x y q = absurd cc
-leaf_low (FigureOf fold j e) x y q = absurd cc
-leaf_low (Signed sign e) x y q = absurd cc
-leaf_low (Unary op e) x y q = absurd cc
-leaf_low (Calculate op c d) x y q = absurd cc
+leaf_low _ x y q = absurd cc
 
 -- and takes no cell
 never_taken : (e : Expression) (k : ℕ) → leaf e ≡ Some (Taken k) → ⊥
 never_taken (Constant u) k q = cc
-never_taken (Fetch z) k q = cc
-never_taken (Attribute class field e) k q = cc
-never_taken (OfSystemSet query set) k q = cc
-never_taken (OfSet query set e) k q = cc
-never_taken (OfMember query set e) k q = cc
-never_taken Clock k q = cc
-never_taken (TimeOf e) k q = cc
-never_taken (Figure fold j) k q = cc
-never_taken (FigureOf fold j e) k q = cc
-never_taken (Signed sign e) k q = cc
-never_taken (Unary op e) k q = cc
-never_taken (Calculate op c d) k q = cc
+never_taken _ k q = cc
 
 second_above : (h : ℕ) (e : Expression) (o : Option Operand) → leaf e ≡ o → lies_above (Taken h) (or_cell (suc h) o) ≡ false
 second_above h e None q = less_not h
@@ -186,17 +144,7 @@ leaf_fine (Fetch y) x s kind q r = by (fetched y s) r
     by : (o : Option Value) → sure o ≡ Err (Fails kind) → ⊥
     by None r = cc
     by (Some v) r = cc
-leaf_fine (Attribute class field e) x s kind q _ = cc
-leaf_fine (OfSystemSet query set) x s kind q _ = cc
-leaf_fine (OfSet query set e) x s kind q _ = cc
-leaf_fine (OfMember query set e) x s kind q _ = cc
-leaf_fine Clock x s kind q _ = cc
-leaf_fine (TimeOf e) x s kind q _ = cc
-leaf_fine (Figure fold j) x s kind q _ = cc
-leaf_fine (FigureOf fold j e) x s kind q _ = cc
-leaf_fine (Signed sign e) x s kind q _ = cc
-leaf_fine (Unary op e) x s kind q _ = cc
-leaf_fine (Calculate op a b) x s kind q _ = cc
+leaf_fine _ x s kind q _ = cc
 
 module _ (code : Code) (n : ℕ) where
   -- the code of an operand evaluates its expression
@@ -228,6 +176,22 @@ module _ (code : Code) (n : ℕ) where
       join_look (at place cells frames w) (λ v w'. at (place + length (operand_code t e)) (held (leaf e) v cells) frames w') k frames t.line (value e w.store) w go
       (r.by place cells frames w high (has_front code.places place (operand_code t e) rest has) in_)
       (λ v q. f v q (has_back code.places place (operand_code t e) rest has))
+
+  -- an operand, and an instruction that reads it
+  pub read_runs : {B : Type 0} (t : Site) (e : Expression) → Evaluates t e → (make : Operand → Instruction) (put : B → List Value → List Value) (go : ℕ → List Value → List Frame → Store → Value → List Value → Moved) (f : Value → Part B) → ((x : Operand) → is_due (make x) ≡ false) → ((x : Operand) (p : ℕ) (cells : List Value) (frames : List Frame) (s : Store) → act code t.line (make x) (core_at p cells frames s) ≡ with_operand_value x s cells (go p cells frames s)) → ((v : Value) (p : ℕ) (cells cells0 : List Value) (frames : List Frame) (w : RunState) → length cells ≡ height t → Leads code w (go p cells0 frames w.store v cells) (arrive (λ b w'. at (p + 1) (put b cells) frames w') frames (f v w))) → Runs code n (height t) same (with_operand t e make) put (λ w. outcome_then (look t.line (value e) w) f)
+  read_runs {B} t e r make put go f calm acts leads = record {
+    by = λ p cells frames w high has in_.
+        let c : List Placed = operand_code t e in
+        let last : Placed = place (after t e) (make (operand t e)) in
+        let end : p + length c + 1 ≡ p + length (c ++ last ∷ []) = omega (arith, length-append c (last ∷ [])) in
+        let ends : B → RunState → MachineState = λ b w'. at (p + length (c ++ last ∷ [])) (put b cells) frames w' in
+        one_join t e r (last ∷ []) ends f p cells frames w high has in_ (λ v found has'.
+        step_leads code last (core_at (p + length c) (held (leaf e) v cells) frames w.store) w _ _ has'.0 (calm (operand t e))
+        (acts (operand t e) (p + length c) (held (leaf e) v cells) frames w.store
+        ∙ reads t e v w.store cells (go (p + length c) (held (leaf e) v cells) frames w.store) high found)
+        (subst (λ j. Leads code w (go (p + length c) (held (leaf e) v cells) frames w.store v cells) (arrive (λ b w'. at j (put b cells) frames w') frames (f v w))) end
+        (leads v (p + length c) cells (held (leaf e) v cells) frames w high)));
+  }
 
   -- two operands, and what follows
   pub two_join : {B : Type 0} (t : Site) (a b : Expression) → Evaluates t a → Evaluates (after t a) b → (rest : List Placed) (k : B → RunState → MachineState) (go : Value → Value → Part B) (place : ℕ) (cells : List Value) (frames : List Frame) (w : RunState) → length cells ≡ height t → HasAt code.places place (operand_code t a ++ (operand_code (after t a) b ++ rest)) → Within code n w → ((x y : Value) → value a w.store ≡ Ok x → value b w.store ≡ Ok y → HasAt code.places (place + length (operand_code t a) + length (operand_code (after t a) b)) rest → Reaches code (at (place + length (operand_code t a) + length (operand_code (after t a) b)) (held (leaf b) y (held (leaf a) x cells)) frames w) (arrive k frames (go x y w))) → Reaches code (at place cells frames w) (arrive k frames (outcome_then (look t.line (value a) w) (λ x w. outcome_then (look t.line (value b) w) (go x))))

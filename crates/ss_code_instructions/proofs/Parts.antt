@@ -1,6 +1,6 @@
 -- Code that does what a part of a program does: how such code is put together.
-use Rattle.std.proofs.Common.{◌≡◌, ℕ, zero, suc, ◌+◌, ◌≤◌, true, false, List, [], ◌∷◌, ◌++◌, length, Option, Some, None, Ok, Err, refl, sym, ap, ◌∙◌, subst, arith, length-append, if◌then◌else◌}
-use Rattle.ss_code_instructions.proofs.Common.{act, at_height, Breaks, change, Code, Core, core_at, did, Done, Ended, eq-eqb, Fails, Failure, Fault, FaultKind, fit, Frame, if_ok, is_due, Left, Line, look, looked, MachineState, Moved, Outcome, outcome_then, OutOfTicks, Part, Paused, Placed, Rest, run_at, RunState, Sends, settle, step_at, Store, Stuck, sure, take_tick, tick_from, To, turned, TypeError, Value, WentOn, when_due, with_rest}
+use Rattle.std.proofs.Common.{◌≡◌, ℕ, zero, suc, ◌+◌, ◌≤◌, true, false, List, [], ◌∷◌, ◌++◌, length, Some, Ok, Err, refl, sym, ap, ◌∙◌, subst, arith, length-append, if◌then◌else◌}
+use Rattle.ss_code_instructions.proofs.Common.{act, at_height, Breaks, change, Code, Core, core_at, did, Done, Ended, eq-eqb, Fails, Failure, Fault, FaultKind, Frame, if_ok, is_due, Left, Line, look, looked, MachineState, Moved, Outcome, outcome_then, OutOfTicks, Part, Paused, Placed, Rest, run_at, RunState, Sends, settle, step_at, Store, Stuck, take_tick, tick_from, To, turned, TypeError, Value, WentOn, when_due, with_rest}
 use Rattle.std.specs.Prelude.{slice_get, Result as OkOr}
 use Rattle.ss_code_instructions.proofs.Keeping.{Suits, suits_on}
 use Rattle.ss_code_instructions.proofs.Steps.{HasAt, has_front, has_back, Goal, Comes, Finishes, Free, Reaches, here, over, free, more, Kept, at, arrive, join}
@@ -78,10 +78,6 @@ module _ (code : Code) where
   did_leads l (Err (Fails kind)) go w k frames f h = breaks
   did_leads l (Err TypeError) go w k frames f h = whatever
 
-  pub fit_leads : {A B : Type 0} (l : Line) (o : Option A) (go : A → Moved) (w : RunState) (k : B → RunState → MachineState) (frames : List Frame) (f : A → Part B) → ((a : A) → o ≡ Some a → Leads code w (go a) (arrive k frames (f a w))) → Leads code w (fit o go) (arrive k frames (outcome_then (looked l (sure o) w) f))
-  fit_leads l (Some a) go w k frames f h = h a refl
-  fit_leads l None go w k frames f h = whatever
-
 -- ## Cells
 
 -- where there are as many cells as an instruction says
@@ -127,25 +123,17 @@ then_then (WentOn a w) f g = refl
 then_then (Left e w) f g = refl
 
 pub looks_then : {A B : Type 0} (l : Line) (r : OkOr A Failure) (g : A → Store → OkOr B Failure) (w : RunState) → outcome_then (looked l r w) (λ a. look l (g a)) ≡ looked l (if_ok r (λ a. g a w.store)) w
-looks_then l (Ok a) g w = refl
 looks_then l (Err (Fails k)) g w = refl
-looks_then l (Err TypeError) g w = refl
-
-pub looked_then : {A B D : Type 0} (l : Line) (r : OkOr A Failure) (g : A → OkOr B Failure) (f : B → Part D) (w : RunState) → outcome_then (looked l r w) (λ a w. outcome_then (looked l (g a) w) f) ≡ outcome_then (looked l (if_ok r g) w) f
-looked_then l (Ok a) g f w = refl
-looked_then l (Err (Fails k)) g f w = refl
-looked_then l (Err TypeError) g f w = refl
+looks_then l _ g w = refl
 
 -- two looks in turn, each at the present store
 pub look_then : {A B D : Type 0} (l : Line) (r : OkOr A Failure) (g : A → Store → OkOr B Failure) (f : B → Part D) (w : RunState) → outcome_then (looked l r w) (λ a w. outcome_then (look l (g a) w) f) ≡ outcome_then (looked l (if_ok r (λ a. g a w.store)) w) f
-look_then l (Ok a) g f w = refl
 look_then l (Err (Fails k)) g f w = refl
-look_then l (Err TypeError) g f w = refl
+look_then l _ g f w = refl
 
 pub turned_then : {A B D : Type 0} (l : Line) (r : OkOr A Failure) (g : A → B) (m : B → Part D) (w : RunState) → outcome_then (looked l r w) (λ a. m (g a)) ≡ outcome_then (looked l (turned g r) w) m
-turned_then l (Ok a) g m w = refl
 turned_then l (Err (Fails k)) g m w = refl
-turned_then l (Err TypeError) g m w = refl
+turned_then l _ g m w = refl
 
 module _ (code : Code) (n h : ℕ) where
   -- one part after another

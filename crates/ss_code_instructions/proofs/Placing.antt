@@ -1,16 +1,15 @@
 -- The code of FILE.
 use Rattle.std.proofs.Common.{◌≡◌, ℕ, ◌+◌, true, List, [], ◌∷◌, ◌++◌, length, Option, Some, None, Ok, Err, ℤ, refl, sym, ap, ◌∙◌, subst, arith, length-append}
 use Rattle.std.specs.Prelude.{slice_get, Result as OkOr}
-use Rattle.ss_code_instructions.proofs.Common.{act, after, after_bearer, AfterMember, AsFirst, AsLast, Bearer, bearer, bearer_code, BeforeMember, ByDiscipline, ByRule, change, Code, core_at, did, Discipline, due, Expression, expression_of, Fails, Failure, file_code, filed, filed_by, filed_in, Filing, filing_by, Foremost, Frame, height, Hindmost, if_ok, is_fit, JustAfter, JustBefore, leaf, look, looked, looked_at, looked_code, MachineState, may_fault, member, member_code, member_value, Moved, onward, Operand, operand, operand_code, outcome_then, owner_number, owner_value, Part, place, Placed, Position, recounted, RunState, SetOwner, Setting, setting_of, settle, Site, stay, Store, sure, turned, TypeError, Value, value, where_fit, with_bearer, with_operand_value, with_owner}
+use Rattle.ss_code_instructions.proofs.Common.{act, after, after_bearer, AfterMember, AsFirst, AsLast, Bearer, bearer, bearer_code, BeforeMember, ByDiscipline, ByRule, change, Code, core_at, did, Discipline, due, Expression, expression_of, Fails, Failure, file_code, filed, filed_by, filed_in, Filing, filing_by, Foremost, Frame, height, Hindmost, if_ok, is_fit, JustAfter, JustBefore, leaf, look, looked, looked_code, MachineState, may_fault, member, member_code, member_value, Moved, onward, Operand, operand, outcome_then, owner_number, owner_value, Part, place, Placed, Position, recounted, RunState, SetOwner, Setting, setting_of, settle, Site, Store, sure, turned, TypeError, Value, where_fit, with_bearer, with_operand_value, with_owner}
 use Rattle.ss_base.specs.declared.layout.Discipline.TheVariants as disciplines
 use Rattle.ss_meaning.specs.Statements.{file}
 use Rattle.ss_code_instructions.specs.Instructions as i
-use Rattle.ss_code_instructions.proofs.Steps.{HasAt, has_front, has_back, Comes, Reaches, here, at, arrive}
-use Rattle.ss_code_instructions.proofs.Parts.{Within, Leads, onwards, step_leads, did_leads, turned_then, Runs, same, done}
-use Rattle.ss_code_instructions.proofs.Operands.{held, held_height, reads, one_join}
-use Rattle.ss_code_instructions.proofs.Expressions.{evaluates}
+use Rattle.ss_code_instructions.proofs.Steps.{HasAt, Comes, Reaches, here, at, arrive}
+use Rattle.ss_code_instructions.proofs.Parts.{Within, onwards, step_leads, did_leads, turned_then, Runs, same, done}
+use Rattle.ss_code_instructions.proofs.Operands.{held, held_height, reads}
 use Rattle.ss_code_instructions.proofs.Looking.{owner_is, bearer_join}
-use Rattle.ss_code_instructions.proofs.Members.{LooksFirst, stay_reads, member_owner_run}
+use Rattle.ss_code_instructions.proofs.Members.{LooksFirst, looked_join, member_owner_run}
 use Rattle.ss_code_instructions.proofs.Attributes.{err_first}
 
 -- the code is that of the site's program
@@ -27,46 +26,19 @@ position_by (Some disciplines.Fifo) = Hindmost
 position_by (Some disciplines.Lifo) = Foremost
 position_by (Some (disciplines.Ranked keys)) = ByRule
 
+-- filed alike once the member and the owner are known
+filed_alike : (f : Filing) (set : ℕ) (s : Store) → ((m n : ℤ) → filed_by ByRule set m n s ≡ filed_by f set m n s) → (n m : OkOr ℤ Failure) → if_ok n (λ n. if_ok m (λ m. if_ok (filed_by ByRule set m n s) (recounted set m s))) ≡ if_ok n (λ n. if_ok m (λ m. if_ok (filed_by f set m n s) (recounted set m s)))
+filed_alike f set s e (Err t) m = refl
+filed_alike f set s e (Ok n) (Err t) = refl
+filed_alike f set s e (Ok n) (Ok m) = ap (λ r. if_ok r (recounted set m s)) (e m n)
+
 -- that is where the discipline has it
 by_rule : (d : Option Discipline) (set : ℕ) (x : Value) (o : Option Value) (s : Store) → slice_get s.world.setting.disciplines set ≡ d → filed_in ByRule set x o s ≡ filed_in (position_by d) set x o s
-by_rule None set x o s q = refl
-by_rule (Some (disciplines.Ranked keys)) set x o s q = refl
-by_rule (Some disciplines.Fifo) set x o s q = at_end (member set x s) (owner_number set o s)
-  where
-    at_end : (n m : OkOr ℤ Failure) → if_ok n (λ n. if_ok m (λ m. if_ok (filed_by ByRule set m n s) (recounted set m s))) ≡ if_ok n (λ n. if_ok m (λ m. if_ok (filed_by Hindmost set m n s) (recounted set m s)))
-    at_end (Err t) m = refl
-    at_end (Ok n) (Err t) = refl
-    at_end (Ok n) (Ok m) = ap (λ d. if_ok (if_ok (sure d) (λ d. where_fit (is_fit s.world.heap.layout set d) (due (filed s.world.heap d set m n)))) (recounted set m s)) q
-by_rule (Some disciplines.Lifo) set x o s q = at_front (member set x s) (owner_number set o s)
-  where
-    at_front : (n m : OkOr ℤ Failure) → if_ok n (λ n. if_ok m (λ m. if_ok (filed_by ByRule set m n s) (recounted set m s))) ≡ if_ok n (λ n. if_ok m (λ m. if_ok (filed_by Foremost set m n s) (recounted set m s)))
-    at_front (Err t) m = refl
-    at_front (Ok n) (Err t) = refl
-    at_front (Ok n) (Ok m) = ap (λ d. if_ok (if_ok (sure d) (λ d. where_fit (is_fit s.world.heap.layout set d) (due (filed s.world.heap d set m n)))) (recounted set m s)) q
+by_rule (Some disciplines.Fifo) set x o s q = filed_alike Hindmost set s (λ m n. ap (λ d. if_ok (sure d) (λ d. where_fit (is_fit s.world.heap.layout set d) (due (filed s.world.heap d set m n)))) q) (member set x s) (owner_number set o s)
+by_rule (Some disciplines.Lifo) set x o s q = filed_alike Foremost set s (λ m n. ap (λ d. if_ok (sure d) (λ d. where_fit (is_fit s.world.heap.layout set d) (due (filed s.world.heap d set m n)))) q) (member set x s) (owner_number set o s)
+by_rule _ set x o s q = refl
 
 module _ (code : Code) (n : ℕ) where
-  -- a member that is looked at, and what follows
-  looked_join : {B : Type 0} (t : Site) (set : ℕ) (e : Expression) (rest : List Placed) (k : B → RunState → MachineState) (go : Value → Part B) (p : ℕ) (cells : List Value) (frames : List Frame) (w : RunState) → length cells ≡ height t → HasAt code.places p (member_code t true set e ++ rest) → Within code n w → ((v : Value) → value e w.store ≡ Ok v → HasAt code.places (p + length (member_code t true set e)) rest → Reaches code (at (p + length (member_code t true set e)) (held (leaf e) v cells) frames w) (arrive k frames (go v w))) → Reaches code (at p cells frames w) (arrive k frames (outcome_then (look t.line (member_value set e) w) go))
-  looked_join t set e rest k go p cells frames w high has in_ f =
-      let c : List Placed = operand_code t e in
-      let look_ : Placed = place (after t e) (i.LookMember set (stay (operand t e))) in
-      let front : List Placed = c ++ look_ ∷ [] in
-      let end : p + length c + 1 ≡ p + length front = omega (arith, length-append c (look_ ∷ [])) in
-      let h0 = has_front code.places p front rest has in
-      let h1 = has_back code.places p front rest has in
-      subst (λ o. Reaches code (at p cells frames w) (arrive k frames o)) (member_then (value e w.store))
-      (one_join code n t e (evaluates code n t e) (look_ ∷ []) k (λ v w. outcome_then (looked t.line (turned (λ n. v) (member set v w.store)) w) go) p cells frames w high h0 in_ (λ v r h'.
-      step_leads code look_ (core_at (p + length c) (held (leaf e) v cells) frames w.store) w _ _ h'.0 refl
-      (stay_reads t e v w.store cells (λ x below. did t.line (member set x w.store) (λ _. onward below (core_at (p + length c) (held (leaf e) v cells) frames w.store) w.store)) high r)
-      (subst (λ z. Leads code w (did t.line (member set v w.store) (λ _. onward (held (leaf e) v cells) (core_at (p + length c) (held (leaf e) v cells) frames w.store) w.store)) (arrive k frames z)) (turned_then t.line (member set v w.store) (λ n. v) go w)
-      (did_leads code t.line (member set v w.store) _ w k frames (λ n. go v) (λ m z.
-      onwards (subst (λ j. Reaches code (at j (held (leaf e) v cells) frames w) (arrive k frames (go v w))) (sym end) (f v r h1)))))))
-    where
-      member_then : (r : OkOr Value Failure) → outcome_then (looked t.line r w) (λ v w. outcome_then (looked t.line (turned (λ n. v) (member set v w.store)) w) go) ≡ outcome_then (looked t.line (if_ok r (looked_at (λ x. member set x w.store))) w) go
-      member_then (Ok v) = refl
-      member_then (Err (Fails kind)) = refl
-      member_then (Err TypeError) = refl
-
   -- ## Where no other member is beside it
 
   alone_runs : (t : Site) (set : ℕ) (e : Expression) (o : SetOwner) (f : i.FilingPlace) (g : Filing) → ((x : Operand) (y : Bearer) (p : ℕ) (cells : List Value) (frames : List Frame) (s : Store) → act code t.line (i.File f set x y) (core_at p cells frames s) ≡ with_bearer y s cells (λ u above. with_operand_value x s above (λ v below. did t.line (filed_in g set v u s) (λ u. onward below (core_at p cells frames s) u)))) → (p : ℕ) (cells : List Value) (frames : List Frame) (w : RunState) → length cells ≡ height t → HasAt code.places p (looked_code t (may_fault (expression_of o)) e (i.LookMember set) ++ with_owner (after t e) o (i.File f set (operand t e))) → Within code n w → Reaches code (at p cells frames w) (arrive (λ (u : Unit {0}) w'. at (p + length (looked_code t (may_fault (expression_of o)) e (i.LookMember set) ++ with_owner (after t e) o (i.File f set (operand t e)))) cells frames w') frames (outcome_then (look t.line (member_value set e) w) (λ v w. outcome_then (look t.line (owner_value o) w) (λ u. change t.line (filed_in g set v u)))))
@@ -114,11 +86,11 @@ module _ (code : Code) (n : ℕ) where
       let end : p + length ce + length cy + length co + 1 ≡ p + length all = omega (arith, length-append ce (cy ++ (co ++ last ∷ [])), length-append cy (co ++ last ∷ []), length-append co (last ∷ [])) in
       let ends : Unit {0} → RunState → MachineState = λ u w'. at (p + length all) cells frames w' in
       let then_ : Value → Filing → Part (Unit {0}) = λ v h w. outcome_then (look t.line (owner_value o) w) (λ u. change t.line (filed_in h set v u)) in
-      looked_join t set e (cy ++ (co ++ last ∷ [])) ends (λ v w. outcome_then (look t.line (λ s. turned g (member_value set y s)) w) (then_ v)) p cells frames w high has in_ (λ v found_v has1.
+      looked_join code n t e (i.LookMember set) (member set) (λ x. refl) (λ x p cells frames s. refl) (cy ++ (co ++ last ∷ [])) ends (λ v w. outcome_then (look t.line (λ s. turned g (member_value set y s)) w) (then_ v)) p cells frames w high has in_ (λ v found_v has1.
       let c1 : List Value = held (leaf e) v cells in
       let high1 : length c1 ≡ height t1 = held_height t e v cells high in
       subst (λ z. Reaches code (at (p + length ce) c1 frames w) (arrive ends frames z)) (turned_then t.line (member_value set y w.store) g (then_ v) w)
-      (looked_join t1 set y (co ++ last ∷ []) ends (λ k. then_ v (g k)) (p + length ce) c1 frames w high1 has1 in_ (λ k found_k has2.
+      (looked_join code n t1 y (i.LookMember set) (member set) (λ x. refl) (λ x p cells frames s. refl) (co ++ last ∷ []) ends (λ k. then_ v (g k)) (p + length ce) c1 frames w high1 has1 in_ (λ k found_k has2.
       let c2 : List Value = held (leaf y) k c1 in
       let high2 : length c2 ≡ height t2 = held_height t1 y k c1 high1 in
       subst (λ r. Reaches code (at (p + length ce + length cy) c2 frames w) (arrive ends frames (outcome_then (looked t.line r w) (λ u. change t.line (filed_in (g k) set v u))))) (sym (owner_is o w.store))

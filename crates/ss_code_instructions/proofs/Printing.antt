@@ -119,9 +119,8 @@ lines_meant xs pictures s =
     ∙ ap (λ o. if_ok o (λ ys. sure (printed pictures ys))) (items_shown xs s)
 
 then_sent : {A : Type 0} (l : Line) (r : OkOr A Failure) (g : A → Store → OkOr (List ℕ) Failure) (w : RunState) → outcome_then (looked l r w) (λ a w. outcome_then (look l (g a) w) send) ≡ outcome_then (looked l (if_ok r (λ a. g a w.store)) w) send
-then_sent l (Ok a) g w = refl
 then_sent l (Err (Fails k)) g w = refl
-then_sent l (Err TypeError) g w = refl
+then_sent l _ g w = refl
 
 fit_lines : (l : Line) (o : Option (List Item)) (pictures : List (List ℕ)) (go : List ℕ → Moved) → fit o (λ xs. fit (printed pictures xs) go) ≡ did l (if_ok (sure o) (λ xs. sure (printed pictures xs))) go
 fit_lines l None pictures go = refl

@@ -7,7 +7,7 @@ use Rattle.std.specs.Int.{int_min}
 use Rattle.ss_base.specs.declared.fault.FaultKind.TheVariants.{LoopStep}
 use Rattle.ss_meaning.specs.Loops.{EndsLoop, GoesOn, indices, IsFound, over, range_of, Turn, visit, greatest, Range, items_from, range_items, after_turn, over_items, step_number, range}
 use Rattle.ss_code_instructions.specs.Instructions as i
-use Rattle.ss_code_instructions.proofs.Keeping.{Only}
+use Rattle.ss_code_instructions.proofs.Keeping.{Only, each}
 use Rattle.ss_code_instructions.proofs.Steps.{HasAt, has_front, has_back, Comes, Reaches, free, reaches_on, at, arrive, join}
 use Rattle.ss_code_instructions.proofs.Parts.{Within, within_on, at_the_height, Lands, same, done, put_on, seq_look, alike, look_lands, above as above_cells}
 use Rattle.ss_code_instructions.proofs.Expressions.{value_runs}
@@ -213,12 +213,8 @@ rises_of (Whole x) (Whole y) z = by (step_number z)
     by (Ok c) = unless_ c (int_lt c (pos 1)) refl
     by (Err e) = tt
 
-only_any : {A B : Type 0} (Q : B → Type 0) (r : OkOr A Failure) (f : A → OkOr B Failure) → ((a : A) → Only Q (f a)) → Only Q (if_ok r f)
-only_any Q (Ok a) f h = h a
-only_any Q (Err e) f h = tt
-
 pub range_rises : (a b : Expression) (c : Option Expression) (s : Store) → Only Rises (range a b c s)
-range_rises a b c s = only_any Rises (value a s) _ (λ x. only_any Rises (value b s) _ (λ y. only_any Rises (value_if_any c s) _ (λ z. rises_of x y z)))
+range_rises a b c s = each Rises (value a s) _ (λ x. each Rises (value b s) _ (λ y. each Rises (value_if_any c s) _ (λ z. rises_of x y z)))
 
 pub indices_rise : (class : ℕ) (s : Store) → Only Rises (indices class s)
 indices_rise class s = by (is_permanent (class_at class s))

@@ -1,17 +1,16 @@
 -- The code of a place that takes what an instruction leaves: READ and CREATE.
-use Rattle.std.proofs.Common.{◌≡◌, ℕ, ◌+◌, false, List, [], ◌∷◌, ◌++◌, length, Option, Some, None, Ok, Err, ℤ, refl, sym, ap, ◌∙◌, subst, arith, length-append, ◌⊎◌, inl, inr}
+use Rattle.std.proofs.Common.{◌≡◌, ℕ, ◌+◌, true, false, List, [], ◌∷◌, ◌++◌, length, Option, Some, None, Ok, Err, refl, sym, ap, ◌∙◌, subst, arith, length-append, ◌⊎◌, inl, inr}
 use Rattle.std.specs.Prelude.{slice_get, Result as OkOr}
-use Rattle.ss_code_instructions.proofs.Common.{above, act, after, assigned_attribute, class_at, Clock, Code, Constant, core_at, count_code, CountedClass, created, deliver_with, did, due, entity, Expression, Fails, Failure, Fetch, fetched, Frame, get, Global, height, if_ok, InAttribute, InCount, InputTarget, Integer, is_due, is_single, leaf, Line, Local, looked, looked_at, MachineState, made_one, Mode, Moved, next, onward, operand, operand_code, or_cell, outcome_then, Part, Place, place, reads_code, RunState, settle_with, Site, stay, Store, sure, to_place_code, ToAttribute, ToCount, ToVariable, turned, TypeError, Value, value, value_given, Variable, WentOn, with_new, with_operand_value, with_values, write}
+use Rattle.ss_code_instructions.proofs.Common.{above, act, after, assigned_attribute, class_at, Clock, Code, Constant, core_at, CountedClass, created, deliver_with, due, entity, entity_code, Expression, Fails, Failure, Fetch, fetched, Frame, get, Global, height, if_ok, InAttribute, InputTarget, Integer, is_due, is_single, leaf, Line, Local, looked, looked_at, MachineState, made_one, Mode, Moved, next, operand, or_cell, outcome_then, Part, Place, place, reads_code, RunState, settle_with, Site, Store, sure, to_place_code, ToAttribute, ToCount, ToVariable, TypeError, Value, value, value_given, Variable, WentOn, with_new, with_operand_value, with_values, write}
 use Rattle.ss_code_instructions.specs.Instructions.{Instruction, Operand, Placed, Taken, Target as To}
 use Rattle.ss_meaning.specs.Statements.{give_to, read_value, with_input, read_each}
 use Rattle.ss_code_instructions.specs.Instructions as i
 use Rattle.ss_code_instructions.proofs.Keeping.{Only, Says, made, fitting}
-use Rattle.ss_code_instructions.proofs.Steps.{HasAt, has_front, has_back, Reaches, at, arrive, join, join_known}
-use Rattle.ss_code_instructions.proofs.Parts.{onwards, step_leads, did_leads, at_the_height, Runs, same, done, went, seq, none}
-use Rattle.ss_code_instructions.proofs.Operands.{on, Tops, put_then, delivers, held, held_height, leaf_is, leaf_reads, not_above, one_join}
-use Rattle.ss_code_instructions.proofs.Expressions.{evaluates}
-use Rattle.ss_code_instructions.proofs.Members.{stay_reads}
-use Rattle.ss_code_instructions.proofs.Assigning.{variable_runs, count_run}
+use Rattle.ss_code_instructions.proofs.Steps.{has_front, has_back, Reaches, at, arrive, join_known}
+use Rattle.ss_code_instructions.proofs.Parts.{step_leads, at_the_height, Runs, same, done, put_on, went, seq, alike, none, turned_then}
+use Rattle.ss_code_instructions.proofs.Operands.{on, Tops, put_then, delivers, held, held_height, leaf_is, leaf_reads, not_above}
+use Rattle.ss_code_instructions.proofs.Members.{looked_join}
+use Rattle.ss_code_instructions.proofs.Assigning.{variable_runs, count_taken}
 use Rattle.ss_code_instructions.proofs.Attributes.{two_change}
 use Rattle.ss_code_instructions.proofs.Changing.{by_order}
 
@@ -80,59 +79,29 @@ module _ (code : Code) (n : ℕ) where
   Sources source l m = (u : Site) (to : To) → u.line ≡ l → Tops to (height u) → Runs code n (height u) same (source u to) (on to) (λ w. outcome_then (m w) (put_then l to))
 
   to_count_runs : (t : Site) (mode : Mode) (c : CountedClass) (source : Site → To → List Placed) (m : Part Value) → Sources source t.line m → Runs code n (height t) same (to_place_code t (ToCount c) mode source) done (give_to t.line (ToCount c) m)
-  to_count_runs t mode c source m r = record {
-    by = λ p cells frames w high has in_.
-        let s : List Placed = source t (next t) in
-        let last : List Placed = count_code (above t mode) c (Taken (height t)) in
-        let end : p + length s + 2 ≡ p + length (s ++ last) = omega (arith, length-append s last) in
-        join (at p cells frames w) (λ v w'. at (p + length s) (v ∷ cells) frames w') (λ o w'. at (p + length (s ++ last)) cells frames w') frames (m w) (write t.line (InCount c))
-        (subst (λ o. Reaches code (at p cells frames w) (arrive (λ v w'. at (p + length s) (v ∷ cells) frames w') frames o)) (went (m w))
-        ((r t (next t) refl refl).by p cells frames w high (has_front code.places p s last has) in_))
-        (λ v w' k.
-        subst (λ j. Reaches code (at (p + length s) (v ∷ cells) frames w') (arrive (λ o w'. at j cells frames w') frames (write t.line (InCount c) v w'))) end
-        (count_run code (above t mode) c (Taken (height t)) v (p + length s) (v ∷ cells) cells frames w' (λ go. at_the_height (height t) cells (go v cells) high) (has_back code.places p s last has)));
-  }
+  to_count_runs t mode c source m r =
+      seq code n (height t) {mid = put_on} (alike code n (height t) (λ w. went (m w)) (r t (next t) refl refl)) (λ v. count_taken code n t mode c v)
 
   to_attribute_runs : (t : Site) (mode : Mode) (class field : ℕ) (r : Expression) (source : Site → To → List Placed) (m : Part Value) → Quietly m → Sources source t.line m → Runs code n (height t) same (to_place_code t (ToAttribute class field r) mode source) done (give_to t.line (ToAttribute class field r) m)
   to_attribute_runs t mode class field r source m quiet runs = record {
     by = λ p cells frames w high has in_.
-        let c : List Placed = operand_code t r in
-        let look_ : Placed = place (after t r) (i.LookEntity class (stay (operand t r))) in
-        let front : List Placed = c ++ look_ ∷ [] in
+        let front : List Placed = entity_code t true class r in
         let s : List Placed = source (after t r) (next (after t r)) in
         let set_ : Placed = place (above (after t r) mode) (i.SetAttribute class field (operand t r) (Taken (height (after t r)))) in
         let last : List Placed = set_ ∷ [] in
-        let end : p + length c + 1 + length s + 1 ≡ p + length (front ++ (s ++ last)) = omega (arith, length-append front (s ++ last), length-append c (look_ ∷ []), length-append s last) in
-        let middle : p + length front ≡ p + length c + 1 = omega (arith, length-append c (look_ ∷ [])) in
-        let h0 = has_front code.places p front (s ++ last) has in
-        let h1 = subst (λ j. HasAt code.places j (s ++ last)) middle (has_back code.places p front (s ++ last) has) in
+        let end : p + length front + length s + 1 ≡ p + length (front ++ (s ++ last)) = omega (arith, length-append front (s ++ last), length-append s last) in
         let ends : Unit {0} → RunState → MachineState = λ o w'. at (p + length (front ++ (s ++ last))) cells frames w' in
-        subst (λ o. Reaches code (at p cells frames w) (arrive ends frames o)) (spot_first t.line class field m (value r w.store) w)
-        (one_join code n t r (evaluates code n t r) (look_ ∷ []) ends (placed t.line class field m) p cells frames w high h0 in_ (λ v found has'.
-        step_leads code look_ (core_at (p + length c) (held (leaf r) v cells) frames w.store) w _ _ has'.0 refl
-        (stay_reads t r v w.store cells (λ x below. did t.line (entity class x w.store) (λ _. onward below (core_at (p + length c) (held (leaf r) v cells) frames w.store) w.store)) high found)
-        (did_leads code t.line (entity class v w.store) _ w ends frames (λ a w. outcome_then (m w) (write t.line (InAttribute class field v))) (λ a known.
-        onwards
-        (join_known (at (p + length c + 1) (held (leaf r) v cells) frames w) (λ z w'. at (p + length c + 1 + length s) (z ∷ held (leaf r) v cells) frames w') ends frames (m w) (write t.line (InAttribute class field v))
-        (subst (λ o. Reaches code (at (p + length c + 1) (held (leaf r) v cells) frames w) (arrive (λ z w'. at (p + length c + 1 + length s) (z ∷ held (leaf r) v cells) frames w') frames o)) (went (m w))
-        ((runs (after t r) (next (after t r)) refl refl).by (p + length c + 1) (held (leaf r) v cells) frames w (held_height t r v cells high) (has_front code.places (p + length c + 1) s last h1) in_))
+        subst (λ o. Reaches code (at p cells frames w) (arrive ends frames o)) (turned_then t.line (if_ok (value r w.store) (looked_at (λ x. entity class x w.store))) (InAttribute class field) (λ q w. outcome_then (m w) (write t.line q)) w)
+        (looked_join code n t r (i.LookEntity class) (entity class) (λ x. refl) (λ x p cells frames s. refl) (s ++ last) ends (λ v w. outcome_then (m w) (write t.line (InAttribute class field v))) p cells frames w high has in_ (λ v found has'.
+        let q : ℕ = p + length front in
+        let c1 : List Value = held (leaf r) v cells in
+        join_known (at q c1 frames w) (λ z w'. at (q + length s) (z ∷ c1) frames w') ends frames (m w) (write t.line (InAttribute class field v))
+        (subst (λ o. Reaches code (at q c1 frames w) (arrive (λ z w'. at (q + length s) (z ∷ c1) frames w') frames o)) (went (m w))
+        ((runs (after t r) (next (after t r)) refl refl).by q c1 frames w (held_height t r v cells high) (has_front code.places q s last has') in_))
         (λ z w' gave k.
-        subst (λ j. Reaches code (at (p + length c + 1 + length s) (z ∷ held (leaf r) v cells) frames w') (arrive (λ o w'. at j cells frames w') frames (write t.line (InAttribute class field v) z w'))) end
-        (two_change code n set_ (operand t r) (Taken (height (after t r))) (assigned_attribute class field) v z (p + length c + 1 + length s) (z ∷ held (leaf r) v cells) cells frames w' refl refl (λ go. top_takes t r v z w.store w'.store cells go high found (quiet w w' z gave)) (has_back code.places (p + length c + 1) s last h1).0)))))));
+        subst (λ j. Reaches code (at (q + length s) (z ∷ c1) frames w') (arrive (λ o w'. at j cells frames w') frames (write t.line (InAttribute class field v) z w'))) end
+        (two_change code n set_ (operand t r) (Taken (height (after t r))) (assigned_attribute class field) v z (q + length s) (z ∷ c1) cells frames w' refl refl (λ go. top_takes t r v z w.store w'.store cells go high found (quiet w w' z gave)) (has_back code.places q s last has').0))));
   }
-    where
-      placed : Line → (class field : ℕ) → Part Value → Value → Part (Unit {0})
-      placed l class field m v w = outcome_then (looked l (entity class v w.store) w) (λ a w. outcome_then (m w) (write l (InAttribute class field v)))
-
-      spot_first : (l : Line) (class field : ℕ) (m : Part Value) (r : OkOr Value Failure) (w : RunState) → outcome_then (looked l r w) (placed l class field m) ≡ outcome_then (looked l (turned (InAttribute class field) (if_ok r (looked_at (λ x. entity class x w.store)))) w) (λ q w. outcome_then (m w) (write l q))
-      spot_first l class field m (Err (Fails kind)) w = refl
-      spot_first l class field m (Err TypeError) w = refl
-      spot_first l class field m (Ok v) w = by (entity class v w.store)
-        where
-          by : (k : OkOr ℤ Failure) → outcome_then (looked l k w) (λ a w. outcome_then (m w) (write l (InAttribute class field v))) ≡ outcome_then (looked l (turned (InAttribute class field) (turned (λ n. v) k)) w) (λ q w. outcome_then (m w) (write l q))
-          by (Ok a) = refl
-          by (Err (Fails kind)) = refl
-          by (Err TypeError) = refl
 
   pub to_place_runs : (t : Site) (p : Place) (mode : Mode) (source : Site → To → List Placed) (m : Part Value) → Quietly m → Sources source t.line m → Runs code n (height t) same (to_place_code t p mode source) done (give_to t.line p m)
   to_place_runs t (ToVariable x) mode source m quiet r = variable_runs code n t x (source t) m (λ to tops. r t to refl tops)

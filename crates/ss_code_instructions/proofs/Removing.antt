@@ -1,14 +1,14 @@
 -- The code of REMOVE, REMOVE FIRST and REMOVE LAST.
-use Rattle.std.proofs.Common.{◌≡◌, ℕ, ◌+◌, List, [], ◌∷◌, ◌++◌, length, Option, Ok, Err, ℤ, refl, sym, subst, arith, length-append}
+use Rattle.std.proofs.Common.{◌≡◌, ℕ, ◌+◌, List, length, Option, Ok, Err, ℤ, refl, sym, ap, ◌∙◌, subst}
 use Rattle.std.specs.Prelude.{Result as OkOr}
-use Rattle.ss_code_instructions.proofs.Common.{after_bearer, all_noting, bearer, bearer_code, Code, core_at, count_in, deliver_with, due, End, end_removed, Expression, expression_of, Fails, Failure, Frame, get, height, Integer, Line, look, looked, MachineState, member, Moved, OfCount, onward, outcome_then, owner_number, owner_value, Part, Place, place, Placed, recounted, remove_code, remove_end_code, removed_at, removed_from, RunState, SetOwner, settle, Site, State, Store, TypeError, Value, WentOn, Whole, with_heap, with_histories, with_owner}
+use Rattle.ss_code_instructions.proofs.Common.{all_noting, Code, core_at, count_in, deliver_with, due, End, end_removed, Expression, expression_of, Fails, Failure, Frame, get, height, Integer, Line, look, looked, MachineState, member, Moved, OfCount, onward, outcome_then, owner_number, owner_value, Place, recounted, remove_code, remove_end_code, removed_at, removed_from, RunState, SetOwner, settle, Site, State, Store, TypeError, Value, WentOn, Whole, with_heap, with_histories, with_owner}
 use Rattle.ss_meaning.specs.Statements.{give_to, remove, remove_end}
 use Rattle.ss_code_instructions.specs.Instructions as i
 use Rattle.ss_code_instructions.proofs.Keeping.{Only, each, made, made_from}
-use Rattle.ss_code_instructions.proofs.Steps.{Comes, Reaches, here, at, arrive}
-use Rattle.ss_code_instructions.proofs.Parts.{Leads, onwards, step_leads, Runs, same, done, then_then}
+use Rattle.ss_code_instructions.proofs.Steps.{Comes, Reaches, here, at}
+use Rattle.ss_code_instructions.proofs.Parts.{onwards, Runs, same, done, at_end, then_then, alike}
 use Rattle.ss_code_instructions.proofs.Operands.{on, Tops, put_then, delivers}
-use Rattle.ss_code_instructions.proofs.Looking.{owner_is, bearer_join}
+use Rattle.ss_code_instructions.proofs.Looking.{owner_is, bearer_lands}
 use Rattle.ss_code_instructions.proofs.Members.{LooksFirst, member_owner_run}
 use Rattle.ss_code_instructions.proofs.Attributes.{err_first}
 use Rattle.ss_code_instructions.proofs.Receiving.{Alike, Quietly, Sources, get_quietly, to_place_runs}
@@ -41,22 +41,10 @@ module _ (code : Code) (n : ℕ) where
   -- what removes a member at an end leaves it at a target
   end_source : (l : Line) (end : End) (set : ℕ) (o : SetOwner) → Sources code n (λ u to. with_owner u o (λ x. i.RemoveEnd end set x to)) l (remove_end l end set o)
   end_source l end set o u to e tops =
-      subst (λ k. Runs code n (height u) same (with_owner u o (λ x. i.RemoveEnd end set x to)) (on to) (λ w. outcome_then (remove_end k end set o w) (put_then k to))) e (record {
-        by = λ p cells frames w high has in_.
-            let x : Option Expression = expression_of o in
-            let c : List Placed = bearer_code u x in
-            let last : Placed = place (after_bearer u x) (i.RemoveEnd end set (bearer u x) to) in
-            let long : p + length c + 1 ≡ p + length (c ++ last ∷ []) = omega (arith, length-append c (last ∷ [])) in
-            let ends : Value → RunState → MachineState = λ v w'. at (p + length (c ++ last ∷ [])) (on to v cells) frames w' in
-            let go : Option Value → Part Value = λ y w. outcome_then (get u.line (removed_at end set y) w) (put_then u.line to) in
-            subst (λ k. Reaches code (at p cells frames w) (arrive ends frames k)) (sym (then_then (look u.line (owner_value o) w) (λ y. get u.line (removed_at end set y)) (put_then u.line to)))
-            (subst (λ r. Reaches code (at p cells frames w) (arrive ends frames (outcome_then (looked u.line r w) go))) (sym (owner_is o w.store))
-            (bearer_join code n u x (last ∷ []) ends go p cells frames w high has in_ (λ y on_top q found has'.
-            step_leads code last (core_at (p + length c) (on_top cells) frames w.store) w _ _ has'.0 refl
-            (found.reads cells (λ y below. deliver_with u.line to (removed_at end set y w.store) below (core_at (p + length c) (on_top cells) frames w.store)) high)
-            (subst (λ j. Leads code w (deliver_with u.line to (removed_at end set y w.store) cells (core_at (p + length c) (on_top cells) frames w.store)) (arrive (λ v w'. at j (on to v cells) frames w') frames (go y w))) long
-            (delivers code u.line to (removed_at end set y w.store) (p + length c) cells (on_top cells) frames w (subst (Tops to) (sym high) tops))))));
-      })
+      subst (λ k. Runs code n (height u) same (with_owner u o (λ x. i.RemoveEnd end set x to)) (on to) (λ w. outcome_then (remove_end k end set o w) (put_then k to))) e
+      (alike code n (height u) (λ w. ap (λ r. outcome_then (looked u.line r w) (λ y w. outcome_then (get u.line (removed_at end set y) w) (put_then u.line to))) (sym (owner_is o w.store)) ∙ sym (then_then (look u.line (owner_value o) w) (λ y. get u.line (removed_at end set y)) (put_then u.line to)))
+      (bearer_lands code n u (expression_of o) (λ x. i.RemoveEnd end set x to) at_end (on to) (λ p cells0 frames s y below. deliver_with u.line to (removed_at end set y s) below (core_at p cells0 frames s)) (λ y w. outcome_then (get u.line (removed_at end set y) w) (put_then u.line to)) (λ x. refl) (λ x p cells frames s. refl) (λ y p cells cells0 frames w high.
+      delivers code u.line to (removed_at end set y w.store) p cells cells0 frames w (subst (Tops to) (sym high) tops))))
 
   end_stays : (l : Line) (end : End) (set : ℕ) (o : SetOwner) → Quietly (remove_end l end set o)
   end_stays l end set o w w' z e = by (owner_value o w.store) e

@@ -9,7 +9,7 @@ use Rattle.ss_code_instructions.proofs.Steps.{Reaches, at, arrive}
 use Rattle.ss_code_instructions.proofs.Parts.{at_the_height, Runs, done, put_on, seq, none, above as above_cells}
 use Rattle.ss_code_instructions.proofs.Operands.{held, leaf_reads, leaf_low, one_join}
 use Rattle.ss_code_instructions.proofs.Expressions.{evaluates}
-use Rattle.ss_code_instructions.proofs.Assigning.{assigns, count_run}
+use Rattle.ss_code_instructions.proofs.Assigning.{assigns, count_taken}
 use Rattle.ss_code_instructions.proofs.Attributes.{err_first, two_change}
 use Rattle.ss_code_instructions.proofs.Changing.{by_order}
 use Rattle.ss_code_instructions.proofs.Stacked.{two_off}
@@ -51,10 +51,7 @@ module _ (code : Code) (n : ℕ) where
   }
 
   give_count : (t : Site) (c : CountedClass) (z : Value) → Runs code n (height t) (put_on z) (give_code t (ToCount c)) done (give_to t.line (ToCount c) (WentOn z))
-  give_count t c z = record {
-    by = λ p cells frames w high has in_.
-        count_run code (above t Integer) c (Taken (height t)) z p (z ∷ cells) cells frames w (λ go. at_the_height (height t) cells (go z cells) high) has;
-  }
+  give_count t c z = count_taken code n t Integer c z
 
   give_attribute : (t : Site) (class field : ℕ) (r : Expression) (z : Value) → Runs code n (height t) (put_on z) (give_code t (ToAttribute class field r)) done (give_to t.line (ToAttribute class field r) (WentOn z))
   give_attribute t class field r z = record {

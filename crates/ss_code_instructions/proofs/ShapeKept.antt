@@ -1,22 +1,23 @@
 -- A step of code that has shape leads from a state that suits its place to another one, and the machine is not stuck there.
 use Rattle.std.proofs.Common.{◌≡◌, ℕ, zero, suc, ◌+◌, ◌-◌, Bool, true, false, List, [], ◌∷◌, ◌++◌, length, Option, Some, None, Ok, Err, ℤ, refl, sym, ap, ◌∙◌, subst, arith}
-use Rattle.std.specs.Prelude.{slice_get, take, map, replicate, not, is_some, nat_lt, pos, negsuc, ◌+ℤ◌, Result as OkOr, if◌then◌else◌}
-use Rattle.ss_code_instructions.proofs.Common.{act, after_one_step, AllZip, AnEvent, appended, AreOfModes, ARoutine, assignable_count, assigned_attribute, assigned_variable, AtTime, attribute, begin_walk, Breaks, Called, cell_at, cells_of_kinds, changed_attribute, class_at, ClassLayout, clock, Code, code_of, Coming, coming_with, Core, core_at, deliver, deliver_with, did, Done, enter, entity, EntryPoint, Event, event_begun, field_mode, figure, filed_notice, first_fits, first_values, fit, Frame, front, Goes, has_item, has_next, indices, Instruction, Is, is_awaited, is_due, is_ended, is_made, is_permanent, IsFittingStore, IsSet, IsWellTyped, Item, item_before, ItemKind, Later, leave, Line, MachineState, made_all, made_count, made_notice, made_one, Mean, mean, mean_item, Mode, Moved, next_event, next_item, NoStep, not_if, onward, opened, option_map, Over, Placed, prepended, print_lines, Program, range_of, read_value, rescheduled, reset, Rest, Sends, ShowsMean, ShowsMeanOf, ShowsValue, Sign, start, step, step_at, Stepped, steps, Store, Stuck, take_event, take_next, take_off, taken_by_modes, TakenOff, Target, Text, time_at, time_of, To, Underway, unscheduled, unsigned, Value, value_given, values_shown, Walk, walk_at, walk_cells, walk_further, when_due, Whole, with_block, with_input, with_rest, without, yielded}
-use Rattle.ss_base.specs.declared.fault.FaultKind.TheVariants.{CreatedTwice, BadCount}
-use Rattle.ss_base.specs.Layout.{mode_of, first_value}
-use Rattle.ss_base.specs.declared.layout.Mode.TheVariants.{Integer, Alpha}
+use Rattle.std.proofs.lemmas.List.{take-append-drop}
+use Rattle.std.specs.Prelude.{slice_get, take, drop, not, is_some, pos, ◌+ℤ◌, Result as OkOr, if◌then◌else◌}
+use Rattle.ss_code_instructions.proofs.Common.{act, after_one_step, AllZip, AnEvent, AreOfModes, ARoutine, assignable_count, assigned_attribute, assigned_variable, AtTime, attribute, begin_walk, Breaks, Called, cell_at, cells_of_kinds, changed_attribute, class_at, ClassLayout, clock, Code, code_of, Coming, coming_with, Core, core_at, deliver, deliver_with, did, Done, enter, entity, EntryPoint, Event, event_begun, field_mode, figure, filed_notice, first_fits, fit, Frame, Goes, has_item, has_next, indices, Instruction, Is, is_awaited, is_due, is_ended, is_made, is_permanent, IsFittingStore, IsSet, IsWellTyped, Item, item_before, ItemKind, Later, leave, Line, MachineState, made_all, made_count, made_notice, made_one, Mean, mean, mean_item, Mode, Moved, next_event, next_item, NoStep, not_if, onward, opened, option_map, Over, Placed, print_lines, Program, range_of, read_value, rescheduled, reset, Rest, Sends, ShowsMean, ShowsMeanOf, ShowsValue, Sign, start, step, step_at, Stepped, steps, Store, Stuck, take_event, take_next, take_off, TakenOff, Target, time_at, time_of, To, Underway, unscheduled, unsigned, Value, value_given, values_shown, Walk, walk_at, walk_cells, walk_further, when_due, Whole, with_block, with_input, with_rest, without, yielded}
+use Rattle.ss_base.specs.declared.fault.FaultKind.TheVariants.{CreatedTwice}
+use Rattle.ss_base.specs.Layout.{mode_of}
+use Rattle.ss_base.specs.declared.layout.Mode.TheVariants.{Integer}
 use Rattle.ss_code_instructions.specs.Shape.{AreFoundAt, IsFitForCode, IsSuited, AreGivenModes, AreFitForItems, IsOfKind, IsDeliveringTo, HasEntryShape, IsShaped, AreFitFrames}
 use Rattle.ss_meaning.specs.Sets.{begun, begun_at, filed_in, goes_on, is_empty, is_in, is_none, known_owner, member, of_member, of_set, removed_at, removed_from, coming as coming_in}
-use Rattle.ss_meaning.specs.Values.{applied, calculated, due, empty_lines, Fails, Failure, if_ok, number_of, operator_of, printed, related, same_mode, turned, TypeError, unless_fault, line_end}
-use Rattle.ss_base.specs.declared.words.Relation.{Relation}
+use Rattle.ss_meaning.specs.Values.{applied, calculated, due, empty_lines, Fails, Failure, if_ok, number_of, operator_of, printed, related, turned, TypeError, unless_fault}
 use Rattle.ss_meaning.specs.PendingList.{least_event}
 use Rattle.ss_meaning.proofs.Fine.{Fine, There, Any, fine_then, fine_turned, fine_weaker, any_due, fit_fine, unless_fine}
 use Rattle.ss_meaning.proofs.Kept.{number_fine}
 use Rattle.ss_meaning.proofs.Entities.{permanent_here, entity_fine, attribute_fine, time_of_fine, made_one_fine, made_all_fine, without_fine, variable_fine, attribute_assigned_fine}
 use Rattle.ss_meaning.proofs.Sets.{set_of, member_fine, known_owner_fine, is_empty_fine, is_in_fine, begun_fine as outset_fine, begun_at_fine, coming_fine, goes_on_fine, mean_fine, of_set_fine, of_member_fine, filed_in_fine, removed_from_fine, removed_at_fine, figure_fine, reset_fine}
 use Rattle.ss_meaning.proofs.Events.{FieldsAre, fields_are, time_at_fine, made_notice_fine, filed_notice_fine, rescheduled_fine, unscheduled_fine, ComingAs, next_event_there, BegunAs, begun_fine}
-use Rattle.ss_meaning.proofs.Expressions.{calculated_fine, applied_fine, asked_alone, asked_of}
-use Rattle.ss_meaning.proofs.Statements.{held_length, range_of_fine, word_fine, input_fits}
+use Rattle.ss_meaning.proofs.Expressions.{calculated_fine, applied_fine, asked_alone, asked_of, related_there}
+use Rattle.ss_meaning.proofs.Statements.{empty_fine, held_length, range_of_fine, word_fine, input_fits}
+use Rattle.ss_meaning.proofs.Whole.{both_hold, opened_there, yielded_there as yielded_all}
 use Rattle.ss_code_instructions.specs.Instructions as i
 use Rattle.ss_code_instructions.specs.Laws.{ShapeStays, StatesSuit, NeverStuck}
 use Rattle.ss_code_instructions.proofs.ShapingPrograms.{has_shape}
@@ -24,70 +25,12 @@ use Rattle.ss_code_instructions.proofs.Valued.{cell_there, owner_ok, asked, Goes
 
 -- ## Lists of values
 
-both_modes : (us vs : List Value) → map mode_of (us ++ vs) ≡ map mode_of us ++ map mode_of vs
-both_modes [] vs = refl
-both_modes (u ∷ us) vs = ap (λ ms. mode_of u ∷ ms) (both_modes us vs)
-
-pub both_hold : (us vs : List Value) (ms ns : List Mode) → AreOfModes us ms → AreOfModes vs ns → AreOfModes (us ++ vs) (ms ++ ns)
-both_hold us vs ms ns h g = both_modes us vs ∙ ap (λ l. l ++ map mode_of vs) h ∙ ap (λ l. ms ++ l) g
-
-first_hold : (modes : List Mode) → AreOfModes (first_values modes) modes
-first_hold [] = refl
-first_hold (m ∷ ms) = let here : mode_of (first_value m) ≡ m = first_mode m in let rest : AreOfModes (first_values ms) ms = first_hold ms in cc
-  where
-    first_mode : (m : Mode) → mode_of (first_value m) ≡ m
-    first_mode Integer = refl
-    first_mode Alpha = refl
-
-same_self : (m : Mode) → same_mode m m ≡ true
-same_self Integer = refl
-same_self Alpha = refl
-
--- a value before others
-prepended_there : (v : Value) (m : Mode) (ms : List Mode) (o : Option (List Value)) → mode_of v ≡ m → There (λ (us : List Value). AreOfModes us ms) o → There (λ (us : List Value). AreOfModes us (m ∷ ms)) (prepended v o)
-prepended_there v m ms None h f = absurd f
-prepended_there v m ms (Some us) h f = let all : AreOfModes (v ∷ us) (m ∷ ms) = cc in all
-
-taken_there : (ms : List Mode) (vs : List Value) → AreOfModes vs ms → There (λ (us : List Value). AreOfModes us ms) (taken_by_modes ms vs)
-taken_there [] [] q = refl
-taken_there [] (v ∷ vs) q = absurd cc
-taken_there (m ∷ ms) [] q = absurd cc
-taken_there (m ∷ ms) (v ∷ vs) q =
-    let here : mode_of v ≡ m = cc in
-    let rest : AreOfModes vs ms = cc in
-    let same : same_mode (mode_of v) m ≡ true = ap (λ k. same_mode k m) here ∙ same_self m in
-    subst (λ b. There (λ (us : List Value). AreOfModes us (m ∷ ms)) (if b then prepended v (taken_by_modes ms vs) else None)) (sym same)
-    (prepended_there v m ms (taken_by_modes ms vs) here (taken_there ms vs rest))
-
--- the variables of a section that is entered
-opened_there : (given others : List Mode) (vs : List Value) → AreOfModes vs given → There (λ (us : List Value). AreOfModes us (given ++ others)) (opened given others vs)
-opened_there given others vs q = by (taken_by_modes given vs) (taken_there given vs q)
-  where
-    by : (o : Option (List Value)) → There (λ (us : List Value). AreOfModes us given) o → There (λ (us : List Value). AreOfModes us (given ++ others)) (appended o (first_values others))
-    by None h = absurd h
-    by (Some us) h = both_hold us (first_values others) given others h (first_hold others)
-
 -- what a section yields
-front_there : (count : ℕ) (ls : List Value) (ms : List Mode) → AreOfModes ls ms → length (take count ms) ≡ count → There (λ (us : List Value). AreOfModes us (take count ms)) (front count ls)
-front_there zero ls ms q e = refl
-front_there (suc k) [] [] q e = absurd cc
-front_there (suc k) [] (m ∷ ms) q e = absurd cc
-front_there (suc k) (v ∷ ls) [] q e = absurd cc
-front_there (suc k) (v ∷ ls) (m ∷ ms) q e =
-    let here : mode_of v ≡ m = cc in
-    let rest : AreOfModes ls ms = cc in
-    let fewer : length (take k ms) ≡ k = omega (arith, e) in
-    prepended_there v m (take k ms) (front k ls) here (front_there k ls ms rest fewer)
-
 yielded_there : (given others : List Mode) (first count : ℕ) (ls : List Value) → AreOfModes ls (given ++ others) → first ≡ length given → length (take count others) ≡ count → There (λ (us : List Value). AreOfModes us (take count others)) (yielded first count ls)
-yielded_there [] others zero count ls h q e = front_there count ls others h e
-yielded_there [] others (suc k) count ls h q e = absurd cc
-yielded_there (g ∷ given) others zero count ls h q e = absurd cc
-yielded_there (g ∷ given) others (suc k) count [] h q e = absurd cc
-yielded_there (g ∷ given) others (suc k) count (l ∷ ls) h q e =
-    let rest : AreOfModes ls (given ++ others) = cc in
-    let fewer : k ≡ length given = omega (arith, q) in
-    yielded_there given others k count ls rest fewer e
+yielded_there given others first count ls h q e =
+    let parts : AreOfModes ls (given ++ (take count others ++ drop count others)) = h ∙ ap (λ l. given ++ l) (sym (take-append-drop count others)) in
+    subst (λ n. There (λ (us : List Value). AreOfModes us (take count others)) (yielded n count ls)) (sym q)
+    (subst (λ n. There (λ (us : List Value). AreOfModes us (take count others)) (yielded (length given) n ls)) e (yielded_all given (take count others) (drop count others) ls parts))
 
 -- what lies below cells that are taken off
 off_there : (gone rest : List Mode) (count : ℕ) (cells vs : List Value) → AreOfModes cells (gone ++ rest) → length gone ≡ count → There (λ (b : TakenOff). AreOfModes b.below rest) (take_off count cells vs)
@@ -115,21 +58,6 @@ kinds_many p (ShowsMeanOf j ∷ ks) (m ∷ ms) h = let e : 1 + cells_of_kinds ks
 is_there : {A : Type 0} (o : Option A) → is_some o ≡ true → There Any o
 is_there (Some a) e = tt
 is_there None e = absurd cc
-
-related_there : (relation : Relation) (v w : Value) (m : Mode) → mode_of v ≡ m → mode_of w ≡ m → There Any (related relation v w)
-related_there relation (Whole x) (Whole y) m p q = tt
-related_there relation (Text s) (Text t) m p q = tt
-related_there relation (Whole x) (Text t) m p q =
-    let both : Integer ≡ Alpha = p ∙ sym q in
-    absurd cc
-related_there relation (Text s) (Whole y) m p q =
-    let both : Alpha ≡ Integer = p ∙ sym q in
-    absurd cc
-
-lines_fine : (v : Value) → mode_of v ≡ Integer → Fine Any (empty_lines v)
-lines_fine (Whole (pos n)) q = unless_fine Any (nat_lt 1000 n) BadCount (Ok (replicate n line_end)) (λ e. tt)
-lines_fine (Whole (negsuc n)) q = tt
-lines_fine (Text t) q = absurd cc
 
 fields_said : (o : Option ClassLayout) (modes : List Mode) → option_map (λ (c : ClassLayout). c.fields) o ≡ Some modes → (cl : ClassLayout) × (o ≡ Some cl)
 fields_said None modes e = absurd cc
@@ -341,7 +269,7 @@ module _ (p : Program) (typed : IsWellTyped p) (code : Code) where
       act_well l (i.Jump skip) c ms g fits q k = goes_to p typed code ls (c.place + 1 + skip) ms c.cells c.frames c.store g fits q k
       act_well l (i.Unless relation left right skip) c ms g fits q k =
           both_well p typed code ls left right g.0 g.0 ms g.1.0 c.store c.cells _ g.1.1 fits q (λ v w below hv hw h.
-          fit_well p typed code Any (related relation v w) _ (related_there relation v w g.0 hv hw) (λ b e. ways_well p typed code ls skip b g.1.0 below c g.1.2 fits h k))
+          fit_well p typed code Any (related relation v w) _ (related_there relation g.0 v w hv hw) (λ b e. ways_well p typed code ls skip b g.1.0 below c g.1.2 fits h k))
       act_well l (i.UnlessEnded negated skip) c ms g fits q k =
           did_well p typed code Any l (due (is_ended c.store.world.input)) _ (any_due (is_ended c.store.world.input)) (λ b e. ways_well p typed code ls skip (not_if negated b) ms c.cells c g fits q k)
       act_well l (i.UnlessEmpty negated set owner skip) c ms g fits q k =
@@ -441,7 +369,7 @@ module _ (p : Program) (typed : IsWellTyped p) (code : Code) where
           fit_well p typed code Any (printed g.0.pictures items) _ (is_there (printed g.0.pictures items) (g.3 items e)) (λ bytes f. goes_to p typed code ls (c.place + 1) g.2.2.0 below c.frames c.store g.2.2.2 fits b k))))
       act_well l (i.Skip count) c ms g fits q k =
           value_well p typed code ls count Integer ms g.0 c.store c.cells _ g.1 fits q (λ v below e h.
-          did_well p typed code Any l (empty_lines v) _ (lines_fine v e) (λ bytes u. goes_to p typed code ls (c.place + 1) g.0 below c.frames c.store g.2 fits h k))
+          did_well p typed code Any l (empty_lines v) _ (empty_fine v e) (λ bytes u. goes_to p typed code ls (c.place + 1) g.0 below c.frames c.store g.2 fits h k))
 
   -- ## Steps
 

@@ -42,16 +42,8 @@ pub mode_so : (s : TypedScope) (e : Expression) (m : Mode) → HasMode s e m →
 mode_so s (Constant v) m h = h
 mode_so s (Fetch x) m h = ap or_integer h
 mode_so s (Attribute class field e) m h = ap or_integer h.0
-mode_so s (OfSystemSet query set) m h = sym h.0
-mode_so s (OfSet query set e) m h = sym h.0
-mode_so s (OfMember query set e) m h = sym h.0
 mode_so s Clock m h = sym h
-mode_so s (TimeOf e) m h = sym h.0
-mode_so s (Figure fold j) m h = sym h.0
-mode_so s (FigureOf fold j e) m h = sym h.0
-mode_so s (Signed sign e) m h = sym h.0
-mode_so s (Unary op e) m h = sym h.0
-mode_so s (Calculate op a c) m h = sym h.0
+mode_so s _ m h = sym h.0
 
 -- values that lie one above the other
 pub values_so : (s : TypedScope) (es : List Expression) (ws ms : List Mode) → HaveModes s es ws → values_cells s es ms ≡ modes_onto ws ms
@@ -99,17 +91,7 @@ module _ (p : Program) (code : Code) (ls : List Mode) (b : Bool) where
   pub gives : (l : Line) (e : Expression) (m : Mode) (ms : List Mode) → HasMode here e m → IsGivingMode view (operand (site l ms) e) m (operand_cells (site l ms) e) ms
   gives l (Constant v) m ms h = (h, refl)
   gives l (Fetch x) m ms h = (same_mode_at x ∙ h, refl)
-  gives l (Attribute class field e) m ms h = cell_gives (expression_mode here (Attribute class field e)) m ms (mode_so here (Attribute class field e) m h)
-  gives l (OfSystemSet query set) m ms h = cell_gives Integer m ms (sym h.0)
-  gives l (OfSet query set e) m ms h = cell_gives Integer m ms (sym h.0)
-  gives l (OfMember query set e) m ms h = cell_gives Integer m ms (sym h.0)
-  gives l Clock m ms h = cell_gives Integer m ms (sym h)
-  gives l (TimeOf e) m ms h = cell_gives Integer m ms (sym h.0)
-  gives l (Figure fold j) m ms h = cell_gives Integer m ms (sym h.0)
-  gives l (FigureOf fold j e) m ms h = cell_gives Integer m ms (sym h.0)
-  gives l (Signed sign e) m ms h = cell_gives Integer m ms (sym h.0)
-  gives l (Unary op e) m ms h = cell_gives Integer m ms (sym h.0)
-  gives l (Calculate op a c) m ms h = cell_gives Integer m ms (sym h.0)
+  gives l e m ms h = cell_gives (expression_mode here e) m ms (mode_so here e m h)
 
   -- a constant and a variable are read where they are
   pub leaf_gives : (l : Line) (e : Expression) (x : Operand) (m : Mode) (ms : List Mode) → leaf e ≡ Some x → HasMode here e m → IsGivingMode view x m ms ms
@@ -120,17 +102,7 @@ module _ (p : Program) (code : Code) (ls : List Mode) (b : Bool) where
   pub stays : (l : Line) (e : Expression) (m : Mode) (more ms : List Mode) → HasMode here e m → IsGivingMode view (stay (operand (site l ms) e)) m (more ++ operand_cells (site l ms) e) (more ++ operand_cells (site l ms) e)
   stays l (Constant v) m more ms h = (h, refl)
   stays l (Fetch x) m more ms h = (same_mode_at x ∙ h, refl)
-  stays l (Attribute class field e) m more ms h = (under_cell more (length ms) (expression_mode here (Attribute class field e)) ms refl ∙ ap Some (mode_so here (Attribute class field e) m h), refl)
-  stays l (OfSystemSet query set) m more ms h = (under_cell more (length ms) Integer ms refl ∙ ap Some (sym h.0), refl)
-  stays l (OfSet query set e) m more ms h = (under_cell more (length ms) Integer ms refl ∙ ap Some (sym h.0), refl)
-  stays l (OfMember query set e) m more ms h = (under_cell more (length ms) Integer ms refl ∙ ap Some (sym h.0), refl)
-  stays l Clock m more ms h = (under_cell more (length ms) Integer ms refl ∙ ap Some (sym h), refl)
-  stays l (TimeOf e) m more ms h = (under_cell more (length ms) Integer ms refl ∙ ap Some (sym h.0), refl)
-  stays l (Figure fold j) m more ms h = (under_cell more (length ms) Integer ms refl ∙ ap Some (sym h.0), refl)
-  stays l (FigureOf fold j e) m more ms h = (under_cell more (length ms) Integer ms refl ∙ ap Some (sym h.0), refl)
-  stays l (Signed sign e) m more ms h = (under_cell more (length ms) Integer ms refl ∙ ap Some (sym h.0), refl)
-  stays l (Unary op e) m more ms h = (under_cell more (length ms) Integer ms refl ∙ ap Some (sym h.0), refl)
-  stays l (Calculate op a c) m more ms h = (under_cell more (length ms) Integer ms refl ∙ ap Some (sym h.0), refl)
+  stays l e m more ms h = (under_cell more (length ms) (expression_mode here e) ms refl ∙ ap Some (mode_so here e m h), refl)
 
   -- two operands that are read the second first, and the first first
   pub second_first : (x y : Operand) (m n : Mode) (ms mid rest : List Mode) → lies_above x y ≡ false → IsGivingMode view y n ms mid → IsGivingMode view x m mid rest → AreGivingBoth view x y m n ms rest

@@ -1,5 +1,5 @@
 -- The code of IF, of loops and of FIND has shape, where that of their parts has it.
-use Rattle.std.proofs.Common.{◌≡◌, ℕ, zero, suc, ◌+◌, ◌-◌, Bool, true, false, List, [], ◌∷◌, ◌++◌, length, Option, Some, None, refl, ap, subst, arith, length-append}
+use Rattle.std.proofs.Common.{◌≡◌, ℕ, zero, suc, ◌+◌, ◌-◌, Bool, true, false, List, [], ◌∷◌, ◌++◌, length, Option, Some, None, refl, subst, arith, length-append}
 use Rattle.std.specs.Prelude.{pos, if◌then◌else◌}
 use Rattle.std.specs.List.{AllByRecursion as Every}
 use Rattle.std.specs.Option.{IfSome}
@@ -10,6 +10,7 @@ use Rattle.ss_program.specs.WellTyped.{HasMode, IsTypedOwner, IsWellTyped, mode_
 use Rattle.ss_base.specs.declared.words.PhraseKind.TheVariants as kinds
 use Rattle.ss_code_instructions.specs.Instructions as i
 use Rattle.ss_code_instructions.proofs.Forgetting.{two_more, three_more}
+use Rattle.ss_code_instructions.proofs.Heads.{forgets_one}
 use Rattle.ss_code_instructions.proofs.Stacked.{under_cell}
 use Rattle.ss_code_instructions.proofs.Suiting.{Shapes, seq, none, one, put_before, lead, ending, keep, looped, moved}
 use Rattle.ss_code_instructions.proofs.Shaping.{here, view, site, Onward, Fork, cell_shapes, condition_shapes, negated_shapes, guards_shapes}
@@ -293,16 +294,8 @@ module _ (p : Program) (typed : IsWellTyped p) (code : Code) (ls : List Mode) (b
 
   -- what a loop keeps is forgotten, by one instruction
   loop_forgets : (l : Line) (ms : List Mode) (head : Head) → Shapes p code (Comes (loop_cells (at_site l ms) head)) (forget_to (at_site l ms) (in_loop (at_site l ms) head)) (Comes ms)
-  loop_forgets l ms (Numbers x y z c) = forgets l Integer (Integer ∷ Integer ∷ []) ms (suc (suc (suc (length ms))) - length ms) (three_more (length ms))
-  loop_forgets l ms (Each x class) = forgets l Integer (Integer ∷ Integer ∷ []) ms (suc (suc (suc (length ms))) - length ms) (three_more (length ms))
   loop_forgets l ms (Members x set TheSystem start reverse) = forgets l Integer (Integer ∷ []) ms (suc (suc (length ms)) - length ms) (two_more (length ms))
-  loop_forgets l ms (Members x set (Entity e) start reverse) = forgets l Integer (Integer ∷ Integer ∷ []) ms (suc (suc (suc (length ms))) - length ms) (three_more (length ms))
-
-  forgets_once : (l : Line) (ms : List Mode) (head : Head) → length (forget_to (at_site l ms) (in_loop (at_site l ms) head)) ≡ 1
-  forgets_once l ms (Numbers x y z c) = ap (λ k. length (forget (at_site l (numbers ms)) k)) (three_more (length ms))
-  forgets_once l ms (Each x class) = ap (λ k. length (forget (at_site l (numbers ms)) k)) (three_more (length ms))
-  forgets_once l ms (Members x set TheSystem start reverse) = ap (λ k. length (forget (at_site l (members ms)) k)) (two_more (length ms))
-  forgets_once l ms (Members x set (Entity e) start reverse) = ap (λ k. length (forget (at_site l (members (Integer ∷ ms))) k)) (three_more (length ms))
+  loop_forgets l ms _ = forgets l Integer (Integer ∷ Integer ∷ []) ms (suc (suc (suc (length ms))) - length ms) (three_more (length ms))
 
   -- where the side of a case that was found begins: so many instructions and one after the loop
   abbrev FoundAt : (count : ℕ) → List Mode → ℕ → Type 0
@@ -316,7 +309,7 @@ module _ (p : Program) (typed : IsWellTyped p) (code : Code) (ls : List Mode) (b
       seq (keep p code (Comes ms) (Comes ms) (Later (Comes inner)) other t)
       (put_before p code (Comes inner) (Comes ms) (place (at_site l ms) (i.Jump (length found + 1))) (forgotten ++ found)
       (λ q at end.
-      let e : q + 1 + length (forgotten ++ found) ≡ q + 1 + (length found + 1) = omega (arith, length-append forgotten found, forgets_once l ms head) in moved p code e end)
+      let e : q + 1 + length (forgotten ++ found) ≡ q + 1 + (length found + 1) = omega (arith, length-append forgotten found, forgets_one (at_site l ms) head) in moved p code e end)
       (seq (loop_forgets l ms head) r))
 
   pub find_shapes : (l : Line) (ms : List Mode) (head : Head) (ps : List Phrase) (found other : List Placed) → IsTypedHead section_scope head → Every (IsTypedPhrase section_scope) ps → Shapes p code (Comes ms) found (Comes ms) → Shapes p code (Comes ms) other (Comes ms) → Shapes p code (Comes ms) (find_code (at_site l ms) head ps found other) (Comes ms)

@@ -5,10 +5,10 @@ use Rattle.std.specs.List.{AllByRecursion as Every}
 use Rattle.ss_code_instructions.specs.Shape.{AreFoundAt, IsSuited, HasEntryShape, IsServed, IsShaped}
 use Rattle.ss_program.specs.WellTyped.{IsWellTyped, IsTypedBlock, IsTypedRoutine, IsTypedEvent}
 use Rattle.ss_meaning.proofs.Lists.{every_get}
-use Rattle.ss_code_instructions.proofs.Steps.{HasAt, has_front, has_back}
+use Rattle.ss_code_instructions.proofs.Steps.{HasAt, has_front, has_back, each_append, each_get}
 use Rattle.ss_code_instructions.proofs.Entering.{RoutineAt, EventAt, Linked}
 use Rattle.ss_code_instructions.proofs.Whole.{sections, later_prints, program_linked, main_here, after_main, all_prints, prints_after}
-use Rattle.ss_code_instructions.proofs.Suiting.{AllSuit, all_both, all_at}
+use Rattle.ss_code_instructions.proofs.Suiting.{SuitsAt, AllSuit}
 use Rattle.ss_code_instructions.proofs.Shaping.{here}
 use Rattle.ss_code_instructions.proofs.ShapingStatements.{front_of, section_shapes}
 
@@ -31,7 +31,7 @@ module _ (p : Program) (typed : IsWellTyped p) where
       let c : List Placed = routine_code p first r in
       let next : ℕ = first + length (block_prints r.body) in
       let d : List Placed = routines_code p next rs in
-      all_both p code q c d
+      each_append (SuitsAt p code) q c d
       (section_suits (r.given ++ (r.yielding ++ r.others)) false q first r.body good.0 (has_front code.places q c d lies) (has_front code.prints first (block_prints r.body) (routines_prints rs) prints)).0
       (routines_suit rs (q + length c) next good.1 (has_back code.places q c d lies) (has_back code.prints first (block_prints r.body) (routines_prints rs) prints))
 
@@ -41,7 +41,7 @@ module _ (p : Program) (typed : IsWellTyped p) where
       let c : List Placed = event_code p first v in
       let next : ℕ = first + length (block_prints v.body) in
       let d : List Placed = events_code p next es in
-      all_both p code q c d
+      each_append (SuitsAt p code) q c d
       (section_suits (v.given ++ v.others) false q first v.body good.0.body (has_front code.places q c d lies) (has_front code.prints first (block_prints v.body) (events_prints es) prints)).0
       (events_suit es (q + length c) next good.1 (has_back code.places q c d lies) (has_back code.prints first (block_prints v.body) (events_prints es) prints))
 
@@ -90,7 +90,7 @@ module _ (p : Program) (typed : IsWellTyped p) where
   sections_suit : AllSuit p code (length (main_code p)) (sections p)
   sections_suit =
       let q : ℕ = length (main_code p) in
-      all_both p code q (all_routines p) (all_events p)
+      each_append (SuitsAt p code) q (all_routines p) (all_events p)
       (routines_suit p.routines q (main_prints p) typed.routines (has_front code.places q (all_routines p) (all_events p) (after_main p))
       (has_front code.prints (main_prints p) (routines_prints p.routines) (events_prints p.events) (prints_after p)))
       (events_suit p.events (q + length (all_routines p)) (prints_before_events p) typed.events (has_back code.places q (all_routines p) (all_events p) (after_main p))
@@ -99,13 +99,13 @@ module _ (p : Program) (typed : IsWellTyped p) where
   all_suit : AllSuit p code 0 (main_code p ++ sections p)
   all_suit =
       let e : length (main_code p) ≡ 0 + length (main_code p) = omega arith in
-      all_both p code 0 (main_code p) (sections p) main_suits.0 (subst (λ j. AllSuit p code j (sections p)) e sections_suit)
+      each_append (SuitsAt p code) 0 (main_code p) (sections p) main_suits.0 (subst (λ j. AllSuit p code j (sections p)) e sections_suit)
 
   pub program_shaped : IsShaped p code
   program_shaped = record {
     each = λ place x there.
         let e : 0 + place ≡ place = omega arith in
-        subst (λ j. IsSuited p code j x.locals x.cells x.instruction) e (all_at p code 0 (main_code p ++ sections p) all_suit place x there);
+        subst (λ j. IsSuited p code j x.locals x.cells x.instruction) e (each_get (SuitsAt p code) 0 (main_code p ++ sections p) all_suit place x there);
     first = main_suits.1;
     routines = routine_begins;
     events = event_begins;

@@ -96,10 +96,8 @@ module _ (p : Program) (typed : IsWellTyped p) (code : Code) (ls : List Mode) (b
 
   -- where a discipline files a member it takes no cell
   by_rule : (o : Option Discipline) (ms : List Mode) → IsGivingPosition shape_scope (filing_by o) ms ms
-  by_rule None ms = refl
   by_rule (Some disciplines.Fifo) ms = refl
-  by_rule (Some disciplines.Lifo) ms = refl
-  by_rule (Some (disciplines.Ranked keys)) ms = refl
+  by_rule _ ms = refl
 
   -- the owner, and a FILE that takes no other member
   file_plain : (l : Line) (set : ℕ) (e : Expression) (o : SetOwner) (f : FilingPlace) (ms : List Mode) → HasMode section_scope e Integer → IsTypedOwner section_scope set o → IsGivingPosition shape_scope f (operand_cells (at_site l ms) e) (operand_cells (at_site l ms) e) → Shapes p code (Comes (operand_cells (at_site l ms) e)) (with_owner (at_site l (operand_cells (at_site l ms) e)) o (i.File f set (operand (at_site l ms) e))) (Comes ms)

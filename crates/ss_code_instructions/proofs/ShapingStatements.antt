@@ -3,7 +3,7 @@ use Rattle.std.proofs.Common.{◌≡◌, ℕ, ◌+◌, ◌-◌, Bool, List, [], 
 use Rattle.ss_code_instructions.proofs.Common.{block_code, block_prints, Code, EntryPoint, gives_code, Integer, items_cells, items_code, Line, lines_of_items, loop_cells, Mode, no_line, place, Placed, results_cells, routine_entry, section_code, Site, slice_get, statement_code, statement_prints, take, values_cells, values_code}
 use Rattle.std.specs.List.{AllByRecursion as Every, AllZip}
 use Rattle.ss_code_instructions.specs.Shape.{AreFoundAt, IsDueAt, IsSuited, HasOnTop as CellBlock, CanBePrinted}
-use Rattle.ss_program.specs.Program.{Block, Call, Cancel, Change, Create, CreateEvery, Destroy, Each, Entity, Expression, File, Find, For, Head, If, Let, Loop, Members, Numbers, Place, Print, PrintItem, Program, Read, Remove, RemoveEnd, Reset, Return, Routine, Schedule, ScheduleNew, Simulate, Skip, Statement, Stop, Then, TheSystem, Done}
+use Rattle.ss_program.specs.Program.{Block, Call, Cancel, Change, Create, CreateEvery, Destroy, Expression, File, Find, For, Head, If, Let, Loop, Members, Place, Print, PrintItem, Program, Read, Remove, RemoveEnd, Reset, Return, Routine, Schedule, ScheduleNew, Simulate, Skip, Statement, Stop, Then, TheSystem, Done}
 use Rattle.ss_program.specs.WellTyped.{CanTakeMode, IsWellTyped, TypedScope, HaveModes, IsTypedCall, IsTypedStatement, IsTypedBlock}
 use Rattle.ss_code_instructions.specs.Instructions as i
 use Rattle.ss_code_instructions.proofs.Steps.{HasAt, has_front, has_back}
@@ -85,10 +85,8 @@ module _ (p : Program) (typed : IsWellTyped p) (code : Code) (linked : Linked co
 
   -- the cells of a loop do not depend on the line
   same_cells : (k l : Line) (ms : List Mode) (head : Head) → loop_cells (at_site k ms) head ≡ loop_cells (at_site l ms) head
-  same_cells k l ms (Numbers x y z c) = refl
-  same_cells k l ms (Each x class) = refl
   same_cells k l ms (Members x set TheSystem start reverse) = refl
-  same_cells k l ms (Members x set (Entity e) start reverse) = refl
+  same_cells k l ms _ = refl
 
   mutual
     pub statement_shapes : (k : Line) (ms : List Mode) (first : ℕ) (x : Statement) → IsTypedStatement section_scope x → HasAt code.prints first (statement_prints x) → Shapes p code (Comes ms) (statement_code (at_site k ms) first x) (Comes ms)

@@ -1,12 +1,13 @@
 -- Steps of the machine, and where they lead.
 use Rattle.std.proofs.Common.{◌≡◌, ℕ, zero, suc, ◌+◌, ◌<◌, ◌≤◌, Bool, true, false, List, [], ◌∷◌, ◌++◌, length, Option, Some, None, refl, sym, ap, ◌∙◌, subst, arith, append_assoc, length-append}
-use Rattle.ss_code_instructions.proofs.Common.{act, Breaks, Code, core_at, Done, Ended, Ending, Fault, Frame, Goes, is_due, MachineState, Moved, Over, Paused, Placed, Rest, Run, run_at, Sends, slice_get, step, step_at, Store, Stuck, To, Value, when_due, with_locals, with_rest, yielded}
+use Rattle.ss_code_instructions.proofs.Common.{act, Code, Core, core_at, Ended, Ending, Fault, Frame, Goes, is_due, MachineState, Over, Paused, Placed, Run, run_at, slice_get, step, step_at, Value, with_locals, yielded}
 use Rattle.std.proofs.Math.Seq.{get_or-append_seam}
 use Rattle.std.proofs.lemmas.Option.{slice_get-get_or}
 use Rattle.ss_code_instructions.specs.Running.{after_one_step, steps, Underway, Result, Ends, IsStuck, ended_at}
 use Rattle.ss_meaning.specs.Parts.{Faulted, Left, Outcome, outcome_then, OutOfTicks, Part, Returned, RunState, Stopped, WentOn, Wrong, Exit}
 use Rattle.ss_code_instructions.proofs.Keeping.{Lasts, lasts_then}
-use Rattle.ss_code_instructions.proofs.Acting.{Endures, act_lasts}
+use Rattle.ss_code_instructions.proofs.Moving.{AreTicks, after_step}
+use Rattle.ss_code_instructions.proofs.Acting.{act_lasts}
 
 -- the items lie in the list at this place
 abbrev pub HasAt : {A : Type 0} → List A → ℕ → List A → Type 0
@@ -33,6 +34,28 @@ has_all {A} (i ∷ is) pre =
     let rest = has_all is (pre ++ i ∷ []) in
     let rest' = subst (λ l. HasAt l (length (pre ++ i ∷ [])) is) (append_assoc pre (i ∷ []) is) rest in
     (here, subst (λ m. HasAt (pre ++ i ∷ is) m is) n rest')
+
+-- what holds of each item of a list and of its place, where the first has this one
+module _ {A : Type 0} (P : ℕ → A → Type 0) where
+  abbrev pub EachAt : ℕ → List A → Type 0
+  EachAt q [] = Unit {0}
+  EachAt q (x ∷ c) = P q x × EachAt (q + 1) c
+
+  pub each_append : (q : ℕ) (c d : List A) → EachAt q c → EachAt (q + length c) d → EachAt q (c ++ d)
+  each_append q [] d h k = let e : q + 0 ≡ q = omega arith in subst (λ j. EachAt j d) e k
+  each_append q (x ∷ c) d h k =
+      let e : q + length (x ∷ c) ≡ q + 1 + length c = omega arith in
+      (h.0, each_append (q + 1) c d h.1 (subst (λ j. EachAt j d) e k))
+
+  pub each_get : (q : ℕ) (c : List A) → EachAt q c → (k : ℕ) (x : A) → slice_get c k ≡ Some x → P (q + k) x
+  each_get q [] h k x e = absurd cc
+  each_get q (y ∷ c) h zero x e =
+      let same : y ≡ x = cc in
+      let j : q ≡ q + 0 = omega arith in
+      subst (λ j. P j x) j (subst (P q) same h.0)
+  each_get q (y ∷ c) h (suc k) x e =
+      let j : q + 1 + k ≡ q + suc k = omega arith in
+      subst (λ j. P j x) j (each_get (q + 1) c h.1 k x e)
 
 -- where a run leads: to a state, or to its end; or nothing is promised
 pub data Goal : Type 0 where
@@ -72,25 +95,15 @@ pub record Kept (s t : MachineState) : Type 0 where
   pub fewer : t.ticks ≤ s.ticks
   pub same : Lasts s.core.store t.core.store
 
-rest_kept : (s : Store) (r : List ℕ) (t : ℕ) (m : Moved) (x : MachineState) → Endures s m → with_rest r t m ≡ Goes x → (x.ticks ≡ t) × Lasts s x.core.store
-rest_kept s r t (To c) x k e =
-    let q : record { core = c; report = r; ticks = t } ≡ x = cc in subst (λ (y : MachineState). (y.ticks ≡ t) × Lasts s y.core.store) q (refl, k)
-rest_kept s r t (Sends bytes c) x k e =
-    let q : record { core = c; report = r ++ bytes; ticks = t } ≡ x = cc in subst (λ (y : MachineState). (y.ticks ≡ t) × Lasts s y.core.store) q (refl, k)
-rest_kept s r t (Rest Done) x k e = absurd cc
-rest_kept s r t (Rest (Breaks kind l)) x k e = absurd cc
-rest_kept s r t Stuck x k e = absurd cc
-
-due_kept : (b : Bool) (s : Store) (r : List ℕ) (t : ℕ) (m : Moved) (x : MachineState) → Endures s m → when_due b r t m ≡ Goes x → (x.ticks ≤ t) × Lasts s x.core.store
-due_kept false s r t m x k e = let q = rest_kept s r t m x k e in (omega (arith, q.0), q.1)
-due_kept true s r zero m x k e = absurd cc
-due_kept true s r (suc t) m x k e = let q = rest_kept s r t m x k e in (omega (arith, q.0), q.1)
+no_more : (b : Bool) (n t : ℕ) → AreTicks b n t → t ≤ n
+no_more false n t e = omega (arith, e)
+no_more true n t e = omega (arith, e)
 
 at_kept : (o : Option Placed) (code : Code) (s x : MachineState) → step_at o code s ≡ Goes x → Kept s x
 at_kept None code s x e = absurd cc
 at_kept (Some i) code s x e =
-    let q = due_kept (is_due i.instruction) s.core.store s.report s.ticks (act code i.line i.instruction s.core) x (act_lasts code i.line i.instruction s.core) e in
-    record { fewer = q.0; same = q.1 }
+    let q = after_step (λ (c : Core). Lasts s.core.store c.store) (is_due i.instruction) s.report s.ticks (act code i.line i.instruction s.core) x (act_lasts code i.line i.instruction s.core) e in
+    record { fewer = no_more (is_due i.instruction) s.ticks x.ticks q.1; same = q.0 }
 
 pub kept : {code : Code} {s t : MachineState} → Reaches code s (Comes t) → Kept s t
 kept here = record { fewer = omega arith; same = (refl, λ j. j) }

@@ -1,31 +1,17 @@
 -- Pieces of code that suit their places, one after another.
-use Rattle.std.proofs.Common.{◌≡◌, ℕ, zero, suc, ◌+◌, ◌-◌, true, List, [], ◌∷◌, ◌++◌, length, Some, refl, subst, arith, length-append}
+use Rattle.std.proofs.Common.{◌≡◌, ℕ, ◌+◌, ◌-◌, true, List, [], ◌∷◌, ◌++◌, length, Some, refl, subst, arith, length-append}
 use Rattle.ss_code_instructions.proofs.Common.{AreFoundAt, Code, is_due, IsDueAt, IsSuited, Mode, Placed, Program, slice_get}
-use Rattle.ss_code_instructions.proofs.Steps.{HasAt, has_front, has_back}
+use Rattle.ss_code_instructions.proofs.Steps.{HasAt, has_front, has_back, EachAt, each_append}
 
 module _ (p : Program) (code : Code) where
   -- ## Instructions that suit their places
 
+  abbrev pub SuitsAt : ℕ → Placed → Type 0
+  SuitsAt q x = IsSuited p code q x.locals x.cells x.instruction
+
   -- each instruction of a piece that begins here suits its place
   abbrev pub AllSuit : ℕ → List Placed → Type 0
-  AllSuit q [] = Unit {0}
-  AllSuit q (x ∷ c) = IsSuited p code q x.locals x.cells x.instruction × AllSuit (q + 1) c
-
-  pub all_both : (q : ℕ) (c d : List Placed) → AllSuit q c → AllSuit (q + length c) d → AllSuit q (c ++ d)
-  all_both q [] d h k = let e : q + 0 ≡ q = omega arith in subst (λ j. AllSuit j d) e k
-  all_both q (x ∷ c) d h k =
-      let e : q + length (x ∷ c) ≡ q + 1 + length c = omega arith in
-      (h.0, all_both (q + 1) c d h.1 (subst (λ j. AllSuit j d) e k))
-
-  pub all_at : (q : ℕ) (c : List Placed) → AllSuit q c → (k : ℕ) (x : Placed) → slice_get c k ≡ Some x → IsSuited p code (q + k) x.locals x.cells x.instruction
-  all_at q [] h k x e = absurd cc
-  all_at q (y ∷ c) h zero x e =
-      let same : y ≡ x = cc in
-      let j : q ≡ q + 0 = omega arith in
-      subst (λ (z : Placed). IsSuited p code (q + 0) z.locals z.cells z.instruction) same (subst (λ j. IsSuited p code j y.locals y.cells y.instruction) j h.0)
-  all_at q (y ∷ c) h (suc k) x e =
-      let j : q + 1 + k ≡ q + suc k = omega arith in
-      subst (λ j. IsSuited p code j x.locals x.cells x.instruction) j (all_at (q + 1) c h.1 k x e)
+  AllSuit q c = EachAt SuitsAt q c
 
   -- what an instruction finds is found at its place
   pub own : {q : ℕ} {x : Placed} → slice_get code.places q ≡ Some x → AreFoundAt p code q x.locals x.cells
@@ -88,5 +74,5 @@ seq {p = p} {code = code} {after = after} {c = c} {d = d} r t = record {
       let len : q + length (c ++ d) ≡ q + length c + length d = omega (arith, length-append c d) in
       let b = t.by (q + length c) (has_back code.places q c d has) (subst after len end) in
       let a = r.by q (has_front code.places q c d has) b.1 in
-      (all_both p code q c d a.0 b.0, a.1);
+      (each_append (SuitsAt p code) q c d a.0 b.0, a.1);
 }

@@ -1,15 +1,15 @@
 -- The code of a time, of values and then a time, and of a reference that is looked at: what SCHEDULE begins with.
-use Rattle.std.proofs.Common.{◌≡◌, ℕ, ◌+◌, false, true, List, [], ◌∷◌, ◌++◌, length, Ok, Err, ℤ, refl, sym, ◌∙◌, subst, arith, length-append}
+use Rattle.std.proofs.Common.{◌≡◌, ℕ, ◌+◌, false, true, List, ◌∷◌, ◌++◌, length, Ok, Err, ℤ, refl, subst}
 use Rattle.std.specs.Prelude.{Result as OkOr}
-use Rattle.ss_code_instructions.proofs.Common.{act, after, after_values, At, Code, core_at, deliver, did, entity, entity_code, entity_value, Expression, Fails, Failure, Frame, height, if_ok, In, Instruction, is_due, leaf, look, looked, looked_at, MachineState, next, Now, onward, Operand, operand, operand_code, outcome_then, Part, place, Placed, RunState, Site, stay, Store, time_value, turned, TypeError, Value, value, values, values_code, When, when_code, Whole, with_operand, with_operand_value}
+use Rattle.ss_code_instructions.proofs.Common.{act, after_values, At, Code, core_at, deliver, entity, entity_code, entity_value, Expression, Fails, Failure, Frame, height, In, Instruction, is_due, leaf, look, looked, MachineState, next, Now, Operand, outcome_then, Part, place, Placed, RunState, Site, Store, time_value, turned, TypeError, Value, value, values, values_code, When, when_code, Whole, with_operand, with_operand_value}
 use Rattle.ss_meaning.specs.Events.{AtTime, Later, time_at, Moment}
 use Rattle.ss_code_instructions.specs.Instructions as i
 use Rattle.ss_code_instructions.proofs.Keeping.{Only}
 use Rattle.ss_code_instructions.proofs.Steps.{HasAt, has_front, has_back, Reaches, at, arrive}
-use Rattle.ss_code_instructions.proofs.Parts.{Within, Leads, onwards, breaks, whatever, step_leads, did_leads, Runs, same, onto, looks_then, turned_then}
-use Rattle.ss_code_instructions.proofs.Operands.{computes, held, reads, join_look, one_join}
+use Rattle.ss_code_instructions.proofs.Parts.{Within, Leads, breaks, whatever, step_leads, Runs, same, onto, alike, looks_then}
+use Rattle.ss_code_instructions.proofs.Operands.{computes, held, read_runs, join_look}
 use Rattle.ss_code_instructions.proofs.Expressions.{evaluates}
-use Rattle.ss_code_instructions.proofs.Members.{stay_reads}
+use Rattle.ss_code_instructions.proofs.Members.{looked_join}
 use Rattle.ss_code_instructions.proofs.Giving.{values_run}
 use Rattle.ss_code_instructions.proofs.Stacked.{values_many, stacked_high}
 
@@ -28,31 +28,15 @@ module _ (code : Code) (n : ℕ) where
 
   -- by an operand
   moment_runs : (t : Site) (e : Expression) (make : Operand → Instruction) (moment : Value → Moment) → ((x : Operand) → is_due (make x) ≡ false) → ((x : Operand) (p : ℕ) (cells : List Value) (frames : List Frame) (s : Store) → act code t.line (make x) (core_at p cells frames s) ≡ with_operand_value x s cells (λ v below. deliver t.line (next t) (turned Whole (time_at (moment v) s)) below (core_at p cells frames s))) → Runs code n (height t) same (with_operand t e make) put_time (λ w. outcome_then (look t.line (value e) w) (λ v. look t.line (time_at (moment v))))
-  moment_runs t e make moment calm acts = record {
-    by = λ p cells frames w high has in_.
-        let c : List Placed = operand_code t e in
-        let last : Placed = place (after t e) (make (operand t e)) in
-        let end : p + length c + 1 ≡ p + length (c ++ last ∷ []) = omega (arith, length-append c (last ∷ [])) in
-        let ends : ℤ → RunState → MachineState = λ z w'. at (p + length (c ++ last ∷ [])) (put_time z cells) frames w' in
-        one_join code n t e (evaluates code n t e) (last ∷ []) ends (λ v. look t.line (time_at (moment v))) p cells frames w high has in_ (λ v found has'.
-        step_leads code last (core_at (p + length c) (held (leaf e) v cells) frames w.store) w _ _ has'.0 (calm (operand t e))
-        (acts (operand t e) (p + length c) (held (leaf e) v cells) frames w.store
-        ∙ reads t e v w.store cells (λ v below. deliver t.line (next t) (turned Whole (time_at (moment v) w.store)) below (core_at (p + length c) (held (leaf e) v cells) frames w.store)) high found)
-        (subst (λ j. Leads code w (deliver t.line (next t) (turned Whole (time_at (moment v) w.store)) cells (core_at (p + length c) (held (leaf e) v cells) frames w.store)) (arrive (λ z w'. at j (put_time z cells) frames w') frames (looked t.line (time_at (moment v) w.store) w))) end
-        (number_leads t (time_at (moment v) w.store) (p + length c) cells (held (leaf e) v cells) frames w high)));
-  }
+  moment_runs t e make moment calm acts =
+      read_runs code n t e (evaluates code n t e) make put_time (λ p cells0 frames s v below. deliver t.line (next t) (turned Whole (time_at (moment v) s)) below (core_at p cells0 frames s)) (λ v. look t.line (time_at (moment v))) calm acts (λ v p cells cells0 frames w high.
+      number_leads t (time_at (moment v) w.store) p cells cells0 frames w high)
 
   pub when_runs : (t : Site) (when : When) → Runs code n (height t) same (when_code t when) put_time (look t.line (time_value when))
-  when_runs t (At e) = record {
-    by = λ p cells frames w high has in_.
-        subst (λ o. Reaches code (at p cells frames w) (arrive (λ z w'. at (p + length (when_code t (At e))) (put_time z cells) frames w') frames o)) (looks_then t.line (value e w.store) (λ v. time_at (AtTime v)) w)
-        ((moment_runs t e (λ x. i.At x (next t)) AtTime (λ x. refl) (λ x p cells frames s. refl)).by p cells frames w high has in_);
-  }
-  when_runs t (In e) = record {
-    by = λ p cells frames w high has in_.
-        subst (λ o. Reaches code (at p cells frames w) (arrive (λ z w'. at (p + length (when_code t (In e))) (put_time z cells) frames w') frames o)) (looks_then t.line (value e w.store) (λ v. time_at (Later v)) w)
-        ((moment_runs t e (λ x. i.In x (next t)) Later (λ x. refl) (λ x p cells frames s. refl)).by p cells frames w high has in_);
-  }
+  when_runs t (At e) =
+      alike code n (height t) (λ w. looks_then t.line (value e w.store) (λ v. time_at (AtTime v)) w) (moment_runs t e (λ x. i.At x (next t)) AtTime (λ x. refl) (λ x p cells frames s. refl))
+  when_runs t (In e) =
+      alike code n (height t) (λ w. looks_then t.line (value e w.store) (λ v. time_at (Later v)) w) (moment_runs t e (λ x. i.In x (next t)) Later (λ x. refl) (λ x p cells frames s. refl))
   when_runs t Now = record {
     by = λ p cells frames w high has in_.
         step_leads code (place t (i.Clock (next t))) (core_at p cells frames w.store) w _ _ has.0 refl refl
@@ -81,21 +65,4 @@ module _ (code : Code) (n : ℕ) where
 
   pub entity_join : {B : Type 0} (t : Site) (class : ℕ) (e : Expression) (rest : List Placed) (k : B → RunState → MachineState) (go : Value → Part B) (p : ℕ) (cells : List Value) (frames : List Frame) (w : RunState) → length cells ≡ height t → HasAt code.places p (entity_code t true class e ++ rest) → Within code n w → ((v : Value) → value e w.store ≡ Ok v → HasAt code.places (p + length (entity_code t true class e)) rest → Reaches code (at (p + length (entity_code t true class e)) (held (leaf e) v cells) frames w) (arrive k frames (go v w))) → Reaches code (at p cells frames w) (arrive k frames (outcome_then (look t.line (entity_value class e) w) go))
   entity_join t class e rest k go p cells frames w high has in_ f =
-      let c : List Placed = operand_code t e in
-      let look_ : Placed = place (after t e) (i.LookEntity class (stay (operand t e))) in
-      let front : List Placed = c ++ look_ ∷ [] in
-      let end : p + length c + 1 ≡ p + length front = omega (arith, length-append c (look_ ∷ [])) in
-      let h0 = has_front code.places p front rest has in
-      let h1 = has_back code.places p front rest has in
-      subst (λ o. Reaches code (at p cells frames w) (arrive k frames o)) (entity_then (value e w.store))
-      (one_join code n t e (evaluates code n t e) (look_ ∷ []) k (λ v w. outcome_then (looked t.line (turned (λ (n : ℤ). v) (entity class v w.store)) w) go) p cells frames w high h0 in_ (λ v r h'.
-      step_leads code look_ (core_at (p + length c) (held (leaf e) v cells) frames w.store) w _ _ h'.0 refl
-      (stay_reads t e v w.store cells (λ x below. did t.line (entity class x w.store) (λ _. onward below (core_at (p + length c) (held (leaf e) v cells) frames w.store) w.store)) high r)
-      (subst (λ z. Leads code w (did t.line (entity class v w.store) (λ _. onward (held (leaf e) v cells) (core_at (p + length c) (held (leaf e) v cells) frames w.store) w.store)) (arrive k frames z)) (turned_then t.line (entity class v w.store) (λ n. v) go w)
-      (did_leads code t.line (entity class v w.store) _ w k frames (λ n. go v) (λ m z.
-      onwards (subst (λ j. Reaches code (at j (held (leaf e) v cells) frames w) (arrive k frames (go v w))) (sym end) (f v r h1)))))))
-    where
-      entity_then : (r : OkOr Value Failure) → outcome_then (looked t.line r w) (λ v w. outcome_then (looked t.line (turned (λ (n : ℤ). v) (entity class v w.store)) w) go) ≡ outcome_then (looked t.line (if_ok r (looked_at (λ x. entity class x w.store))) w) go
-      entity_then (Ok v) = refl
-      entity_then (Err (Fails kind)) = refl
-      entity_then (Err TypeError) = refl
+      looked_join code n t e (i.LookEntity class) (entity class) (λ x. refl) (λ x p cells frames s. refl) rest k go p cells frames w high has in_ f

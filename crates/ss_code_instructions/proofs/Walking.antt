@@ -1,6 +1,7 @@
 -- The code of a FOR over the members of a set. At the head of a turn the cells hold the member, and the one that comes after it.
-use Rattle.std.proofs.Common.{◌≡◌, ℕ, zero, suc, ◌+◌, ◌-◌, ◌<◌, ◌≤◌, Bool, true, false, not, List, [], ◌∷◌, ◌++◌, length, Option, Some, None, Ok, Err, ℤ, pos, refl, sym, ap, ◌∙◌, subst, arith, length-append, inl, inr}
+use Rattle.std.proofs.Common.{◌≡◌, ℕ, zero, suc, ◌+◌, ◌-◌, ◌≤◌, Bool, true, false, not, List, [], ◌∷◌, ◌++◌, length, Option, Some, None, Ok, Err, ℤ, pos, refl, sym, ap, ◌∙◌, subst, arith, length-append, inl, inr}
 use Rattle.ss_code_instructions.proofs.Common.{above, After, at_height, AtEnd, back_if, begin_walk, cell_at, Code, Core, core_at, did, due, Entity, Expression, expression_code, Fails, Failure, FaultKind, fit, for_code, forget_to, Frame, From, height, if_ok, Integer, Line, looked_at, MachineState, member_value, Members, Moved, ne_eqb, next, onward, onward_if, owner_cell, owner_code, owner_kept, owner_value, place, Placed, SetLayout, SetOwner, Site, Start, Store, take_code, Text, TheSystem, turned, turns_code, TypeError, unless_fault, Value, value, Variable, Walk, walk_at, walk_cells, walk_further, walk_loop, where_fit, Whole, with_bearer}
+use Rattle.std.proofs.lemmas.Option.{slice_get_within}
 use Rattle.std.specs.Prelude.{slice_get, is_some, cond, ◌==◌, Result as OkOr, if◌then◌else◌}
 use Rattle.ss_meaning.specs.Loops.{EndsLoop, GoesOn, IsFound, over, Turn, visit, Outset, next_member, member_turn, over_members}
 use Rattle.ss_meaning.specs.Parts.{Again, choose, look, looked, loop, outcome_then, Part, RunState, WentOn, Next, Over, go_on}
@@ -85,54 +86,27 @@ due_is : {A : Type 0} (r : OkOr A FaultKind) (a : A) → due r ≡ Ok a → r �
 due_is (Ok b) a e = let p : b ≡ a = cc in ap Ok p
 due_is (Err kind) a e = absurd cc
 
+-- what an operation finds, where it is not 0
+found_member : (h : State) (set : ℕ) (x : ℤ) (f : ℕ → ℕ) → ((n : ℕ) → (f n ≡ 0 → ⊥) → (p : ℕ) × IsInList (f n) (members_of h.lists set p)) → (r : OkOr ℕ FaultKind) → and_then r (λ n. Ok (pos (f n))) ≡ Ok x → is_none x ≡ false → IsMember h set x
+found_member h set x f lies (Ok n) e some =
+    let p : pos (f n) ≡ x = cc in
+    let m = lies n (some_number (f n) (ap is_none p ∙ some)) in
+    (m.0, f n, p, m.1)
+found_member h set x f lies (Err kind) e some = absurd cc
+
 -- the first and the last
 outset_member : (reverse : Bool) (h : State) (set : ℕ) (m x : ℤ) → outset reverse h set m ≡ Ok x → is_none x ≡ false → IsMember h set x
-outset_member false h set m x e some = by (owner_there h set m) e
-  where
-    by : (r : OkOr ℕ FaultKind) → and_then r (λ n. Ok (pos (head0 (members_of h.lists set n)))) ≡ Ok x → IsMember h set x
-    by (Ok n) e =
-        let p : pos (head0 (members_of h.lists set n)) ≡ x = cc in
-        (n, head0 (members_of h.lists set n), p, head_in (members_of h.lists set n) (some_number (head0 (members_of h.lists set n)) (ap is_none p ∙ some)))
-    by (Err kind) e = absurd cc
-outset_member true h set m x e some = by (owner_there h set m) e
-  where
-    by : (r : OkOr ℕ FaultKind) → and_then r (λ n. Ok (pos (last_or 0 (members_of h.lists set n)))) ≡ Ok x → IsMember h set x
-    by (Ok n) e =
-        let p : pos (last_or 0 (members_of h.lists set n)) ≡ x = cc in
-        (n, last_or 0 (members_of h.lists set n), p, last_in_list (members_of h.lists set n) (some_number (last_or 0 (members_of h.lists set n)) (ap is_none p ∙ some)))
-    by (Err kind) e = absurd cc
+outset_member false h set m x e some = found_member h set x (λ n. head0 (members_of h.lists set n)) (λ n k. (n, head_in (members_of h.lists set n) k)) (owner_there h set m) e some
+outset_member true h set m x e some = found_member h set x (λ n. last_or 0 (members_of h.lists set n)) (λ n k. (n, last_in_list (members_of h.lists set n) k)) (owner_there h set m) e some
 
 -- what follows a member, and what precedes one
-follower_member : (ms : List Row) (set n : ℕ) (o : Option ℕ) → (follower n (members_by ms set o) ≡ 0 → ⊥) → (p : ℕ) × IsInList (follower n (members_by ms set o)) (members_of ms set p)
-follower_member ms set n None h = absurd (h refl)
-follower_member ms set n (Some p) h = (p, follower_in n (members_of ms set p) h)
-
-precursor_member : (ms : List Row) (set n : ℕ) (o : Option ℕ) → (precursor 0 n (members_by ms set o) ≡ 0 → ⊥) → (p : ℕ) × IsInList (precursor 0 n (members_by ms set o)) (members_of ms set p)
-precursor_member ms set n None h = absurd (h refl)
-precursor_member ms set n (Some p) h = (p, precursor_in n (members_of ms set p) h)
+found_beside : (f : List ℕ → ℕ) (ms : List Row) (set : ℕ) (o : Option ℕ) → f [] ≡ 0 → ((xs : List ℕ) → (f xs ≡ 0 → ⊥) → IsInList (f xs) xs) → (f (members_by ms set o) ≡ 0 → ⊥) → (p : ℕ) × IsInList (f (members_by ms set o)) (members_of ms set p)
+found_beside f ms set None nil lies h = absurd (h nil)
+found_beside f ms set (Some p) nil lies h = (p, lies (members_of ms set p) h)
 
 beside_member : (reverse : Bool) (h : State) (set : ℕ) (y x : ℤ) → beside reverse h set y ≡ Ok x → is_none x ≡ false → IsMember h set x
-beside_member false h set y x e some = by (joiner h set y) e
-  where
-    by : (r : OkOr ℕ FaultKind) → and_then r (λ n. Ok (pos (follower n (companions h.lists set n)))) ≡ Ok x → IsMember h set x
-    by (Ok n) e =
-        let p : pos (follower n (companions h.lists set n)) ≡ x = cc in
-        let m = follower_member h.lists set n (owner_of h.lists set n) (some_number (follower n (companions h.lists set n)) (ap is_none p ∙ some)) in
-        (m.0, follower n (companions h.lists set n), p, m.1)
-    by (Err kind) e = absurd cc
-beside_member true h set y x e some = by (joiner h set y) e
-  where
-    by : (r : OkOr ℕ FaultKind) → and_then r (λ n. Ok (pos (precursor 0 n (companions h.lists set n)))) ≡ Ok x → IsMember h set x
-    by (Ok n) e =
-        let p : pos (precursor 0 n (companions h.lists set n)) ≡ x = cc in
-        let m = precursor_member h.lists set n (owner_of h.lists set n) (some_number (precursor 0 n (companions h.lists set n)) (ap is_none p ∙ some)) in
-        (m.0, precursor 0 n (companions h.lists set n), p, m.1)
-    by (Err kind) e = absurd cc
-
-before_end : {A : Type 0} (xs : List A) (k : ℕ) (a : A) → slice_get xs k ≡ Some a → k < length xs
-before_end [] k a q = absurd cc
-before_end (x ∷ xs) zero a q = omega arith
-before_end (x ∷ xs) (suc k) a q = let h : k < length xs = before_end xs k a q in omega (arith, h)
+beside_member false h set y x e some = found_member h set x (λ n. follower n (companions h.lists set n)) (λ n k. found_beside (follower n) h.lists set (owner_of h.lists set n) refl (follower_in n) k) (joiner h set y) e some
+beside_member true h set y x e some = found_member h set x (λ n. precursor 0 n (companions h.lists set n)) (λ n k. found_beside (precursor 0 n) h.lists set (owner_of h.lists set n) refl (precursor_in n) k) (joiner h set y) e some
 
 -- what may be a member has one that comes after it, or 0
 known_follows : (reverse : Bool) (set n : ℕ) (t : SetLayout) (x : ℤ) (s : Store) → set_at set s ≡ Some t → joiner s.world.heap set x ≡ Ok n → Follows reverse set s x
@@ -150,7 +124,7 @@ known_follows true set n t x s q j = (
 member_follows : (reverse : Bool) (set : ℕ) (t : SetLayout) (x : ℤ) (s : Store) → Joined s.world.heap → set_at set s ≡ Some t → IsMember s.world.heap set x → Follows reverse set s x
 member_follows reverse set t x s joined q m =
     subst (Follows reverse set s) m.2
-    (known_follows reverse set m.1 t (pos m.1) s q (joined_joins s.world.heap joined set m.0 m.1 (before_end s.world.heap.layout.sets set t q) m.3))
+    (known_follows reverse set m.1 t (pos m.1) s q (joined_joins s.world.heap joined set m.0 m.1 (slice_get_within s.world.heap.layout.sets set t q) m.3))
 
 -- a walk begins at an end of a set
 pub begun_follows : (reverse : Bool) (set : ℕ) (y : Option Value) (x : ℤ) (s : Store) → Joined s.world.heap → begun reverse set y s ≡ Ok x → is_none x ≡ false → Follows reverse set s x

@@ -1,7 +1,7 @@
 -- A whole program and its code.
 use Rattle.std.proofs.Common.{◌≡◌, ℕ, zero, suc, ◌+◌, ◌≤◌, List, [], ◌∷◌, ◌++◌, length, Some, refl, subst, arith}
 use Rattle.std.specs.Prelude.{◌≢◌, slice_get}
-use Rattle.ss_code_instructions.proofs.Common.{Code, CodeBehaves, core_at, effects, Event, Faulted, HasGoneRight, IsFaithful, Left, Lines, MachineState, Outcome, OutOfTicks, Placed, Program, Returned, Routine, start, Stopped, WentOn, Wrong}
+use Rattle.ss_code_instructions.proofs.Common.{Code, CodeBehaves, core_at, effects, Event, HasGoneRight, IsFaithful, Left, Lines, MachineState, Outcome, Placed, Program, Routine, start, WentOn, Wrong}
 use Rattle.ss_code_instructions.specs.Translation.{all_events, all_routines, block_code, block_prints, code_of, first_site, main_code, place, Site, main_scope, routine_code, event_code, routines_code, events_code, routines_prints, events_prints, routine_entries, event_entries, main_prints, prints_before_events}
 use Rattle.ss_meaning.specs.Meaning.{calls, WentWrong, run_of, first_run_state, meaning}
 use Rattle.ss_code_instructions.specs.Instructions as i
@@ -97,11 +97,8 @@ module _ (p : Program) where
   main_end : (u : Site) (q : ℕ) (s : MachineState) (o : Outcome (Unit {0})) → slice_get code.places q ≡ Some (place u i.Leave) → (run_of o).ending ≢ WentWrong → Reaches code s (arrive (λ (a : Unit {0}) w'. at q [] [] w') [] o) → Reaches code s (Finishes (run_of o))
   main_end u q s (WentOn a w) has right g =
       reaches_on g (step_leads code (place u i.Leave) (core_at q [] [] w.store) w _ _ has refl refl ends)
-  main_end u q s (Left Returned w) has right g = g
-  main_end u q s (Left Stopped w) has right g = g
-  main_end u q s (Left (Faulted kind line) w) has right g = g
-  main_end u q s (Left OutOfTicks w) has right g = g
   main_end u q s (Left Wrong w) has right g = absurd (right refl)
+  main_end u q s (Left _ w) has right g = g
 
   -- the simulation, for each program that does not go wrong, well typed or not
   pub program_runs : (input : List ℕ) (n : ℕ) → HasGoneRight p input n → Reaches code (start code input n) (Finishes (meaning p input n))

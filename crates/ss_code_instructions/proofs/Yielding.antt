@@ -1,6 +1,6 @@
 -- A call yields as many values as are wanted; and what is given to a section is as many as it takes.
 use Rattle.std.proofs.Common.{◌≡◌, ℕ, zero, suc, ◌==◌, Bool, true, false, List, [], ◌∷◌, ◌++◌, length, Option, Some, None, refl, ap, subst, if◌then◌else◌}
-use Rattle.ss_code_instructions.proofs.Common.{appended, Calls, calls, come_back, effects, enclosed, Faulted, first_values, front, Left, Mode, mode_of, needed, opened, Outcome, outcome_then, OutOfTicks, Part, prepended, Program, Returned, Routine, routine_called, RunState, same_mode, slice_get, Stopped, taken_by_modes, tick_from, Value, WentOn, with_locals, Wrong, yielded}
+use Rattle.ss_code_instructions.proofs.Common.{appended, Calls, calls, come_back, effects, enclosed, first_values, front, Left, Mode, mode_of, needed, opened, Outcome, outcome_then, Part, prepended, Program, Returned, Routine, routine_called, RunState, same_mode, slice_get, taken_by_modes, tick_from, Value, WentOn, with_locals, Wrong, yielded}
 use Rattle.ss_code_instructions.proofs.Keeping.{Where}
 use Rattle.ss_code_instructions.proofs.Parts.{ticked}
 use Rattle.ss_code_instructions.proofs.Following.{IfWentOn}
@@ -31,10 +31,7 @@ back_such count (Some us) ls w h = h
 come_such : (first count : ℕ) (ls : List Value) (o : Outcome (Unit {0})) → IfWentOn (AsWanted count) (come_back first count ls o)
 come_such first count ls (WentOn u w) = back_such count (yielded first count w.store.locals) ls w (yielded_many first count w.store.locals)
 come_such first count ls (Left Returned w) = back_such count (yielded first count w.store.locals) ls w (yielded_many first count w.store.locals)
-come_such first count ls (Left Stopped w) = tt
-come_such first count ls (Left (Faulted kind line) w) = tt
-come_such first count ls (Left OutOfTicks w) = tt
-come_such first count ls (Left Wrong w) = tt
+come_such first count ls (Left _ w) = tt
 
 pub enclosed_such : (given others : List Mode) (body : Part (Unit {0})) (vs : List Value) (count : ℕ) (w : RunState) → IfWentOn (AsWanted count) (enclosed given others body vs count w)
 enclosed_such given others body vs count w = from (opened given others vs)

@@ -1,19 +1,15 @@
 -- Reading a line of code, from piece to piece.
-use Rattle.std.proofs.Common.{◌≡◌, ℕ, ◌+◌, ◌-◌, ◌<◌, ◌≤◌, Bool, true, false, ◌||◌, List, [], ◌∷◌, ◌++◌, length, nat_lt, Some, None, append_assoc, refl, sym, ap, ◌∙◌, arith, inl, inr}
+use Rattle.std.proofs.Common.{◌≡◌, ℕ, ◌+◌, ◌-◌, ◌<◌, ◌≤◌, Bool, true, false, ◌||◌, ◌==◌, List, [], ◌∷◌, ◌++◌, length, nat_lt, Some, None, append_assoc, refl, sym, ap, ◌∙◌, arith, inl, inr}
+use Rattle.ss_lex.proofs.Common.{append-nil, called_by, cases_Bool, cut_of, fault_in, first_fault, has_kind, has_trigger, is_trigger, line_refusal, LinePiece, means_trigger, nat_tests, option_or, or_parts, piece_meaning, refusal_for, spelled, to_trigger, Token, token_in, tokens_of}
 use Rattle.std.specs.Prelude.{if◌then◌else◌}
-use Rattle.std.specs.Option.{option_or}
-use Rattle.std.proofs.lemmas.List.{append-nil}
-use Rattle.std.proofs.lemmas.Bool.Decides.{nat_tests}
-use Rattle.ss_lex.specs.declared.token.Token.{Token}
+use Rattle.std.proofs.Math.Bool.{or-false}
+use Rattle.std.proofs.lemmas.List.Folds.{list_any-append}
 use Rattle.ss_lex.specs.declared.meaning.PieceMeaning.{PieceMeaning}
 use Rattle.ss_lex.specs.declared.meaning.PieceMeaning.TheVariants as meanings
 use Rattle.ss_lex.specs.declared.meaning.Fault.{Fault}
 use Rattle.ss_lex.specs.declared.error.LexError.TheVariants as errors
-use Rattle.ss_lex.specs.Pieces.{LinePiece, spelled, piece_meaning, fault_in, first_fault}
-use Rattle.ss_lex.specs.Tokens.{token_in, tokens_of, is_trigger, has_kind, called_by}
-use Rattle.ss_lex.specs.Refusals.{refusal_for, means_trigger, has_trigger, to_trigger, cut_of, line_refusal}
 use Rattle.ss_lex.specs.Reading.{piece_at, pieces, step_of, trigger_step_of, due_from, refusal_from, fault_refusal, IsCodeLineRead, IsReadUpTo}
-use Rattle.ss_lex.proofs.Cutting.{which, cut_complete, pieces_sound, piece_place}
+use Rattle.ss_lex.proofs.Cutting.{cut_complete, pieces_sound, piece_place}
 
 -- ---- the piece at the front
 
@@ -31,9 +27,9 @@ pub record Stepped (rest : List ℕ) (m : PieceMeaning) (after : List ℕ) : Typ
   pub place : length (spelled piece) + length after ≡ length rest
   pub less : length after < length rest
 
-pub stepped : (rest : List ℕ) (m : PieceMeaning) (after : List ℕ) → 0 < length rest → (m, after) ≡ step_of rest → Stepped rest m after
+pub stepped : (rest : List ℕ) (m : PieceMeaning) (after : List ℕ) → false ≡ (length rest == 0) → (m, after) ≡ step_of rest → Stepped rest m after
 unfolding step_of
-stepped [] m after some e = absurd (omega arith)
+stepped [] m after some e = absurd cc
 stepped (b ∷ bs) m after some e =
     let place = piece_place b bs in
     let after_is : after ≡ (piece_at b bs).1 = ap (λ (p : PieceMeaning × List ℕ). p.1) e in
@@ -53,75 +49,55 @@ none_left [] e = refl
 none_left (b ∷ bs) e = absurd (omega arith)
 
 -- whether the piece at the front is a trigger word, and what follows it
-pub trigger_step : (rest after : List ℕ) (t : Bool) → 0 < length rest → (t, after) ≡ trigger_step_of rest → Stepped rest (step_of rest).0 after × (t ≡ means_trigger (step_of rest).0)
+pub trigger_step : (rest after : List ℕ) (t : Bool) → false ≡ (length rest == 0) → (t, after) ≡ trigger_step_of rest → Stepped rest (step_of rest).0 after × (t ≡ means_trigger (step_of rest).0)
 trigger_step rest after t some e =
     let after_is : after ≡ (step_of rest).1 = ap (λ (p : Bool × List ℕ). p.1) e in
     (stepped rest (step_of rest).0 after some (ap (λ l. ((step_of rest).0, l)) after_is), ap (λ (p : Bool × List ℕ). p.0) e)
 
-pub trigger_here : (rest : List ℕ) (m : PieceMeaning) (after : List ℕ) → Stepped rest m after → means_trigger m ≡ true → has_trigger (pieces rest) ≡ true
-trigger_here rest m after s t = ap has_trigger s.all ∙ ap (λ b. b || has_trigger (pieces after)) (ap means_trigger s.means ∙ t)
-
-pub trigger_after : (rest : List ℕ) (m : PieceMeaning) (after : List ℕ) → Stepped rest m after → means_trigger m ≡ false → has_trigger (pieces rest) ≡ has_trigger (pieces after)
-trigger_after rest m after s t = ap has_trigger s.all ∙ ap (λ b. b || has_trigger (pieces after)) (ap means_trigger s.means ∙ t)
-
-any_append : (ts us : List Token) → has_kind is_trigger (ts ++ us) ≡ (has_kind is_trigger ts || has_kind is_trigger us)
-any_append [] us = refl
-any_append (t ∷ ts) us = ap (λ b. is_trigger t.kind || b) (any_append ts us) ∙ go (is_trigger t.kind) (has_kind is_trigger ts) (has_kind is_trigger us)
-  where
-    go : (a b c : Bool) → (a || (b || c)) ≡ ((a || b) || c)
-    go true b c = refl
-    go false b c = refl
+pub trigger_next : (rest : List ℕ) (m : PieceMeaning) (after : List ℕ) {t : Bool} → Stepped rest m after → means_trigger m ≡ t → has_trigger (pieces rest) ≡ (t || has_trigger (pieces after))
+trigger_next rest m after s e = ap has_trigger s.all ∙ ap (λ b. b || has_trigger (pieces after)) (ap means_trigger s.means ∙ e)
 
 trigger_in : (m : PieceMeaning) (start line : ℕ) → has_kind is_trigger (token_in m start line) ≡ means_trigger m
-trigger_in meanings.Nothing start line = refl
-trigger_in (meanings.Token kind spelling) start line = go (is_trigger kind)
-  where
-    go : (b : Bool) → (b || false) ≡ b
-    go true = refl
-    go false = refl
-trigger_in (meanings.Fault fault) start line = refl
+trigger_in (meanings.Token kind spelling) start line = or-false (is_trigger kind)
+trigger_in _ start line = refl
 
 triggers_of : (ps : List LinePiece) (start line : ℕ) → has_kind is_trigger (tokens_of ps start line) ≡ has_trigger ps
 triggers_of [] start line = refl
 triggers_of (p ∷ ps) start line =
-    any_append (token_in (piece_meaning p) start line) (tokens_of ps (start + length (spelled p)) line)
+    list_any-append (λ (t : Token). is_trigger t.kind) (token_in (piece_meaning p) start line) (tokens_of ps (start + length (spelled p)) line)
     ∙ (λ i. trigger_in (piece_meaning p) start line i || triggers_of ps (start + length (spelled p)) line i)
 
 -- ---- how many pictures are called for
 
 none_called : (before ts : List Token) → has_kind is_trigger ts ≡ false → called_by before ts ≡ 0
 none_called before [] e = refl
-none_called before (t ∷ ts) e = go (is_trigger t.kind) (has_kind is_trigger ts) refl refl e
-  where
-    go : (a b : Bool) → is_trigger t.kind ≡ a → has_kind is_trigger ts ≡ b → (a || b) ≡ false → called_by before (t ∷ ts) ≡ 0
-    go true b p q e = absurd cc
-    go false true p q e = absurd cc
-    go false false p q e = rw (q, p) refl
+none_called before (t ∷ ts) e =
+    let two = or_parts (is_trigger t.kind) (has_kind is_trigger ts) e in
+    rw (two.1, two.0) refl
 
 from_none : (before ts : List Token) → due_from 0 before ts ≡ called_by before ts
 from_none before ts =
-    elim (which (has_kind is_trigger ts)) [
+    elim (cases_Bool (has_kind is_trigger ts)) [
       | inl p ↦ rw p refl
       | inr p ↦ rw p (sym (none_called before ts p))
     ]
 
 due_more : (due : ℕ) (before : List Token) (t : Token) (ts : List Token) → due_from due before (t ∷ ts) ≡ due_from (due_from due before (t ∷ [])) (before ++ t ∷ []) ts
 due_more due before t ts =
-    elim (which (has_kind is_trigger ts)) [
-      | inl q ↦ elim (which (is_trigger t.kind)) [
+    elim (cases_Bool (has_kind is_trigger ts)) [
+      | inl q ↦ elim (cases_Bool (is_trigger t.kind)) [
         | inl p ↦ rw (p, q) refl
         | inr p ↦ rw (p, q) refl
       ]
-      | inr q ↦ elim (which (is_trigger t.kind)) [
+      | inr q ↦ elim (cases_Bool (is_trigger t.kind)) [
         | inl p ↦ rw (p, q) refl
         | inr p ↦ rw (p, q) refl
       ]
     ]
 
 due_step : (due : ℕ) (before : List Token) (m : PieceMeaning) (start line : ℕ) (ts : List Token) → due_from due before (token_in m start line ++ ts) ≡ due_from (due_from due before (token_in m start line)) (before ++ token_in m start line) ts
-due_step due before meanings.Nothing start line ts = ap (λ l. due_from due l ts) (sym (append-nil before))
 due_step due before (meanings.Token kind spelling) start line ts = due_more due before (record { kind = kind; span = record { start = start; length = spelling }; line = record { 0 = line } }) ts
-due_step due before (meanings.Fault fault) start line ts = ap (λ l. due_from due l ts) (sym (append-nil before))
+due_step due before _ start line ts = ap (λ l. due_from due l ts) (sym (append-nil before))
 
 -- ---- what is wrong first
 
@@ -129,19 +105,11 @@ no_trigger : (ps : List LinePiece) → has_trigger ps ≡ false → to_trigger p
 no_trigger [] e = refl
 no_trigger (p ∷ ps) e = rw e refl
 
-or_true : (a : Bool) → (a || true) ≡ true
-or_true true = refl
-or_true false = refl
-
 fault_to_trigger : (p : LinePiece) (ps : List LinePiece) → fault_in (piece_meaning p) ≡ None → first_fault (to_trigger (p ∷ ps)) ≡ first_fault (to_trigger ps)
 fault_to_trigger p ps e =
-    elim (which (has_trigger ps)) [
-      | inl q ↦ let t : (means_trigger (piece_meaning p) || has_trigger ps) ≡ true = ap (λ b. means_trigger (piece_meaning p) || b) q ∙ or_true (means_trigger (piece_meaning p)) in
-          ap (λ (b : Bool). first_fault (if b then p ∷ to_trigger ps else [])) t ∙ ap (λ o. option_or o (first_fault (to_trigger ps))) e
-      | inr q ↦ elim (which (means_trigger (piece_meaning p))) [
-        | inl r ↦ ap (λ (b : Bool). first_fault (if (b || has_trigger ps) then p ∷ to_trigger ps else [])) r ∙ ap (λ o. option_or o (first_fault (to_trigger ps))) e
-        | inr r ↦ (λ i. first_fault (if (r i || q i) then p ∷ to_trigger ps else [])) ∙ ap first_fault (sym (no_trigger ps q))
-      ]
+    elim (cases_Bool (means_trigger (piece_meaning p) || has_trigger ps)) [
+      | inl t ↦ ap (λ (b : Bool). first_fault (if b then p ∷ to_trigger ps else [])) t ∙ ap (λ o. option_or o (first_fault (to_trigger ps))) e
+      | inr t ↦ ap (λ (b : Bool). first_fault (if b then p ∷ to_trigger ps else [])) t ∙ ap first_fault (sym (no_trigger ps (or_parts (means_trigger (piece_meaning p)) (has_trigger ps) t).1))
     ]
 
 refusal_step : (due : ℕ) (before : List Token) (p : LinePiece) (ps : List LinePiece) (at line left : ℕ) → fault_in (piece_meaning p) ≡ None → refusal_from due before (p ∷ ps) at line left ≡ refusal_from (due_from due before (token_in (piece_meaning p) at line)) (before ++ token_in (piece_meaning p) at line) ps (at + length (spelled p)) line left
@@ -179,9 +147,8 @@ read_more bytes start line left old tokens new rest after at due due' m r s f n 
     }
 
 fault_at : (m : PieceMeaning) (f : Fault) → fault_in m ≡ Some f → m ≡ meanings.Fault f
-fault_at meanings.Nothing f e = absurd cc
-fault_at (meanings.Token kind spelling) f e = absurd cc
 fault_at (meanings.Fault g) f e = cc
+fault_at _ f e = absurd cc
 
 pub read_fault : (bytes : List ℕ) (start line left : ℕ) (old tokens : List Token) (rest after : List ℕ) (at due : ℕ) (m : PieceMeaning) (fault : Fault) → IsReadUpTo bytes start line left old tokens rest at due → Stepped rest m after → fault_in m ≡ Some fault → line_refusal (pieces bytes) old start line left ≡ Some (fault_refusal fault after due left line)
 unfolding refusal_from
@@ -189,11 +156,11 @@ read_fault bytes start line left old tokens rest after at due m fault r s f =
     let p = s.piece in
     let ps = pieces after in
     let is : piece_meaning p ≡ meanings.Fault fault = s.means ∙ fault_at m fault f in
-    sym r.first ∙ (ap (λ l. refusal_from due tokens l at line left) s.all ∙ elim (which (has_trigger ps)) [
+    sym r.first ∙ (ap (λ l. refusal_from due tokens l at line left) s.all ∙ elim (cases_Bool (has_trigger ps)) [
       | inl q ↦ rw (is, q, is) refl
       | inr q ↦
           let none : has_kind is_trigger (tokens_of ps (at + length (spelled p)) line) ≡ false = triggers_of ps (at + length (spelled p)) line ∙ q in
-          elim (which (nat_lt left due)) [
+          elim (cases_Bool (nat_lt left due)) [
             | inl c ↦ rw (is, q, none, c) refl
             | inr c ↦ rw (is, q, none, c) refl
           ]

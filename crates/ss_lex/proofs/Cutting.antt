@@ -1,20 +1,9 @@
 -- A line is cut in one way.
-use Rattle.std.proofs.Common.{◌≡◌, ℕ, zero, suc, ◌+◌, ◌<◌, ◌≤◌, Bool, true, false, ◌||◌, ◌&&◌, ◌==◌, List, [], ◌∷◌, ◌++◌, length, length-append, append_assoc, take, drop, refl, sym, ap, ◌∙◌, arith, inl, inr, ◌⊎◌}
-use Rattle.std.specs.List.{prefix_len, list_all}
-use Rattle.std.proofs.lemmas.Bool.{eqb-true}
-use Rattle.std.proofs.lemmas.List.{append-nil, drop-drop}
+use Rattle.std.proofs.Common.{◌≡◌, ℕ, zero, suc, ◌+◌, ◌<◌, ◌≤◌, Bool, true, false, ◌&&◌, ◌==◌, List, [], ◌∷◌, ◌++◌, length, length-append, append_assoc, take, drop, refl, sym, ap, ◌∙◌, arith, inl, inr}
+use Rattle.ss_lex.proofs.Common.{and_parts, append-nil, cases_Bool, comment, drop-drop, eqb-true, false_from_ne_true, is_apart, is_apostrophe, is_blank_byte, is_closed, is_quotable, is_word_part, IsCutInto, IsFitBefore, LinePiece, list_all, open_comment, open_quoted, opens_comment, or_cases, passes_first, piece_meaning, prefix_len, quoted, separator, single, spelled, word}
 use Rattle.ss_base.specs.Values.{is_text_byte}
-use Rattle.ss_lex.specs.Pieces.{LinePiece, separator, word, comment, open_comment, quoted, open_quoted, single, spelled, is_blank_byte, is_word_part, is_quotable, is_apostrophe, passes_first, opens_comment, is_apart, is_closed, IsFitBefore, IsCutInto, piece_meaning}
 use Rattle.ss_lex.specs.declared.meaning.PieceMeaning.TheVariants as meanings
 use Rattle.ss_lex.specs.Reading.{longer, comment_at, quotable_length, quoted_at, run_length, piece_at, cut, pieces}
-
-pub which : (b : Bool) → (b ≡ true) ⊎ (b ≡ false)
-which true = inl refl
-which false = inr refl
-
-pub both_true : (a b : Bool) → (a && b) ≡ true → (a ≡ true) × (b ≡ true)
-both_true true b e = (refl, e)
-both_true false b e = absurd cc
 
 -- ---- the longest run of bytes that pass a test
 
@@ -24,7 +13,7 @@ run_splits test (b ∷ bs) =
     let h = run_splits test bs in
     let k : 1 + prefix_len test bs ≡ suc (prefix_len test bs) = omega arith in
     let all : list_all test (take (prefix_len test bs) bs) ≡ true = h.1 in
-    elim (which (test b)) [
+    elim (cases_Bool (test b)) [
       | inl p ↦ rw (p, k) (ap (λ l. b ∷ l) h.0, rw (p, all) refl, h.2)
       | inr p ↦ rw p (refl, refl, p)
     ]
@@ -33,7 +22,7 @@ run_again : (test : ℕ → Bool) (w rest : List ℕ) → list_all test w ≡ tr
 run_again test [] [] all stop = (refl, refl)
 run_again test [] (r ∷ rest) all stop = rw stop (refl, refl)
 run_again test (b ∷ w) rest all stop =
-    elim (which (test b)) [
+    elim (cases_Bool (test b)) [
       | inl p ↦
           let tail : list_all test w ≡ true = rw p at all in
           let h = run_again test w rest tail stop in
@@ -62,15 +51,11 @@ longer_comment b bs (comment body, rest) e (h, k) =
 longer_comment b bs (open_comment body, rest) e (h, k, r) =
     let test : opens_comment b body ≡ false = ap (λ l. opens_comment b l) (sym h) ∙ e in
     (ap (λ l. b ∷ l) h, rw test k, r)
-longer_comment b bs (separator c, rest) e h = absurd h
-longer_comment b bs (word w, rest) e h = absurd h
-longer_comment b bs (quoted w, rest) e h = absurd h
-longer_comment b bs (open_quoted w, rest) e h = absurd h
-longer_comment b bs (single c, rest) e h = absurd h
+longer_comment b bs (_, rest) e h = absurd h
 
-apostrophe_there : (bs : List ℕ) → passes_first is_apostrophe bs ≡ true → bs ≡ 39 ∷ drop 1 bs
-apostrophe_there [] e = absurd cc
-apostrophe_there (c ∷ bs) e = ap (λ x. x ∷ bs) (eqb-true c 39 e)
+byte_there : (c : ℕ) (bs : List ℕ) → passes_first (λ b. b == c) bs ≡ true → bs ≡ c ∷ drop 1 bs
+byte_there c [] e = absurd cc
+byte_there c (b ∷ bs) e = ap (λ x. x ∷ bs) (eqb-true b c e)
 
 comment_is : (bs : List ℕ) → IsComment bs (comment_at bs)
 unfolding comment_at
@@ -79,18 +64,14 @@ comment_is (b ∷ bs) = go (opens_comment b bs) refl (comment_is bs)
   where
     go : (t : Bool) → opens_comment b bs ≡ t → IsComment bs (comment_at bs) → IsComment (b ∷ bs) (comment_at (b ∷ bs))
     go true e ih =
-        let two = both_true (is_apostrophe b) (passes_first is_apostrophe bs) e in
-        rw e (λ i. eqb-true b 39 two.0 i ∷ apostrophe_there bs two.1 i, refl)
+        let two = and_parts (is_apostrophe b) (passes_first is_apostrophe bs) e in
+        rw e (λ i. eqb-true b 39 two.0 i ∷ byte_there 39 bs two.1 i, refl)
     go false e ih = rw e (longer_comment b bs (comment_at bs) e ih)
 
 comment_fits : (bs : List ℕ) (c : LinePiece × List ℕ) → IsComment bs c → (39 ∷ 39 ∷ bs ≡ spelled c.0 ++ c.1) × IsFitBefore c.0 c.1
 comment_fits bs (comment body, rest) (h, k) = (ap (λ l. 39 ∷ 39 ∷ l) (h ∙ sym (append_assoc body (39 ∷ 39 ∷ []) rest)), k)
 comment_fits bs (open_comment body, rest) (h, k, r) = (ap (λ l. 39 ∷ 39 ∷ l) (h ∙ sym (append-nil body) ∙ ap (λ r. body ++ r) (sym r)), (k, r))
-comment_fits bs (separator c, rest) h = absurd h
-comment_fits bs (word w, rest) h = absurd h
-comment_fits bs (quoted w, rest) h = absurd h
-comment_fits bs (open_quoted w, rest) h = absurd h
-comment_fits bs (single c, rest) h = absurd h
+comment_fits bs (_, rest) h = absurd h
 
 -- what fits is read
 comment_again : (body rest : List ℕ) → is_apart (body ++ 39 ∷ []) ≡ true → comment_at (body ++ 39 ∷ 39 ∷ rest) ≡ (comment body, rest)
@@ -125,25 +106,21 @@ closed_is [] = refl
 closed_is (b ∷ bs) =
     let ih = closed_is bs in
     let k : 1 + quotable_length bs ≡ suc (quotable_length bs) = omega arith in
-    elim (which (b == 34)) [
+    elim (cases_Bool (b == 34)) [
       | inl q ↦ let stop = quote_not_quotable b q in rw (stop, q) refl
-      | inr q ↦ elim (which (is_text_byte b)) [
+      | inr q ↦ elim (cases_Bool (is_text_byte b)) [
         | inl t ↦ let go : is_quotable b ≡ true = rw (q, t) refl in rw (go, k, q, t) ih
         | inr t ↦ let stop : is_quotable b ≡ false = rw t refl in rw (stop, q, t) refl
       ]
     ]
 
-quote_there : (bs : List ℕ) → passes_first (λ b. b == 34) bs ≡ true → bs ≡ 34 ∷ drop 1 bs
-quote_there [] e = absurd cc
-quote_there (c ∷ bs) e = ap (λ x. x ∷ bs) (eqb-true c 34 e)
-
 quoted_fits : (bs : List ℕ) → (34 ∷ bs ≡ spelled (quoted_at bs).0 ++ (quoted_at bs).1) × IsFitBefore (quoted_at bs).0 (quoted_at bs).1
 unfolding quoted_at
 quoted_fits bs =
-    elim (which (is_closed bs)) [
+    elim (cases_Bool (is_closed bs)) [
       | inl e ↦
           let h = run_splits is_quotable bs in
-          let there = quote_there (drop (quotable_length bs) bs) (sym (closed_is bs) ∙ e) in
+          let there = byte_there 34 (drop (quotable_length bs) bs) (sym (closed_is bs) ∙ e) in
           let after : drop 1 (drop (quotable_length bs) bs) ≡ drop (quotable_length bs + 1) bs = drop-drop 1 (quotable_length bs) bs in
           let split : bs ≡ take (quotable_length bs) bs ++ 34 ∷ drop (quotable_length bs + 1) bs = h.0 ∙ ap (λ l. take (quotable_length bs) bs ++ l) (there ∙ ap (λ l. 34 ∷ l) after) in
           rw e (ap (λ l. 34 ∷ l) (split ∙ sym (append_assoc (take (quotable_length bs) bs) (34 ∷ []) (drop (quotable_length bs + 1) bs))), h.1)
@@ -179,19 +156,19 @@ open_again body rest f b bs e =
 piece_fits : (b : ℕ) (bs : List ℕ) → ((b ∷ bs) ≡ spelled (piece_at b bs).0 ++ (piece_at b bs).1) × IsFitBefore (piece_at b bs).0 (piece_at b bs).1
 unfolding piece_at
 piece_fits b bs =
-    elim (which (is_blank_byte b)) [
+    elim (cases_Bool (is_blank_byte b)) [
       | inl p ↦ rw p (refl, p)
       | inr p ↦
-          elim (which (is_word_part b)) [
+          elim (cases_Bool (is_word_part b)) [
             | inl q ↦ let h = run_splits is_word_part bs in let all : list_all is_word_part (take (run_length bs) bs) ≡ true = h.1 in rw (p, q) (ap (λ l. b ∷ l) h.0, (omega arith, rw (q, all) refl, h.2))
             | inr q ↦
-                elim (which (opens_comment b bs)) [
+                elim (cases_Bool (opens_comment b bs)) [
                   | inl r ↦
-                      let two = both_true (is_apostrophe b) (passes_first is_apostrophe bs) r in
+                      let two = and_parts (is_apostrophe b) (passes_first is_apostrophe bs) r in
                       let h = comment_fits (drop 1 bs) (comment_at (drop 1 bs)) (comment_is (drop 1 bs)) in
-                      rw (p, q, r) ((λ i. eqb-true b 39 two.0 i ∷ apostrophe_there bs two.1 i) ∙ h.0, h.1)
+                      rw (p, q, r) ((λ i. eqb-true b 39 two.0 i ∷ byte_there 39 bs two.1 i) ∙ h.0, h.1)
                   | inr r ↦
-                      elim (which (b == 34)) [
+                      elim (cases_Bool (b == 34)) [
                         | inl s ↦ let h = quoted_fits bs in rw (p, q, r, s) (ap (λ x. x ∷ bs) (eqb-true b 34 s) ∙ h.0, h.1)
                         | inr s ↦ rw (p, q, r, s) (refl, (p, q, s, r))
                       ]
@@ -201,13 +178,8 @@ piece_fits b bs =
 
 -- a piece takes a byte at least
 spelled_some : (p : LinePiece) (rest : List ℕ) → IsFitBefore p rest → 0 < length (spelled p)
-spelled_some (separator b) rest f = omega arith
 spelled_some (word w) rest f = f.0
-spelled_some (comment body) rest f = omega arith
-spelled_some (open_comment body) rest f = omega arith
-spelled_some (quoted body) rest f = omega arith
-spelled_some (open_quoted body) rest f = omega arith
-spelled_some (single b) rest f = omega arith
+spelled_some _ rest f = omega arith
 
 cut_sound : (n : ℕ) (bytes : List ℕ) → length bytes ≤ n → IsCutInto (cut n bytes) bytes
 cut_sound zero [] le = refl
@@ -219,24 +191,15 @@ cut_sound (suc n) (b ∷ bs) le =
     ((piece_at b bs).1, h.0, h.1, cut_sound n (piece_at b bs).1 (omega (arith, ap length h.0, length-append (spelled (piece_at b bs).0) (piece_at b bs).1)))
 
 -- what fits is cut
-or_true : (a b : Bool) → (a || b) ≡ true → (a ≡ true) ⊎ (b ≡ true)
-or_true true b e = inl refl
-or_true false b e = inr e
-
 word_no_separator : (b : ℕ) → is_word_part b ≡ true → is_blank_byte b ≡ false
-word_no_separator b w = go (is_blank_byte b) refl
-  where
-    go : (t : Bool) → is_blank_byte b ≡ t → is_blank_byte b ≡ false
-    go false e = e
-    go true e =
-        elim (or_true (b == 32) _ e) [
-          | inl p ↦ let wrong = rw (eqb-true b 32 p) at w in absurd cc
-          | inr p ↦
-              elim (or_true (b == 9) _ p) [
-                | inl q ↦ let wrong = rw (eqb-true b 9 q) at w in absurd cc
-                | inr q ↦ let wrong = rw (eqb-true b 13 q) at w in absurd cc
-              ]
-        ]
+word_no_separator b w =
+    false_from_ne_true (is_blank_byte b) (λ e. elim (or_cases (b == 32) _ e) [
+      | inl p ↦ (let wrong = rw (eqb-true b 32 p) at w in absurd cc)
+      | inr p ↦ elim (or_cases (b == 9) _ p) [
+        | inl q ↦ (let wrong = rw (eqb-true b 9 q) at w in absurd cc)
+        | inr q ↦ (let wrong = rw (eqb-true b 13 q) at w in absurd cc)
+      ]
+    ])
 
 piece_again : (p : LinePiece) (rest : List ℕ) → IsFitBefore p rest → (b : ℕ) (bs : List ℕ) → b ∷ bs ≡ spelled p ++ rest → piece_at b bs ≡ (p, rest)
 unfolding piece_at
@@ -254,7 +217,7 @@ piece_again (single c) rest f b bs e =
 piece_again (word []) rest f b bs e = absurd (omega (arith, f.0))
 piece_again (word (c ∷ w)) rest f b bs e =
     let h = split b c bs (w ++ rest) e in
-    let all = both_true (is_word_part c) (list_all is_word_part w) f.1 in
+    let all = and_parts (is_word_part c) (list_all is_word_part w) f.1 in
     let u : is_word_part b ≡ true = ap is_word_part h.0 ∙ all.0 in
     let t : is_blank_byte b ≡ false = word_no_separator b u in
     let g = run_again is_word_part w rest all.1 f.2 in
@@ -297,12 +260,7 @@ comment_ends r b bs e t = rw (e, t) refl
 
 longer_rest : (b : ℕ) (c : LinePiece × List ℕ) → (longer b c).1 ≡ c.1
 longer_rest b (comment body, rest) = refl
-longer_rest b (open_comment body, rest) = refl
-longer_rest b (separator c, rest) = refl
-longer_rest b (word w, rest) = refl
-longer_rest b (quoted w, rest) = refl
-longer_rest b (open_quoted w, rest) = refl
-longer_rest b (single c, rest) = refl
+longer_rest b (_, rest) = refl
 
 pub comment_goes_on : (r : List ℕ) (b : ℕ) (bs : List ℕ) → r ≡ b ∷ bs → opens_comment b bs ≡ false → (comment_at r).1 ≡ (comment_at bs).1
 unfolding comment_at
@@ -315,11 +273,7 @@ comment_stops r e = rw e refl
 means_nothing : (bs : List ℕ) (c : LinePiece × List ℕ) → IsComment bs c → piece_meaning c.0 ≡ meanings.Nothing
 means_nothing bs (comment body, rest) h = refl
 means_nothing bs (open_comment body, rest) h = refl
-means_nothing bs (separator c, rest) h = refl
-means_nothing bs (word w, rest) h = absurd h
-means_nothing bs (quoted w, rest) h = absurd h
-means_nothing bs (open_quoted w, rest) h = absurd h
-means_nothing bs (single c, rest) h = absurd h
+means_nothing bs (_, rest) h = absurd h
 
 pub comment_meaning : (bs : List ℕ) → piece_meaning (comment_at bs).0 ≡ meanings.Nothing
 comment_meaning bs = means_nothing bs (comment_at bs) (comment_is bs)

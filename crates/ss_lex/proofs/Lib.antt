@@ -1,3 +1,4 @@
+mod Common
 pub mod Cutting
 pub mod Due
 pub mod LineEnds

@@ -1,9 +1,6 @@
 -- Lines and their ends.
-use Rattle.std.proofs.Common.{◌≡◌, ℕ, zero, suc, ◌+◌, ◌-◌, ◌<◌, Bool, true, false, ◌==◌, List, [], ◌∷◌, length, get_or, take, drop, refl, sym, ap, ◌∙◌, arith, inl, inr, ◌⊎◌}
-use Rattle.std.specs.List.{prefix_len}
-use Rattle.std.proofs.lemmas.Bool.Decides.{nat_tests}
-use Rattle.ss_lex.specs.Lines.{with_byte_first, lines_of, picture_of}
-use Rattle.ss_lex.specs.Reading.{is_in_line}
+use Rattle.std.proofs.Common.{◌≡◌, ℕ, zero, suc, ◌+◌, ◌-◌, ◌<◌, false, ◌==◌, List, [], ◌∷◌, length, get_or, take, drop, refl, sym, ap, ◌∙◌, arith, inl, inr}
+use Rattle.ss_lex.proofs.Common.{cases_Bool, is_in_line, lines_of, nat_tests, picture_of, prefix_len, with_byte_first}
 
 -- ---- the carriage return at the end
 
@@ -25,24 +22,20 @@ without_return (b ∷ c ∷ bs) (suc last) e r = ap (λ l. b ∷ l) (without_ret
 
 -- ---- the first line
 
-which : (b : Bool) → (b ≡ true) ⊎ (b ≡ false)
-which true = inl refl
-which false = inr refl
-
 pub first_is : (text : List ℕ) (n : ℕ) → 0 < length text → n ≡ prefix_len is_in_line text → lines_of text ≡ take n text ∷ lines_of (drop 1 (drop n text))
 first_is text n some e = go text some ∙ ap (λ k. take k text ∷ lines_of (drop 1 (drop k text))) (sym e)
   where
     go : (text : List ℕ) → 0 < length text → lines_of text ≡ take (prefix_len is_in_line text) text ∷ lines_of (drop 1 (drop (prefix_len is_in_line text) text))
     go [] some = absurd (omega arith)
     go (b ∷ []) some =
-        elim (which (b == 10)) [
+        elim (cases_Bool (b == 10)) [
           | inl p ↦ rw p refl
           | inr p ↦ rw p refl
         ]
     go (b ∷ c ∷ bs) some =
         let ih = go (c ∷ bs) (omega arith) in
         let k : 1 + prefix_len is_in_line (c ∷ bs) ≡ suc (prefix_len is_in_line (c ∷ bs)) = omega arith in
-        elim (which (b == 10)) [
+        elim (cases_Bool (b == 10)) [
           | inl p ↦ rw p refl
           | inr p ↦ rw (p, k) (ap (with_byte_first b) ih)
         ]

@@ -1,7 +1,6 @@
 -- The number that digits spell.
 use Rattle.std.proofs.Common.{◌≡◌, ℕ, ◌+◌, ◌*◌, ◌-◌, ◌<◌, ◌≤◌, true, List, [], ◌∷◌, length, get_or, drop, drop-cons, add-one, nat_lt, refl, arith}
-use Rattle.std.proofs.lemmas.Bool.Decides.{nat_tests}
-use Rattle.ss_lex.specs.Words.{number_from, largest_number}
+use Rattle.ss_lex.proofs.Common.{largest_number, nat_tests, number_from}
 
 grows : (n : ℕ) (digits : List ℕ) → n ≤ number_from n digits
 grows n [] = omega arith

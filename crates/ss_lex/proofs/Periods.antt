@@ -1,8 +1,7 @@
 -- The periods at the end of a word.
 use Rattle.std.proofs.Common.{◌≡◌, ℕ, zero, suc, ◌-◌, ◌<◌, ◌≤◌, false, ◌==◌, List, [], ◌∷◌, ◌++◌, length, get_or, take, refl, sym, ap, ◌∙◌, arith}
-use Rattle.std.proofs.lemmas.Bool.Decides.{nat_tests}
+use Rattle.ss_lex.proofs.Common.{nat_tests, with_byte_before, without_end_periods}
 use Rattle.std.proofs.Math.Seq.{take-suc}
-use Rattle.ss_lex.specs.Words.{with_byte_before, without_end_periods}
 
 after_period : (w : List ℕ) → without_end_periods (w ++ 46 ∷ []) ≡ without_end_periods w
 after_period [] = refl

@@ -1,19 +1,14 @@
 -- Reading a text, from line to line.
 use Rattle.std.proofs.Common.{◌≡◌, ℕ, zero, suc, ◌+◌, ◌-◌, ◌<◌, ◌≤◌, max, List, [], ◌∷◌, ◌++◌, length, Option, Some, MatchOption, append_assoc, refl, sym, ap, subst, ◌∙◌, arith, inl, inr, ◌==◌}
-use Rattle.std.proofs.lemmas.List.{append-nil}
-use Rattle.ss_lex.specs.declared.token.Token.{Token}
-use Rattle.ss_lex.specs.declared.error.LexError.{LexError}
-use Rattle.ss_lex.specs.Lines.{with_byte_first, lines_of}
-use Rattle.ss_lex.specs.Tokens.{tokens_of, called_by, picture_at, AreTokensOf}
-use Rattle.ss_lex.specs.Refusals.{line_refusal, IsRefusedIn}
-use Rattle.ss_lex.specs.Reading.{pieces, IsCodeLineRead, IsLineRead, IsLineRefused, IsTextReadTo}
-use Rattle.ss_lex.proofs.Cutting.{which, pieces_sound}
+use Rattle.ss_lex.proofs.Common.{append-nil, AreTokensOf, called_by, cases_Bool, IsCodeLineRead, IsLineRead, IsLineRefused, IsRefusedIn, IsTextReadTo, LexError, line_refusal, lines_of, picture_at, pieces, Token, tokens_of, with_byte_first}
+use Rattle.ss_lex.proofs.Cutting.{pieces_sound}
 use Rattle.ss_lex.proofs.TextLaws.{line_sound}
 
 -- ---- a line
 
-pub code_read : (bytes : List ℕ) (start line left : ℕ) (old new : List Token) (due : ℕ) → IsCodeLineRead bytes start line left old new due → IsLineRead bytes start line left 0 old new due
-code_read bytes start line left old new due r =
+pub code_read : (bytes : List ℕ) (start line left due : ℕ) (old new : List Token) (due' : ℕ) → due ≡ 0 → IsCodeLineRead bytes start line left old new due' → IsLineRead bytes start line left due old new due'
+code_read bytes start line left (suc n) old new due z r = absurd (omega arith)
+code_read bytes start line left zero old new due z r =
     let here = tokens_of (pieces bytes) start line in
     let sound = line_sound (pieces bytes) old start line left r.sound in
     record {
@@ -22,8 +17,9 @@ code_read bytes start line left old new due r =
       refused = λ lines refusal n h. (pieces bytes, pieces_sound bytes, subst (λ (o : Option LexError). MatchOption o (IsRefusedIn lines (called_by old here) (old ++ here) (start + length bytes + 1) (line + 1) refusal) (λ first. refusal ≡ first)) (sym (ap (line_refusal (pieces bytes) old start line) n ∙ r.sound)) (subst (λ (p : ℕ × List Token). IsRefusedIn lines p.0 p.1 (start + length bytes + 1) (line + 1) refusal) (λ i. (r.called i, r.tokens i)) h));
     }
 
-pub code_refused : (bytes : List ℕ) (start line left : ℕ) (old : List Token) (refusal : LexError) → line_refusal (pieces bytes) old start line left ≡ Some refusal → IsLineRefused bytes start line left 0 old refusal
-code_refused bytes start line left old refusal e =
+pub code_refused : (bytes : List ℕ) (start line left due : ℕ) (old : List Token) (refusal : LexError) → due ≡ 0 → line_refusal (pieces bytes) old start line left ≡ Some refusal → IsLineRefused bytes start line left due old refusal
+code_refused bytes start line left (suc n) old refusal z e = absurd (omega arith)
+code_refused bytes start line left zero old refusal z e =
     λ lines n. (pieces bytes, pieces_sound bytes, subst (λ (o : Option LexError). MatchOption o (IsRefusedIn lines (called_by old (tokens_of (pieces bytes) start line)) (old ++ tokens_of (pieces bytes) start line) (start + length bytes + 1) (line + 1) refusal) (λ first. refusal ≡ first)) (sym (ap (line_refusal (pieces bytes) old start line) n ∙ e)) refl)
 
 pub picture_read : (bytes : List ℕ) (start line left due : ℕ) (old new : List Token) → 0 < due → due ≤ left + 1 → new ≡ old ++ picture_at bytes start line ∷ [] → IsLineRead bytes start line left due old new (due - 1)
@@ -47,13 +43,10 @@ pub lines_fit : (text : List ℕ) → length (lines_of text) ≤ length text
 lines_fit [] = omega arith
 lines_fit (b ∷ bs) =
     let ih = lines_fit bs in
-    elim (which (b == 10)) [
+    elim (cases_Bool (b == 10)) [
       | inl p ↦ rw p (omega (arith, ih))
       | inr p ↦ rw p (omega (arith, ih, with_first_count b (lines_of bs)))
     ]
-
-pub text_none : (text : List ℕ) (count : ℕ) → count ≡ length (lines_of text) → IsTextReadTo text text 0 1 0 count []
-text_none text count e = record { counted = omega arith; place = omega arith; within = omega arith; found = λ more h. h; refused = λ refusal h. h }
 
 pub text_more : (text rest bytes after : List ℕ) (start line due due' count : ℕ) (tokens new : List Token) → IsTextReadTo text rest start line due count tokens → lines_of rest ≡ bytes ∷ lines_of after → length bytes + length after ≤ length rest → IsLineRead bytes start line (count - line) due tokens new due' → IsTextReadTo text after (start + (length bytes + 1)) (line + 1) due' count new
 text_more text rest bytes after start line due due' count tokens new r e n l =
@@ -72,12 +65,6 @@ text_more text rest bytes after start line due due' count tokens new r e n l =
           let s = l.refused (lines_of after) refusal left (subst (λ (k : ℕ). IsRefusedIn (lines_of after) due' new k (line + 1) refusal) next h) in
           r.refused refusal (subst (λ (ls : List (List ℕ)). IsRefusedIn ls due tokens start line refusal) (sym e) s);
     }
-
-pub text_refused : (text rest bytes after : List ℕ) (start line due count : ℕ) (tokens : List Token) (refusal : LexError) → IsTextReadTo text rest start line due count tokens → lines_of rest ≡ bytes ∷ lines_of after → IsLineRefused bytes start line (count - line) due tokens refusal → IsRefusedIn (lines_of text) 0 [] 0 1 refusal
-text_refused text rest bytes after start line due count tokens refusal r e l =
-    let one : length (lines_of rest) ≡ suc (length (lines_of after)) = ap length e in
-    let left : length (lines_of after) ≡ count - line = omega (arith, one, r.counted) in
-    r.refused refusal (subst (λ (ls : List (List ℕ)). IsRefusedIn ls due tokens start line refusal) (sym e) (l (lines_of after) left))
 
 pub text_all : (text rest : List ℕ) (start line due count : ℕ) (tokens : List Token) → IsTextReadTo text rest start line due count tokens → length rest ≡ 0 → AreTokensOf (lines_of text) 0 [] 0 1 tokens
 text_all text [] start line zero count tokens r e = subst (λ (ts : List Token). AreTokensOf (lines_of text) 0 [] 0 1 ts) (append-nil tokens) (r.found [] refl)

@@ -1,12 +1,10 @@
 -- The piece at the front of a line.
 use Rattle.std.proofs.Common.{◌≡◌, ℕ, suc, ◌+◌, true, false, ◌==◌, List, [], ◌∷◌, length, take, drop, refl, sym, ap, ◌∙◌, arith}
-use Rattle.std.proofs.lemmas.List.{drop-drop}
+use Rattle.ss_lex.proofs.Common.{drop-drop, is_blank_byte, is_closed, is_word_part, opens_comment, passes_first, text_meaning, without_end_periods, word_meaning}
 use Rattle.ss_base.specs.Values.{text_of}
 use Rattle.ss_lex.specs.declared.meaning.PieceMeaning.{PieceMeaning}
 use Rattle.ss_lex.specs.declared.meaning.PieceMeaning.TheVariants as meanings
 use Rattle.ss_lex.specs.declared.meaning.Fault.TheVariants.{OpenText}
-use Rattle.ss_lex.specs.Words.{without_end_periods, word_meaning}
-use Rattle.ss_lex.specs.Pieces.{passes_first, is_blank_byte, is_word_part, opens_comment, is_closed, text_meaning}
 use Rattle.ss_lex.specs.Reading.{quotable_length, quoted_at, quote_step_of, run_length, comment_at, piece_at, step_of}
 use Rattle.ss_lex.proofs.Cutting.{closed_is, comment_meaning}
 

@@ -1,15 +1,7 @@
 -- The tokens of lines: there is one list of them, or one refusal.
 use Rattle.std.proofs.Common.{◌≡◌, ℕ, zero, suc, ◌+◌, ◌≤◌, Bool, true, false, ◌||◌, List, [], ◌∷◌, ◌++◌, length, nat_lt, Option, Some, None, MatchOption, refl, sym, ap, subst, ◌∙◌, arith, inl, inr, ◌⊎◌}
-use Rattle.std.specs.Prelude.{if◌then◌else◌}
-use Rattle.std.specs.Option.{option_or}
-use Rattle.std.proofs.lemmas.Bool.Decides.{nat_tests}
-use Rattle.ss_lex.specs.declared.token.Token.{Token}
+use Rattle.ss_lex.proofs.Common.{AreTokensOf, called_by, cond_both, cut_of, fault_in, first_fault, has_trigger, IsCutInto, IsRefusedIn, LexError, line_refusal, LinePiece, means_trigger, nat_tests, option_or, picture_at, piece_meaning, pieces, refusal_for, to_trigger, Token, tokens_of}
 use Rattle.ss_lex.specs.declared.meaning.Fault.{Fault}
-use Rattle.ss_lex.specs.declared.error.LexError.{LexError}
-use Rattle.ss_lex.specs.Pieces.{LinePiece, IsCutInto, piece_meaning, fault_in, first_fault}
-use Rattle.ss_lex.specs.Tokens.{tokens_of, called_by, picture_at, AreTokensOf}
-use Rattle.ss_lex.specs.Refusals.{refusal_for, means_trigger, has_trigger, to_trigger, cut_of, line_refusal, IsRefusedIn}
-use Rattle.ss_lex.specs.Reading.{pieces}
 use Rattle.ss_lex.proofs.Cutting.{pieces_sound, pieces_complete}
 
 -- ---- what is wrong first with a line
@@ -38,11 +30,7 @@ none_to_trigger [] e = refl
 none_to_trigger (p ∷ ps) e =
     let two = or_none (fault_in (piece_meaning p)) (first_fault ps) e in
     let ih = none_to_trigger ps two.1 in
-    go (means_trigger (piece_meaning p) || has_trigger ps) two.0 ih
-  where
-    go : (t : Bool) → fault_in (piece_meaning p) ≡ None → first_fault (to_trigger ps) ≡ None → first_fault (if t then p ∷ to_trigger ps else []) ≡ None
-    go true f ih = (λ i. option_or (f i) (ih i))
-    go false f ih = refl
+    cond_both (means_trigger (piece_meaning p) || has_trigger ps) (p ∷ to_trigger ps) [] (λ qs. first_fault qs ≡ None) (λ _. λ i. option_or (two.0 i) (ih i)) (λ _. refl)
 
 line_none : (ps : List LinePiece) (before : List Token) (start line left : ℕ) → first_fault ps ≡ None → called_by before (tokens_of ps start line) ≤ left → line_refusal ps before start line left ≡ None
 line_none ps before start line left f le =

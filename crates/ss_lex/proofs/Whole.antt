@@ -1,16 +1,9 @@
 -- The tokens of a text: one list of them, or one refusal.
 use Rattle.std.proofs.Common.{◌≡◌, ◌≢◌, ℕ, ◌+◌, ◌≤◌, Bool, true, false, ◌==◌, List, [], ◌∷◌, length, nat_lt, Option, Some, None, Result, Ok, Err, IfOk, IfErr, MatchOption, MatchBool, refl, sym, ◌∙◌, arith, inl, inr, ◌⊎◌}
+use Rattle.ss_lex.proofs.Common.{and_parts, AreTokens, AreTokensOf, first_foreign, is_character, IsRefused, IsRefusedIn, LexError, lines_of, list_all, nat_tests, source_limit, Token}
 use Rattle.std.specs.Prelude.{if◌then◌else◌}
-use Rattle.std.specs.List.{list_all}
-use Rattle.std.proofs.lemmas.Bool.Decides.{nat_tests}
-use Rattle.ss_lex.specs.declared.token.Token.{Token}
-use Rattle.ss_lex.specs.declared.error.LexError.{LexError}
 use Rattle.ss_lex.specs.declared.error.LexError.TheVariants as errors
-use Rattle.ss_lex.specs.Lines.{source_limit, is_character, first_foreign, lines_of}
 use Rattle.ss_lex.specs.Listings.{Listing}
-use Rattle.ss_lex.specs.Tokens.{AreTokens, AreTokensOf}
-use Rattle.ss_lex.specs.Refusals.{IsRefused, IsRefusedIn}
-use Rattle.ss_lex.proofs.Cutting.{both_true}
 use Rattle.ss_lex.proofs.TextLaws.{one_list_of, none_refused_of, one_refusal_of, answered}
 
 -- ---- foreign bytes
@@ -26,7 +19,7 @@ none_foreign line (b ∷ bs) e = go (is_character b) refl (none_foreign (if b ==
 all_characters : (line : ℕ) (text : List ℕ) → list_all is_character text ≡ true → first_foreign line text ≡ None
 all_characters line [] e = refl
 all_characters line (b ∷ bs) e =
-    let two = both_true (is_character b) (list_all is_character bs) e in
+    let two = and_parts (is_character b) (list_all is_character bs) e in
     let t = two.0 in
     rw t (all_characters (if b == 10 then line + 1 else line) bs two.1)
 

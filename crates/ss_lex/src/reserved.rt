@@ -162,6 +162,7 @@ static S_TO_Y: [(&[u8], Word); 33] = [
 ];
 
 // The rows from A to D.
+#[tactic(auto, unfolding(crate::specs::Words::reserved))]
 fn a_to_d() -> &'static [WordRow]
     ensures { map (λ row. (row.0.now, row.1)) result.now ≡ part 0 29 }
 {
@@ -169,6 +170,7 @@ fn a_to_d() -> &'static [WordRow]
 }
 
 // The rows from E to L.
+#[tactic(auto, unfolding(crate::specs::Words::reserved))]
 fn e_to_l() -> &'static [WordRow]
     ensures { map (λ row. (row.0.now, row.1)) result.now ≡ part 29 42 }
 {
@@ -176,6 +178,7 @@ fn e_to_l() -> &'static [WordRow]
 }
 
 // The rows from M to R.
+#[tactic(auto, unfolding(crate::specs::Words::reserved))]
 fn m_to_r() -> &'static [WordRow]
     ensures { map (λ row. (row.0.now, row.1)) result.now ≡ part 71 37 }
 {
@@ -183,6 +186,7 @@ fn m_to_r() -> &'static [WordRow]
 }
 
 // The rows from S to Y.
+#[tactic(auto, unfolding(crate::specs::Words::reserved))]
 fn s_to_y() -> &'static [WordRow]
     ensures { map (λ row. (row.0.now, row.1)) result.now ≡ part 108 33 }
 {

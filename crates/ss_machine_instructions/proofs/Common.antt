@@ -23,7 +23,7 @@ pub use Rattle.ss_base.specs.declared.words.Sign.{Sign}
 pub use Rattle.ss_code_instructions.specs.Carried.{HasBearer, HasOperand, HasTarget, Is, IsTargetAt}
 pub use Rattle.ss_code_instructions.specs.Facts.{watch}
 pub use Rattle.ss_code_instructions.specs.Forms.{asking_member, asking_set, calculating, comparing_numbers}
-pub use Rattle.ss_code_instructions.specs.Instructions.{Bearer, Instruction, Operand, Placed, Target}
+pub use Rattle.ss_code_instructions.specs.Instructions.{Bearer, Operand, Placed, Target}
 pub use Rattle.ss_code_instructions.specs.Machine.{Code, act, assignable_count, has_item, is_due, unsigned}
 pub use Rattle.ss_code_instructions.specs.Shape.{IsAccepting, IsGivingBearer, IsSetBearer, IsSuited, typed_scope}
 pub use Rattle.ss_code_instructions.specs.States.{Breaks, Core, Moved, Rest, Stuck, To, Written, back_if, cell_at, core_at, deliver, deliver_with, did, fit, onward, onward_if, past, with_operand_value}
@@ -34,7 +34,7 @@ pub use Rattle.ss_machine_frames.proofs.Reading.{BothWithin, Only, Refers, beare
 pub use Rattle.ss_machine_frames.proofs.Writing.{cells_held}
 pub use Rattle.ss_machine_frames.specs.Holding.{AreCellsAt, IsAtSite, IsCoreHeld, MachineSite}
 pub use Rattle.ss_machine_frames.specs.Rows.{IsValueAt, TwoRows, place_at, with_number, with_value}
-pub use Rattle.ss_machine_instructions.specs.Doing.{Compiled, HasNoTick, HasOneTick, HasPerformed, IsDelivered, IsDelivering, IsHeld, IsReadyFor, answered, as_text}
+pub use Rattle.ss_machine_instructions.specs.Doing.{Compiled, HasNoTick, HasPerformed, IsDelivered, IsDelivering, IsHeld, IsReadyFor, answered, as_text}
 pub use Rattle.ss_machine_instructions.specs.Entered.{IsOutOfMemory}
 pub use Rattle.ss_machine_instructions.specs.Noted.{HasNoted, IsNotedAfter, IsNotedIf}
 pub use Rattle.ss_machine_instructions.specs.Ways.{at_place, back_at, back_if_at, done_unless_fault, faulted, faulted_by, faulted_test, item_after, none_of, on_after, on_at, on_if_at, refused_by, stopped, test_of, tested_at}
@@ -44,6 +44,7 @@ pub use Rattle.ss_machine_instructions.specs.declared.flow.Here.{Here}
 pub use Rattle.ss_machine_instructions.specs.declared.state.State.{State}
 pub use Rattle.ss_machine_time.specs.Figures.{statistic_variable}
 pub use Rattle.ss_machine_world.proofs.Composing.{unwatched}
+pub use Rattle.ss_machine_world.proofs.Leaving.{there_in}
 pub use Rattle.ss_machine_world.proofs.Reading.{value_once}
 pub use Rattle.ss_machine_world.proofs.Said.{said_of_layout}
 pub use Rattle.ss_machine_world.proofs.Starting.{seen_of}
@@ -69,7 +70,7 @@ pub use Rattle.ss_program.specs.declared.sections.Subject.{Subject}
 pub use Rattle.ss_program.specs.declared.sections.Subject.TheVariants.{OfAttribute, OfCount, OfVariable}
 pub use Rattle.ss_records.specs.Attributes.{IsAssigned, IsChanged, changed_number}
 pub use Rattle.ss_world.specs.Disciplines.{HasMemberKeys, filed, member_test}
-pub use Rattle.ss_world.specs.Sets.{count_in, filed_after, filed_before, filed_first, filed_last, joiner, owner, owner_in, removed}
+pub use Rattle.ss_world.specs.Sets.{count_in, joiner, owner, owner_in}
 pub use Rattle.ss_world.specs.State.{assigned, known_in, modes_of, no_value, records_in, time_in, value_in}
 pub use Rattle.std.proofs.lemmas.Bool.{eq-eqb}
 pub use Rattle.std.proofs.lemmas.Option.{slice_get_within}

@@ -1,6 +1,6 @@
 -- Entities that come and go.
 use Rattle.std.proofs.Common.{◌≡◌, ℕ, ◌+◌, ◌<◌, true, length, Option, Some, None, Ok, Err, refl, ap, ◌∙◌, subst}
-use Rattle.ss_machine_instructions.proofs.Common.{act, Address, ClassKind, ClassLayout, Compiled, Core, created_all_known, deliver_with, did, done_unless_fault, faulted_by, FaultKind, Fine, HasChanged, HasChangedWithMemory, HasMade, HasOperand, HasPerformed, HasTarget, Here, Instruction, Integer, Is, is_due, IsDelivered, IsDelivering, IsFittingStore, IsReadyFor, IsSuited, Layout, mode_of, Moved, on_after, on_at, only_number, onward, Permanent, place_at, read_within, reads, Refused, refused_by, Seen, slice_get_within, State, Store, Value, Whole, with_seen}
+use Rattle.ss_machine_instructions.proofs.Common.{act, Address, ClassKind, ClassLayout, Compiled, Core, created_all_known, deliver_with, did, done_unless_fault, faulted_by, FaultKind, Fine, HasChanged, HasChangedWithMemory, HasMade, HasOperand, HasPerformed, HasTarget, Here, Integer, Is, is_due, IsDelivered, IsDelivering, IsFittingStore, IsReadyFor, Layout, mode_of, Moved, on_after, on_at, only_number, onward, Permanent, place_at, read_within, reads, Refused, refused_by, Seen, slice_get_within, State, Store, Value, Whole, with_seen}
 use Rattle.std.specs.Prelude.{ℤ, not, slice_get, Result as OkOr}
 use Rattle.ss_meaning.specs.Values.{if_ok, sure, number_of}
 use Rattle.ss_program.specs.declared.statement.CountedClass.{CountedClass}
@@ -9,14 +9,12 @@ use Rattle.ss_meaning.specs.Entities.{comes_singly, is_single, is_permanent, mad
 use Rattle.ss_meaning.proofs.Entities.{class_said, single_said, count_said, made_one_fine}
 use Rattle.ss_code_instructions.specs.declared.instruction.Instruction.{Instruction as Running}
 use Rattle.ss_code_instructions.specs.Instructions as i
-use Rattle.ss_machine_instructions.proofs.Placing.{site, located, suits, small, deep_at, deep_here, calm}
+use Rattle.ss_machine_instructions.proofs.Placing.{site, located, suits_as, small, deep_at, deep_here, calm}
 use Rattle.ss_machine_instructions.proofs.Seeing.{makes_not, changes_not, seen_is, layout_is, goes_seeing, changes, refuses}
+use Rattle.ss_machine_instructions.proofs.Settling.{world_holds}
 use Rattle.ss_machine_instructions.proofs.Figuring.{global_within, global_is}
 
 module _ (w : Compiled) (c : Core) (here : Here) (s : State) (run : Running) (r : IsReadyFor w c here s run) where
-  abbrev SuitsHere : Instruction → Type 0
-  SuitsHere x = IsSuited w.program w.code c.place r.placed.locals r.placed.cells x
-
   abbrev does : Moved
   does = act w.code r.placed.line r.placed.instruction c
 
@@ -39,19 +37,18 @@ module _ (w : Compiled) (c : Core) (here : Here) (s : State) (run : Running) (r 
   Creates class to = HasTarget w.code w.run.constants r.placed to (λ t. Is w.code w.run.constants r.placed (i.Create class t))
 
   pub creates_within : (class : ℕ) (to : Address) → Creates class to → class < length s.world.heap.layout.classes
-  creates_within class to z = let y = subst SuitsHere z.2 (suits w c here s run r) in single_within class y.0
+  creates_within class to z = let y = suits_as w c here s run r z.2 in single_within class y.0
 
   pub creates_single : (class : ℕ) (to : Address) → Creates class to → is_single (slice_get s.world.heap.layout.classes class) ≡ true
-  creates_single class to z = let y = subst SuitsHere z.2 (suits w c here s run r) in single_here class y.0
+  creates_single class to z = let y = suits_as w c here s run r z.2 in single_here class y.0
 
   -- the number of the new entity goes to its target, in the store that has it
   pub creates : (class : ℕ) (to : Address) (n : ℤ) (e : Seen) → Creates class to → HasMade (made_one class) s.world e (Ok n) → IsDelivering w c r.placed.line does here (record s { world = e }) to (Ok (Whole n))
   creates class to n e z made =
       let is = z.2 in
-      let y = subst SuitsHere is (suits w c here s run r) in
+      let y = suits_as w c here s run r is in
       let target = z.0 in
       let store = with_seen c.store e in
-      let h = r.holds.held in
       let made_it : made_one class c.store ≡ Ok (Whole n, store) = ap (made_one class) (seen_is w c here s run r) ∙ made c.store in
       let fine : Fine (λ (b : Value × Store). (mode_of b.0 ≡ Integer) × IsFittingStore w.program r.placed.locals b.1) (made_one class c.store) = made_one_fine w.program r.compiled.typed r.placed.locals class c.store y.0 r.fits.store in
       let fits : (mode_of (Whole n) ≡ Integer) × IsFittingStore w.program r.placed.locals store = subst (Fine (λ (b : Value × Store). (mode_of b.0 ≡ Integer) × IsFittingStore w.program r.placed.locals b.1)) made_it fine in
@@ -71,15 +68,9 @@ module _ (w : Compiled) (c : Core) (here : Here) (s : State) (run : Running) (r 
         deep = deep_at w c here s run r (c.place + 1) r.placed.locals y.1.0 y.1.2;
         right = refl;
         hold = r.fits.cells;
-        at = h.cells;
+        at = r.holds.held.cells;
         fits = fits.1;
-        holds = record {
-          place = r.holds.place;
-          held = record { globals = h.globals; fixed = h.fixed; locals = h.locals; cells = h.cells; open_calls = h.open_calls; room = h.room; small = h.small };
-          world = refl;
-          even = r.holds.even;
-          line = r.holds.line;
-        };
+        holds = world_holds w c here s run r e;
       }
 
   pub created : (class : ℕ) (to : Address) (n : ℤ) (e : Seen) (new : State) (result : Option (Unit {0})) → Creates class to → HasMade (made_one class) s.world e (Ok n) → IsDelivered here (record s { world = e }) new result to (Ok (Whole n)) → HasPerformed (is_due r.placed.instruction) w r.placed.line does s new (on_after here result)
@@ -104,7 +95,7 @@ module _ (w : Compiled) (c : Core) (here : Here) (s : State) (run : Running) (r 
 
   good_count : (class variable : ℕ) → CreatesAll class variable → IsTypedCount w.program (counted class variable)
   good_count class variable is =
-      let y = subst SuitsHere is (suits w c here s run r) in
+      let y = suits_as w c here s run r is in
       count_said w.program r.compiled.typed r.placed.locals (counted class variable) y.0
 
   pub count_within : (class variable : ℕ) → CreatesAll class variable → variable < length s.rows.numbers
@@ -147,19 +138,19 @@ module _ (w : Compiled) (c : Core) (here : Here) (s : State) (run : Running) (r 
 
   pub destroys_in : (class : ℕ) (entity : Address) → Destroys class entity → place_at here.frame entity < length s.rows.numbers
   destroys_in class entity z =
-      let y = subst SuitsHere z.2 (suits w c here s run r) in
+      let y = suits_as w c here s run r z.2 in
       read_within (site w c here s run r) (located w c here s run r) z.0 Integer r.placed.cells y.1.0 entity y.1.1 z.1 (deep_here w c here s run r)
 
   pub destroys_within : (class : ℕ) (entity : Address) → Destroys class entity → class < length s.world.heap.layout.classes
-  destroys_within class entity z = let y = subst SuitsHere z.2 (suits w c here s run r) in single_within class y.0
+  destroys_within class entity z = let y = suits_as w c here s run r z.2 in single_within class y.0
 
   pub destroys_single : (class : ℕ) (entity : Address) → Destroys class entity → is_single (slice_get s.world.heap.layout.classes class) ≡ true
-  destroys_single class entity z = let y = subst SuitsHere z.2 (suits w c here s run r) in single_here class y.0
+  destroys_single class entity z = let y = suits_as w c here s run r z.2 in single_here class y.0
 
   pub destroys : (class : ℕ) (entity : Address) (n : ℤ) (e : Seen) (answer : OkOr (Unit {0}) FaultKind) (new : State) (result : Option Here) → Destroys class entity → slice_get s.rows.numbers (place_at here.frame entity) ≡ Some n → HasChanged (without class (Whole n)) s.world e answer → new ≡ faulted_by answer (record s { world = e }) → result ≡ on_after here (done_unless_fault answer) → HasPerformed (is_due r.placed.instruction) w r.placed.line does s new result
   destroys class entity n e answer new result z at changed same q =
       let is = z.2 in
-      let y = subst SuitsHere is (suits w c here s run r) in
+      let y = suits_as w c here s run r is in
       let one = reads (site w c here s run r) (located w c here s run r) z.0 Integer r.placed.cells y.1.0 entity c.cells (Whole n) y.1.1 z.1 r.holds.held.cells r.fits.cells (only_number s.rows (place_at here.frame entity) n at) in
       changes w c here s run r (without class (Whole n)) one.below e answer new result (ap is_due is)
       (ap (λ x. act w.code r.placed.line x c) is ∙ one.is (λ x below. did r.placed.line (without class x c.store) (λ t. onward below c t)))

@@ -1,9 +1,9 @@
 -- Statistics: of whom one is asked, what it says, RESET, and a variable that one watches.
 use Rattle.std.proofs.Common.{◌≡◌, ℕ, ◌+◌, ◌<◌, Bool, true, false, List, [], ◌∷◌, length, Option, Some, None, Ok, Err, refl, sym, ap, ◌∙◌, subst}
-use Rattle.ss_machine_instructions.proofs.Common.{act, Address, as_value, assigned_variable, at_place, Bearer, Class, Compiled, Core, core_at, deliver, did, done_unless_fault, due, every_get, Failure, faulted_by, FaultKind, figure, Global, HasAnswer, HasBearer, HasChanged, HasChangedWhere, HasNoTick, HasOperand, HasPerformed, HasTarget, Here, if_ok, Instruction, Integer, Is, is_due, IsCoreHeld, IsDelivering, IsHeld, IsNotedAfter, IsNotedIf, IsReadyFor, IsRight, IsValueAt, Layout, mean, Mode, modes_of, Moved, OfAttribute, OfCount, OfVariable, on_after, onward, option_map, Owner, owner_as, owner_in, place_at, Program, reset, Seen, set_length, SetLayout, slice_get_within, State, Statistic, Subject, System, unwatched, Value, value_in, value_once, watch, Whole, with_number, with_seen, without_value}
+use Rattle.ss_machine_instructions.proofs.Common.{act, Address, as_value, assigned_variable, at_place, Bearer, Class, Compiled, Core, core_at, deliver, did, done_unless_fault, due, every_get, Failure, faulted_by, FaultKind, figure, Global, HasAnswer, HasBearer, HasChanged, HasChangedWhere, HasNoTick, HasOperand, HasPerformed, HasTarget, Here, if_ok, Integer, Is, is_due, IsCoreHeld, IsDelivering, IsHeld, IsNotedAfter, IsNotedIf, IsReadyFor, IsRight, IsValueAt, Layout, mean, Mode, modes_of, Moved, OfAttribute, OfCount, OfVariable, on_after, onward, option_map, Owner, owner_as, owner_in, place_at, Program, reset, Seen, set_length, SetLayout, slice_get_within, State, Statistic, Subject, System, unwatched, Value, value_in, value_once, watch, Whole, with_number, with_seen, without_value}
 use Rattle.std.specs.Prelude.{ℤ, pos, ◌||◌, is_some, slice_get, if◌then◌else◌, Result as OkOr}
 use Rattle.std.specs.List.{list_any}
-use Rattle.ss_code_instructions.specs.Shape.{IsSuited, IsStatisticBearer}
+use Rattle.ss_code_instructions.specs.Shape.{IsStatisticBearer}
 use Rattle.ss_machine_frames.proofs.Reading.{bearer_within, only_number, read_within, reads, reads_bearer, Refers, lies_at, variable_within}
 use Rattle.ss_machine_world.specs.Numbers.{attribute_noted, HasValidSubject, IsReferenceToSubject, IsReferenceTo, IsSubject, IsHeldBySubject as VariableHolds}
 use Rattle.ss_meaning.specs.Histories.{noted, home, same_subject}
@@ -17,7 +17,7 @@ use Rattle.ss_machine_time.specs.Places.{is_about}
 use Rattle.ss_machine_world.specs.Seen as seen
 use Rattle.ss_machine_frames.proofs.Places.{Elsewhere, elsewhere_value, value_same, number_is, place_fixed}
 use Rattle.ss_machine_frames.proofs.Writing.{with_variable, put_is, variable_held}
-use Rattle.ss_machine_instructions.proofs.Placing.{site, located, suits, deep_at, deep_here, calm}
+use Rattle.ss_machine_instructions.proofs.Placing.{site, located, suits_as, deep_at, deep_here, calm, no_tick_at}
 use Rattle.ss_machine_instructions.proofs.Delivering.{faults, number_right}
 use Rattle.ss_machine_instructions.proofs.Seeing.{did_quiet, field_is, class_within, seen_is, layout_is, statistics_are, code_statistics_are, right_where, asked, looked, answers, changes_where}
 
@@ -35,7 +35,7 @@ none_about subject (s ∷ ss) e = by (same_subject s.subject subject) (λ e. non
 -- ## Subjects
 
 -- a set with an owner is there, and who owns it is the same in both words
-owner_said : (o : Option SetLayout) (whose : Owner) → option_map (λ (t : SetLayout). t.owner) o ≡ Some whose → owner_in o ≡ whose
+pub owner_said : (o : Option SetLayout) (whose : Owner) → option_map (λ (t : SetLayout). t.owner) o ≡ Some whose → owner_in o ≡ whose
 owner_said None whose e = absurd cc
 owner_said (Some t) whose e = let same : t.owner ≡ whose = cc in same
 
@@ -75,9 +75,6 @@ attribute_quiet class field x v m mid mode value none t right =
     read ∙ unwatched (OfAttribute class field) x v mid none t (λ wrong. right (read ∙ wrong))
 
 module _ (w : Compiled) (c : Core) (here : Here) (s : State) (run : Running) (r : IsReadyFor w c here s run) where
-  abbrev SuitsHere : Instruction → Type 0
-  SuitsHere x = IsSuited w.program w.code c.place r.placed.locals r.placed.cells x
-
   abbrev does : Moved
   does = act w.code r.placed.line r.placed.instruction c
 
@@ -129,13 +126,13 @@ module _ (w : Compiled) (c : Core) (here : Here) (s : State) (run : Running) (r 
 
   pub figures_in : (fold : Fold) (j : ℕ) (entity to : Address) → HasBearer w.code w.run.constants r.placed entity (λ o. HasTarget w.code w.run.constants r.placed to (λ t. Is w.code w.run.constants r.placed (i.Figure fold j o t))) → place_at here.frame entity < length s.rows.numbers
   figures_in fold j entity to z =
-      let y = subst SuitsHere z.2.2 (suits w c here s run r) in
+      let y = suits_as w c here s run r z.2.2 in
       bearer_within (site w c here s run r) (located w c here s run r) z.0 r.placed.cells y.1.0 entity y.1.1 z.1 (deep_here w c here s run r)
 
   pub figures : (fold : Fold) (j : ℕ) (entity to : Address) (n : ℤ) (answer : OkOr ℤ FaultKind) → HasBearer w.code w.run.constants r.placed entity (λ o. HasTarget w.code w.run.constants r.placed to (λ t. Is w.code w.run.constants r.placed (i.Figure fold j o t))) → slice_get s.rows.numbers (place_at here.frame entity) ≡ Some n → ((o : Option Value) → IsReferenceToSubject s.world j o n → HasAnswer (figure fold j o) s.world (seen.as_value answer)) → IsDelivering w c r.placed.line does here s to (as_value answer)
   figures fold j entity to n answer z e looks =
       let is = z.2.2 in
-      let y = subst SuitsHere is (suits w c here s run r) in
+      let y = suits_as w c here s run r is in
       let b = reads_bearer (site w c here s run r) (located w c here s run r) z.0 r.placed.cells y.1.0 entity c.cells n y.1.1 z.1 r.holds.held.cells r.fits.cells e in
       let target = z.2.0 in
       answers w c here s run r (figure fold j b.value) (as_value answer) to target Integer y.1.0 y.1.2.0 b.below
@@ -147,13 +144,13 @@ module _ (w : Compiled) (c : Core) (here : Here) (s : State) (run : Running) (r 
 
   pub looks_in_mean : (j : ℕ) (entity : Address) → HasBearer w.code w.run.constants r.placed entity (λ o. Is w.code w.run.constants r.placed (i.LookMean j o)) → place_at here.frame entity < length s.rows.numbers
   looks_in_mean j entity z =
-      let y = subst SuitsHere z.2 (suits w c here s run r) in
+      let y = suits_as w c here s run r z.2 in
       bearer_within (site w c here s run r) (located w c here s run r) z.0 r.placed.cells y.1.0 entity y.1.1 z.1 (deep_here w c here s run r)
 
   pub looks_at_mean : (j : ℕ) (entity : Address) (n : ℤ) (answer : OkOr (Unit {0}) FaultKind) (new : State) (result : Option Here) → HasBearer w.code w.run.constants r.placed entity (λ o. Is w.code w.run.constants r.placed (i.LookMean j o)) → slice_get s.rows.numbers (place_at here.frame entity) ≡ Some n → ((o : Option Value) → IsReferenceToSubject s.world j o n → HasAnswer (without_value (mean j o)) s.world answer) → new ≡ faulted_by answer s → result ≡ on_after here (done_unless_fault answer) → HasPerformed (is_due r.placed.instruction) w r.placed.line does s new result
   looks_at_mean j entity n answer new result z e looks same q =
       let is = z.2 in
-      let y = subst SuitsHere is (suits w c here s run r) in
+      let y = suits_as w c here s run r is in
       let b = reads_bearer (site w c here s run r) (located w c here s run r) z.0 r.placed.cells y.1.0 entity c.cells n y.1.1 z.1 r.holds.held.cells r.fits.cells e in
       let m = onward b.below c c.store in
       let acts : does ≡ did {A = Unit {0}} r.placed.line (without_value (mean j b.value) c.store) (λ _. m) =
@@ -199,13 +196,13 @@ module _ (w : Compiled) (c : Core) (here : Here) (s : State) (run : Running) (r 
 
   pub resets_in : (j : ℕ) (entity : Address) → HasBearer w.code w.run.constants r.placed entity (λ o. Is w.code w.run.constants r.placed (i.Reset j o)) → place_at here.frame entity < length s.rows.numbers
   resets_in j entity z =
-      let y = subst SuitsHere z.2 (suits w c here s run r) in
+      let y = suits_as w c here s run r z.2 in
       bearer_within (site w c here s run r) (located w c here s run r) z.0 r.placed.cells y.1.0 entity y.1.1 z.1 (deep_here w c here s run r)
 
   pub resets : (j : ℕ) (entity : Address) (n held : ℤ) (e : Seen) (answer : OkOr (Unit {0}) FaultKind) (new : State) (result : Option Here) → HasBearer w.code w.run.constants r.placed entity (λ o. Is w.code w.run.constants r.placed (i.Reset j o)) → slice_get s.rows.numbers (place_at here.frame entity) ≡ Some n → ((k : ℕ) → statistic_variable s.world.statistics j ≡ Some k → slice_get s.rows.numbers k ≡ Some held) → ((o : Option Value) → IsReferenceToSubject s.world j o n → HasChangedWhere (λ t. IsRight (reset j o t) × VariableHolds j held t) (reset j o) s.world e answer) → new ≡ faulted_by answer (record s { world = e }) → result ≡ on_after here (done_unless_fault answer) → HasPerformed (is_due r.placed.instruction) w r.placed.line does s new result
   resets j entity n held e answer new result z at_entity at_held changed same q =
       let is = z.2 in
-      let y = subst SuitsHere is (suits w c here s run r) in
+      let y = suits_as w c here s run r is in
       let b = reads_bearer (site w c here s run r) (located w c here s run r) z.0 r.placed.cells y.1.0 entity c.cells n y.1.1 z.1 r.holds.held.cells r.fits.cells at_entity in
       let acts : does ≡ did r.placed.line (reset j b.value c.store) (λ t. onward b.below c t) =
       ap (λ x. act w.code r.placed.line x c) is
@@ -219,11 +216,11 @@ module _ (w : Compiled) (c : Core) (here : Here) (s : State) (run : Running) (r 
 
   pub keeps_in : (k : ℕ) (from : Address) → HasOperand w.code w.run.constants r.placed from (λ y. Is w.code w.run.constants r.placed (i.Keep y (Global k))) → place_at here.frame from < length s.rows.numbers
   keeps_in k from z =
-      let y = subst SuitsHere z.2 (suits w c here s run r) in
+      let y = suits_as w c here s run r z.2 in
       read_within (site w c here s run r) (located w c here s run r) z.0 Integer r.placed.cells y.1.0 from y.1.1 z.1 (deep_here w c here s run r)
 
   pub kept_within : (k : ℕ) (from : Address) → HasOperand w.code w.run.constants r.placed from (λ y. Is w.code w.run.constants r.placed (i.Keep y (Global k))) → k < length s.rows.numbers
-  kept_within k from z = let y = subst SuitsHere z.2 (suits w c here s run r) in global_within k y.0
+  kept_within k from z = let y = suits_as w c here s run r z.2 in global_within k y.0
 
   -- the store once the variable holds a number
   abbrev kept_in : ℕ → ℤ → Store
@@ -249,9 +246,8 @@ module _ (w : Compiled) (c : Core) (here : Here) (s : State) (run : Running) (r 
             line = r.holds.line;
           } in
           let goes = acts ∙ ap (λ q. did r.placed.line q (λ t. onward below c t)) (changed (kept_in k n) right) in
-          let plain : HasNoTick w r.placed.line does s s' (Some there) = record { leads = (core_at (c.place + 1) below c.frames store, goes, holds); ticks = refl; steps = refl } in
           let way : result ≡ Some there = q ∙ ap (λ p. at_place here (p + 1)) r.holds.place in
-          subst (λ o. HasNoTick w r.placed.line does s new o) (sym way) (subst (λ u. HasNoTick w r.placed.line does s u (Some there)) (sym same) plain)
+          no_tick_at w r.placed.line does s s' new (Some there) result (core_at (c.place + 1) below c.frames store, goes, holds) refl refl same way
       by (Err kind) changed same q =
           let goes = acts ∙ ap (λ q. did r.placed.line q (λ t. onward below c t)) (changed.0 (kept_in k n) right) in
           let h = faults w r.placed.line does (record s { rows = with_number s.rows k n; world = e }) new result kind r.holds.line goes same q in
@@ -263,7 +259,7 @@ module _ (w : Compiled) (c : Core) (here : Here) (s : State) (run : Running) (r 
       let t = site w c here s run r in
       let st = located w c here s run r in
       let is = z.2 in
-      let y = subst SuitsHere is (suits w c here s run r) in
+      let y = suits_as w c here s run r is in
       let one = reads t st z.0 Integer r.placed.cells y.1.0 from c.cells (Whole n) y.1.1 z.1 r.holds.held.cells r.fits.cells (only_number s.rows (place_at here.frame from) n at) in
       let v = lies_at t st (Global k) Integer (global_at k) y.0 (refl, refl) in
       let place = place_fixed here.frame k (global_at k) (refl, refl) in

@@ -1,7 +1,7 @@
 -- Filing and removing in the world: the entities change, and then N. of the set is noted where a statistic watches it.
-use Rattle.std.proofs.Common.{◌≡◌, inl, inr, ℕ, zero, suc, ◌<◌, ℤ, Bool, true, false, List, [], ◌∷◌, ◌++◌, length, Option, Some, Ok, Err, refl, sym, ap, ◌∙◌, subst, arith}
+use Rattle.std.proofs.Common.{◌≡◌, inl, inr, ℕ, zero, suc, ◌<◌, ℤ, Bool, true, false, List, [], ◌∷◌, ◌++◌, length, Option, Some, Ok, Err, refl, sym, ap, ◌∙◌, subst}
 use Rattle.std.specs.Prelude.{pos, negsuc, is_some, slice_get, MatchResult, Result as OkOr}
-use Rattle.ss_machine_instructions.proofs.Common.{Class, ClassKind, count_noted, Discipline, due, End, Failure, FaultKind, Fifo, HasChangedIf, HasFiled, HasRearranged, HasRemoved, HasTaken, if_ok, IsCounted, IsCountedOut, IsNotedRight, IsOwner, IsRight, IsSettled, IsSettledGiving, Lifo, noted, number_if, OfCount, Owner, Ranked, Seen, Store, System, turned, Value, watch, Whole, with_seen}
+use Rattle.ss_machine_instructions.proofs.Common.{Class, ClassKind, count_noted, Discipline, due, End, Failure, FaultKind, Fifo, HasChangedIf, HasFiled, HasRearranged, HasRemoved, HasTaken, if_ok, IsCounted, IsCountedOut, IsNotedRight, IsOwner, IsRight, IsSettled, IsSettledGiving, Layout, Lifo, noted, number_if, OfCount, Owner, Ranked, Seen, Store, System, there_in, turned, Value, watch, Whole, with_seen}
 use Rattle.ss_meaning.specs.Sets.{ByRule, Foremost, Hindmost, JustAfter, JustBefore, is_fit, end_removed, recounted, filed_in, removed_from, removed_at}
 use Rattle.ss_world.specs.Sets.{count_in, joiner, owner, owner_by, owner_kind, member_class, first_in, last_in, put_in, put_beside, put_before, put_after, taken_out, filed_first, filed_last, filed_before, filed_after, removed}
 use Rattle.ss_world.specs.State.{and_then, State, Members, members_of, number_in, entity_of_kind, entity_in, kind_of}
@@ -121,10 +121,9 @@ pub ruled_layout : (e mid : Seen) (d : Discipline) (set : ℕ) (o x : ℤ) (r : 
 ruled_layout e mid d set o x (Ok u) re = ap (λ (h : State). h.layout) (filed_refiled e.heap mid.heap set o x d re.0)
 ruled_layout e mid d set o x (Err k) re = ap (λ (t : Seen). t.heap.layout) re.1
 
-pub within_there : {A : Type 0} (xs : List A) (i : ℕ) → i < length xs → is_some (slice_get xs i) ≡ true
-within_there [] i lt = absurd (omega (arith, lt))
-within_there (x ∷ xs) zero lt = refl
-within_there (x ∷ xs) (suc i) lt = within_there xs i (omega (arith, lt))
+-- a set that was there still is
+pub still_within : (old e : Seen) (l : Layout) (set : ℕ) → e ≡ old → l ≡ e.heap.layout → set < length old.heap.layout.sets → set < length l.sets
+still_within old e l set is same lt = subst (λ (l : Layout). set < length l.sets) (sym (same ∙ ap (λ (v : Seen). v.heap.layout) is)) lt
 
 -- ## A change, and the note after it
 
@@ -170,49 +169,64 @@ module _ (e : Seen) (set : ℕ) (m : ℤ) where
     settled_by new notes (Err k) q is keeps reported re did =
         subst (λ q. IsSettled f e new q) (sym did) (λ s right. is s ∙ ap (λ r. if_ok (due r) (recounted set m (with_seen s e))) re.0)
 
-module _ (e : Seen) (set : ℕ) (m : ℤ) (mid new : Seen) (notes : Bool) (there : is_some (slice_get e.heap.layout.sets set) ≡ true) where
-  pub first_filed : (x : ℤ) (changed q : OkOr (Unit {0}) FaultKind) → HasRearranged (λ h. filed_first h set m x) e mid changed → IsCounted set m changed notes mid new q → HasFiled Foremost set notes e new q m x
-  first_filed x changed q re did = λ o refers reported.
-      settled_by e set m (filed_in Foremost set (Whole x) o) (λ h. filed_first h set m x) mid new notes changed q (filed_first_is e set o m there refers x) (λ t done. first_counts e.heap t set m x done) reported re did
+-- filing by the discipline of the set
+pub ruled_filed : (e : Seen) (set : ℕ) (m : ℤ) (mid new : Seen) (notes : Bool) → set < length e.heap.layout.sets → (d : Discipline) (x : ℤ) (changed q : OkOr (Unit {0}) FaultKind) → slice_get e.disciplines set ≡ Some d → is_fit e.heap.layout set d ≡ true → HasRearranged (λ h. filed h d set m x) e mid changed → IsCounted set m changed notes mid new q → HasFiled ByRule set notes e new q m x
+ruled_filed e set m mid new notes within d x changed q has fits re did = λ o refers reported.
+    settled_by e set m (filed_in ByRule set (Whole x) o) (λ h. filed h d set m x) mid new notes changed q (filed_ruled_is e set o m (there_in e.heap.layout.sets set within) refers d x has fits) (λ t done. filed_counts e.heap t set m d x done) reported re did
 
-  pub last_filed : (x : ℤ) (changed q : OkOr (Unit {0}) FaultKind) → HasRearranged (λ h. filed_last h set m x) e mid changed → IsCounted set m changed notes mid new q → HasFiled Hindmost set notes e new q m x
-  last_filed x changed q re did = λ o refers reported.
-      settled_by e set m (filed_in Hindmost set (Whole x) o) (λ h. filed_last h set m x) mid new notes changed q (filed_last_is e set o m there refers x) (λ t done. last_counts e.heap t set m x done) reported re did
+-- the other operations change the entities alone; what was seen before is e, which is called old elsewhere
+module _ (e old : Seen) (set : ℕ) (m : ℤ) (after : State) (new : Seen) (notes : Bool) (is : e ≡ old) (within : set < length old.heap.layout.sets) where
+  abbrev mid : Seen
+  mid = record e { heap = after }
 
-  pub ruled_filed : (d : Discipline) (x : ℤ) (changed q : OkOr (Unit {0}) FaultKind) → slice_get e.disciplines set ≡ Some d → is_fit e.heap.layout set d ≡ true → HasRearranged (λ h. filed h d set m x) e mid changed → IsCounted set m changed notes mid new q → HasFiled ByRule set notes e new q m x
-  ruled_filed d x changed q has fits re did = λ o refers reported.
-      settled_by e set m (filed_in ByRule set (Whole x) o) (λ h. filed h d set m x) mid new notes changed q (filed_ruled_is e set o m there refers d x has fits) (λ t done. filed_counts e.heap t set m d x done) reported re did
+  there : is_some (slice_get e.heap.layout.sets set) ≡ true
+  there = there_in e.heap.layout.sets set (subst (λ (v : Seen). set < length v.heap.layout.sets) (sym is) within)
 
-  pub before_filed : (x y : ℤ) (changed q : OkOr (Unit {0}) FaultKind) → HasRearranged (λ h. filed_before h set m x y) e mid changed → IsCounted set m changed notes mid new q → HasFiled (JustBefore (Whole y)) set notes e new q m x
-  before_filed x y changed q re did = λ o refers reported.
-      settled_by e set m (filed_in (JustBefore (Whole y)) set (Whole x) o) (λ h. filed_before h set m x y) mid new notes changed q (filed_before_is e set o m there refers x y) (λ t done. before_counts e.heap t set m x y done) reported re did
+  abbrev IsDone : (State → OkOr State FaultKind) → OkOr (Unit {0}) FaultKind → Type 0
+  IsDone op changed = MatchResult changed (λ _. op e.heap ≡ Ok after) (λ k. (op e.heap ≡ Err k) × (after ≡ e.heap))
 
-  pub after_filed : (x y : ℤ) (changed q : OkOr (Unit {0}) FaultKind) → HasRearranged (λ h. filed_after h set m x y) e mid changed → IsCounted set m changed notes mid new q → HasFiled (JustAfter (Whole y)) set notes e new q m x
-  after_filed x y changed q re did = λ o refers reported.
-      settled_by e set m (filed_in (JustAfter (Whole y)) set (Whole x) o) (λ h. filed_after h set m x y) mid new notes changed q (filed_after_is e set o m there refers x y) (λ t done. after_counts e.heap t set m x y done) reported re did
+  settled_so : (f : Option Value → Store → OkOr Store Failure) (op : State → OkOr State FaultKind) → ((o : Option Value) → IsOwner e set o m → IsChange e set m (f o) op) → KeepsCount e set m op → (changed q : OkOr (Unit {0}) FaultKind) → IsDone op changed → IsCounted set m changed notes mid new q → (o : Option Value) → IsOwner old set o m → IsNotedRight notes (OfCount set) old → IsSettled (f o) old new q
+  settled_so f op changes keeps changed q done did =
+      subst (λ (v : Seen). (o : Option Value) → IsOwner v set o m → IsNotedRight notes (OfCount set) v → IsSettled (f o) v new q) is
+      (λ o refers reported. settled_by e set m (f o) op mid new notes changed q (changes o refers) keeps reported (rearranged op e after changed done) did)
 
-  pub member_removed : (x : ℤ) (changed q : OkOr (Unit {0}) FaultKind) → HasRearranged (λ h. removed h set m x) e mid changed → IsCounted set m changed notes mid new q → HasRemoved set notes e new q m x
-  member_removed x changed q re did = λ o refers reported.
-      settled_by e set m (removed_from set (Whole x) o) (λ h. removed h set m x) mid new notes changed q (removed_is e set o m there refers x) (λ t done. removed_counts e.heap t set m x done) reported re did
+  pub first_filed : (x : ℤ) (changed q : OkOr (Unit {0}) FaultKind) → IsDone (λ h. filed_first h set m x) changed → IsCounted set m changed notes mid new q → HasFiled Foremost set notes old new q m x
+  first_filed x =
+      settled_so (filed_in Foremost set (Whole x)) (λ h. filed_first h set m x) (λ o refers. filed_first_is e set o m there refers x) (λ t done. first_counts e.heap t set m x done)
+
+  pub last_filed : (x : ℤ) (changed q : OkOr (Unit {0}) FaultKind) → IsDone (λ h. filed_last h set m x) changed → IsCounted set m changed notes mid new q → HasFiled Hindmost set notes old new q m x
+  last_filed x =
+      settled_so (filed_in Hindmost set (Whole x)) (λ h. filed_last h set m x) (λ o refers. filed_last_is e set o m there refers x) (λ t done. last_counts e.heap t set m x done)
+
+  pub before_filed : (x y : ℤ) (changed q : OkOr (Unit {0}) FaultKind) → IsDone (λ h. filed_before h set m x y) changed → IsCounted set m changed notes mid new q → HasFiled (JustBefore (Whole y)) set notes old new q m x
+  before_filed x y =
+      settled_so (filed_in (JustBefore (Whole y)) set (Whole x)) (λ h. filed_before h set m x y) (λ o refers. filed_before_is e set o m there refers x y) (λ t done. before_counts e.heap t set m x y done)
+
+  pub after_filed : (x y : ℤ) (changed q : OkOr (Unit {0}) FaultKind) → IsDone (λ h. filed_after h set m x y) changed → IsCounted set m changed notes mid new q → HasFiled (JustAfter (Whole y)) set notes old new q m x
+  after_filed x y =
+      settled_so (filed_in (JustAfter (Whole y)) set (Whole x)) (λ h. filed_after h set m x y) (λ o refers. filed_after_is e set o m there refers x y) (λ t done. after_counts e.heap t set m x y done)
+
+  pub member_removed : (x : ℤ) (changed q : OkOr (Unit {0}) FaultKind) → IsDone (λ h. removed h set m x) changed → IsCounted set m changed notes mid new q → HasRemoved set notes old new q m x
+  member_removed x =
+      settled_so (removed_from set (Whole x)) (λ h. removed h set m x) (λ o refers. removed_is e set o m there refers x) (λ t done. removed_counts e.heap t set m x done)
 
   -- ## The first or the last is taken out
 
   -- once it is out, the note is what is left
-  end_noted : (end : End) (o : Option Value) (x : ℤ) → IsOwner e set o m → end_removed end e.heap set m ≡ Ok (x, mid.heap) → mid ≡ record e { heap = mid.heap } → (s : Store) → removed_at end set o (with_seen s e) ≡ turned (λ t. (Whole x, t)) (count_noted set m (with_seen s mid))
-  end_noted end o x refers done same s =
+  end_noted : (end : End) (o : Option Value) (x : ℤ) → IsOwner e set o m → end_removed end e.heap set m ≡ Ok (x, after) → (s : Store) → removed_at end set o (with_seen s e) ≡ turned (λ t. (Whole x, t)) (count_noted set m (with_seen s mid))
+  end_noted end o x refers done s =
       end_removed_is e set o m there refers end s
       ∙ ap (λ r. if_ok {B = Value × Store} (due r) (λ r. turned (λ t. (Whole r.0, t)) (recounted set m (with_seen s e) r.1))) done
-      ∙ ap (λ (t : Seen). turned (λ t. (Whole x, t)) (count_noted set m (with_seen s t))) (sym same)
 
   given_as : (f : Store → OkOr (Value × Store) Failure) (x : ℤ) (q : OkOr (Unit {0}) FaultKind) → ((s : Store) → f (with_seen s e) ≡ turned (λ t. (Whole x, t)) (count_noted set m (with_seen s mid))) → IsSettled (count_noted set m) mid new q → IsSettledGiving f e new (number_if x q)
   given_as f x (Ok u) alike d = λ s right. alike s ∙ ap (turned (λ t. (Whole x, t))) (d s (λ wrong. right (alike s ∙ ap (turned (λ t. (Whole x, t))) wrong)))
   given_as f x (Err k) alike d = λ s right. alike s ∙ ap (turned (λ t. (Whole x, t))) (d s (λ wrong. right (alike s ∙ ap (turned (λ t. (Whole x, t))) wrong)))
 
-  pub end_taken : (end : End) (taken q : OkOr ℤ FaultKind) → mid ≡ record e { heap = mid.heap } → MatchResult taken (λ x. end_removed end e.heap set m ≡ Ok (x, mid.heap)) (λ k. (end_removed end e.heap set m ≡ Err k) × (mid.heap ≡ e.heap)) → IsCountedOut set m taken notes mid new q → HasTaken end set notes e new q m
-  end_taken end (Ok x) q same done did = λ o refers reported.
+  pub end_taken : (end : End) (taken q : OkOr ℤ FaultKind) → MatchResult taken (λ x. end_removed end e.heap set m ≡ Ok (x, after)) (λ k. (end_removed end e.heap set m ≡ Err k) × (after ≡ e.heap)) → IsCountedOut set m taken notes mid new q → HasTaken end set notes old new q m
+  end_taken end (Ok x) q done did = subst (λ (v : Seen). HasTaken end set notes v new q m) is (λ o refers reported.
       subst (λ (q : OkOr ℤ FaultKind). IsSettledGiving (removed_at end set o) e new q) (sym did.2)
-      (given_as (removed_at end set o) x did.0 (end_noted end o x refers done same)
-      (noted_as e set m mid new notes did.0 (λ none. ap (λ (t : Seen). watch t.statistics (OfCount set)) same ∙ reported none) (end_counts e.heap mid.heap set m end x done) did.1))
-  end_taken end (Err k) q same done did = λ o refers reported.
+      (given_as (removed_at end set o) x did.0 (end_noted end o x refers done)
+      (noted_as e set m mid new notes did.0 reported (end_counts e.heap after set m end x done) did.1)))
+  end_taken end (Err k) q done did = subst (λ (v : Seen). HasTaken end set notes v new q m) is (λ o refers reported.
       subst (λ (q : OkOr ℤ FaultKind). IsSettledGiving (removed_at end set o) e new q) (sym did)
-      (λ s right. end_removed_is e set o m there refers end s ∙ ap (λ r. if_ok {B = Value × Store} (due r) (λ r. turned (λ t. (Whole r.0, t)) (recounted set m (with_seen s e) r.1))) done.0)
+      (λ s right. end_removed_is e set o m there refers end s ∙ ap (λ r. if_ok {B = Value × Store} (due r) (λ r. turned (λ t. (Whole r.0, t)) (recounted set m (with_seen s e) r.1))) done.0))

@@ -1,5 +1,6 @@
 -- The next item of a loop, by numbers without a sign.
 use Rattle.std.proofs.Common.{◌≡◌, ℕ, suc, ◌+◌, ◌-◌, ◌%◌, ◌^◌, ◌<◌, ◌≤◌, Bool, true, false, Some, None, refl, sym, ap, ◌∙◌, arith, SFits, to_z, of_z, w64, if◌then◌else◌}
+use Rattle.std.proofs.lemmas.Bool.{false_from_ne_true, true_from_ne_false}
 use Rattle.std.proofs.lemmas.Int.{ints, of_z-to_z, to_z_pos}
 use Rattle.std.specs.Prelude.{ℤ, pos, negsuc, ◌+ℤ◌, ◌<ℤ◌, ◌≤ℤ◌, ◌&&◌, int_lt, int_le}
 use Rattle.std.specs.Int.{int_min}
@@ -31,19 +32,11 @@ far_is (negsuc a) (negsuc b) f g lt =
 
 -- a step without a sign
 step_is : (s : ℤ) → SFits w64 s → unsigned s ≡ pos (of_z w64 s)
-step_is (pos n) f = by (int_lt (pos n) (pos 0)) refl
-  where
-    by : (b : Bool) → int_lt (pos n) (pos 0) ≡ b → (if b then pos n +ℤ pos (2 ^ 64) else pos n) ≡ pos n
-    by true q = absurd (omega (arith, ints))
-    by false q = refl
-step_is (negsuc k) f = by (int_lt (negsuc k) (pos 0)) refl
-  where
-    small : k < 2 ^ 63
-    small = f.sfits
-
-    by : (b : Bool) → int_lt (negsuc k) (pos 0) ≡ b → (if b then negsuc k +ℤ pos (2 ^ 64) else negsuc k) ≡ pos (2 ^ 64 - suc k)
-    by true q = omega (arith, ints, small)
-    by false q = absurd (omega (arith, ints))
+step_is (pos n) f = ap (λ b. if b then pos n +ℤ pos (2 ^ 64) else pos n) (false_from_ne_true (int_lt (pos n) (pos 0)) (λ q. omega (arith, ints)))
+step_is (negsuc k) f =
+    let small : k < 2 ^ 63 = f.sfits in
+    let e : negsuc k +ℤ pos (2 ^ 64) ≡ pos (2 ^ 64 - suc k) = omega (arith, ints, small) in
+    ap (λ b. if b then negsuc k +ℤ pos (2 ^ 64) else negsuc k) (true_from_ne_false (int_lt (negsuc k) (pos 0)) (λ q. omega (arith, ints))) ∙ e
 
 -- the sum is that of an item and a step without a sign, where that is a number
 sum_is : (a s : ℤ) → SFits w64 a → SFits w64 s → (a +ℤ pos (of_z w64 s)) ≤ℤ greatest → sum a s ≡ a +ℤ pos (of_z w64 s)
@@ -83,25 +76,13 @@ most (pos n) f = let h : n < 2 ^ 63 = f.sfits in omega (arith, ints)
 most (negsuc k) f = omega (arith, ints)
 
 least_is : (z : ℤ) → z ≤ℤ greatest → int_min z greatest ≡ z
-least_is z le = by (int_lt greatest z) refl
-  where
-    by : (b : Bool) → int_lt greatest z ≡ b → (if b then greatest else z) ≡ z
-    by true q = absurd (omega (arith, ints, le))
-    by false q = refl
+least_is z le = ap (λ b. if b then greatest else z) (false_from_ne_true (int_lt greatest z) (λ q. omega (arith, ints, le)))
 
 below_is : (a b : ℤ) → a <ℤ b → int_lt a b ≡ true
-below_is a b lt = by (int_lt a b) refl
-  where
-    by : (t : Bool) → int_lt a b ≡ t → int_lt a b ≡ true
-    by true q = q
-    by false q = absurd (omega (arith, ints, lt))
+below_is a b lt = true_from_ne_false (int_lt a b) (λ q. omega (arith, ints, lt))
 
 up_to : (a b : ℤ) → a ≤ℤ b → int_le a b ≡ true
-up_to a b le = by (int_le a b) refl
-  where
-    by : (t : Bool) → int_le a b ≡ t → int_le a b ≡ true
-    by true q = q
-    by false q = absurd (omega (arith, ints, le))
+up_to a b le = true_from_ne_false (int_le a b) (λ q. omega (arith, ints, le))
 
 -- an item below the limit has a next one where the step goes no further than the limit
 pub within : (item step limit : ℤ) → SFits w64 item → SFits w64 step → SFits w64 limit → item <ℤ limit → of_z w64 step ≤ far limit item → Some (sum item step) ≡ item_after item step limit

@@ -1,6 +1,6 @@
 -- Looks at references: what the machine asks of its world is what the definition asks.
-use Rattle.std.proofs.Common.{◌≡◌, ℕ, ◌<◌, true, List, length, Option, Some, None, Ok, Err, refl, sym, ap, ◌∙◌, subst}
-use Rattle.ss_machine_instructions.proofs.Common.{act, Address, assignable_count, bearer_within, ClassLayout, Compiled, Core, did, done_unless_fault, due, faulted_by, FaultKind, HasAnswer, HasBearer, HasOperand, HasPerformed, Here, if_ok, Instruction, Integer, Is, is_due, IsReadyFor, IsSuited, joiner, Layout, Line, Mode, Moved, on_after, only_number, onward, option_map, owner, place_at, Program, read_within, reads, reads_bearer, slice_get_within, State, turned, where_fit, Whole}
+use Rattle.std.proofs.Common.{◌≡◌, ℕ, ◌<◌, true, List, length, Option, Some, None, Ok, Err, refl, sym, ap, ◌∙◌}
+use Rattle.ss_machine_instructions.proofs.Common.{act, Address, assignable_count, bearer_within, ClassLayout, Compiled, Core, did, done_unless_fault, due, faulted_by, FaultKind, HasAnswer, HasBearer, HasOperand, HasPerformed, Here, if_ok, Integer, Is, is_due, IsReadyFor, joiner, Layout, Line, Mode, Moved, on_after, only_number, onward, option_map, owner, place_at, Program, read_within, reads, reads_bearer, slice_get_within, State, turned, where_fit, Whole}
 use Rattle.std.specs.Prelude.{ℤ, slice_get, is_some, Result as OkOr}
 use Rattle.ss_meaning.specs.Sets.{member, known_owner}
 use Rattle.ss_world.specs.State.{no_value, State as Heap, known_in}
@@ -8,7 +8,7 @@ use Rattle.ss_program.specs.WellTyped.{fields_of, IsSet}
 use Rattle.ss_meaning.specs.Entities.{entity}
 use Rattle.ss_code_instructions.specs.declared.instruction.Instruction.{Instruction as Running}
 use Rattle.ss_code_instructions.specs.Instructions as i
-use Rattle.ss_machine_instructions.proofs.Placing.{site, located, suits, deep_here}
+use Rattle.ss_machine_instructions.proofs.Placing.{site, located, suits_as, deep_here}
 use Rattle.ss_machine_instructions.proofs.Asking.{owner_is, set_within}
 use Rattle.ss_machine_instructions.proofs.Seeing.{heap_is, layout_is, asked, looked}
 
@@ -32,9 +32,6 @@ class_of p class modes e = by (slice_get p.layout.classes class) refl e
     by (Some k) at e = (k, at)
 
 module _ (w : Compiled) (c : Core) (here : Here) (s : State) (run : Running) (r : IsReadyFor w c here s run) where
-  abbrev SuitsHere : Instruction → Type 0
-  SuitsHere x = IsSuited w.program w.code c.place r.placed.locals r.placed.cells x
-
   abbrev does : Moved
   does = act w.code r.placed.line r.placed.instruction c
 
@@ -45,13 +42,13 @@ module _ (w : Compiled) (c : Core) (here : Here) (s : State) (run : Running) (r 
 
   pub entity_in : (class : ℕ) (entity : Address) → AtEntity class entity → place_at here.frame entity < length s.rows.numbers
   entity_in class entity z =
-      let y = subst SuitsHere z.2 (suits w c here s run r) in
+      let y = suits_as w c here s run r z.2 in
       read_within (site w c here s run r) (located w c here s run r) z.0 Integer r.placed.cells y.1.0 entity y.1.1 z.1 (deep_here w c here s run r)
 
   -- the class is there
   class_there : (class : ℕ) (entity : Address) → AtEntity class entity → (k : ClassLayout) × (slice_get s.world.heap.layout.classes class ≡ Some k)
   class_there class entity z =
-      let y = subst SuitsHere z.2 (suits w c here s run r) in
+      let y = suits_as w c here s run r z.2 in
       let k = class_of w.program class y.0.0 y.0.1 in
       (k.0, ap (λ (l : Layout). slice_get l.classes class) (layout_is w c here s run r) ∙ k.1)
 
@@ -61,7 +58,7 @@ module _ (w : Compiled) (c : Core) (here : Here) (s : State) (run : Running) (r 
   pub looks_at_entity : (class : ℕ) (at : Address) (n : ℤ) (answer : OkOr (Unit {0}) FaultKind) (new : State) (result : Option Here) → AtEntity class at → slice_get s.rows.numbers (place_at here.frame at) ≡ Some n → answer ≡ known_in s.world.heap class n → new ≡ faulted_by answer s → result ≡ on_after here (done_unless_fault answer) → HasPerformed (is_due r.placed.instruction) w r.placed.line does s new result
   looks_at_entity class at n answer new result z e known same q =
       let is = z.2 in
-      let y = subst SuitsHere is (suits w c here s run r) in
+      let y = suits_as w c here s run r is in
       let one = reads (site w c here s run r) (located w c here s run r) z.0 Integer r.placed.cells y.1.0 at c.cells (Whole n) y.1.1 z.1 r.holds.held.cells r.fits.cells (only_number s.rows (place_at here.frame at) n e) in
       let m = onward one.below c c.store in
       let there : is_some (slice_get s.world.heap.layout.classes class) ≡ true = ap is_some (class_there class at z).1 in
@@ -81,7 +78,7 @@ module _ (w : Compiled) (c : Core) (here : Here) (s : State) (run : Running) (r 
 
   pub member_in : (set : ℕ) (member : Address) → AtMember set member → place_at here.frame member < length s.rows.numbers
   member_in set member z =
-      let y = subst SuitsHere z.2 (suits w c here s run r) in
+      let y = suits_as w c here s run r z.2 in
       read_within (site w c here s run r) (located w c here s run r) z.0 Integer r.placed.cells y.1.0 member y.1.1 z.1 (deep_here w c here s run r)
 
   -- a set of the program is one of the world
@@ -89,12 +86,12 @@ module _ (w : Compiled) (c : Core) (here : Here) (s : State) (run : Running) (r 
   set_in set is = slice_get_within s.world.heap.layout.sets set is.0 (ap (λ (l : Layout). slice_get l.sets set) (layout_is w c here s run r) ∙ is.1)
 
   pub member_set_in : (set : ℕ) (member : Address) → AtMember set member → set < length s.world.heap.layout.sets
-  member_set_in set member z = let y = subst SuitsHere z.2 (suits w c here s run r) in set_in set y.0
+  member_set_in set member z = let y = suits_as w c here s run r z.2 in set_in set y.0
 
   pub looks_at_member : (set : ℕ) (at : Address) (n : ℤ) (answer : OkOr (Unit {0}) FaultKind) (new : State) (result : Option Here) → AtMember set at → slice_get s.rows.numbers (place_at here.frame at) ≡ Some n → answer ≡ no_value (joiner s.world.heap set n) → new ≡ faulted_by answer s → result ≡ on_after here (done_unless_fault answer) → HasPerformed (is_due r.placed.instruction) w r.placed.line does s new result
   looks_at_member set at n answer new result z e known same q =
       let is = z.2 in
-      let y = subst SuitsHere is (suits w c here s run r) in
+      let y = suits_as w c here s run r is in
       let one = reads (site w c here s run r) (located w c here s run r) z.0 Integer r.placed.cells y.1.0 at c.cells (Whole n) y.1.1 z.1 r.holds.held.cells r.fits.cells (only_number s.rows (place_at here.frame at) n e) in
       let m = onward one.below c c.store in
       let there : is_some (slice_get s.world.heap.layout.sets set) ≡ true = ap (λ (l : Layout). is_some (slice_get l.sets set)) (layout_is w c here s run r) ∙ ap is_some y.0.1 in
@@ -114,16 +111,16 @@ module _ (w : Compiled) (c : Core) (here : Here) (s : State) (run : Running) (r 
 
   pub owner_in : (set : ℕ) (owner : Address) → AtOwner set owner → place_at here.frame owner < length s.rows.numbers
   owner_in set owner z =
-      let y = subst SuitsHere z.2 (suits w c here s run r) in
+      let y = suits_as w c here s run r z.2 in
       bearer_within (site w c here s run r) (located w c here s run r) z.0 r.placed.cells y.1.0 owner y.1.1 z.1 (deep_here w c here s run r)
 
   pub owner_set_in : (set : ℕ) (owner : Address) → AtOwner set owner → set < length s.world.heap.layout.sets
-  owner_set_in set owner z = let y = subst SuitsHere z.2 (suits w c here s run r) in set_within w c here s run r set z.0 y.0
+  owner_set_in set owner z = let y = suits_as w c here s run r z.2 in set_within w c here s run r set z.0 y.0
 
   pub looks_at_owner : (set : ℕ) (at : Address) (n : ℤ) (answer : OkOr (Unit {0}) FaultKind) (new : State) (result : Option Here) → AtOwner set at → slice_get s.rows.numbers (place_at here.frame at) ≡ Some n → answer ≡ no_value (owner s.world.heap set n) → new ≡ faulted_by answer s → result ≡ on_after here (done_unless_fault answer) → HasPerformed (is_due r.placed.instruction) w r.placed.line does s new result
   looks_at_owner set at n answer new result z e known same q =
       let is = z.2 in
-      let y = subst SuitsHere is (suits w c here s run r) in
+      let y = suits_as w c here s run r is in
       let b = reads_bearer (site w c here s run r) (located w c here s run r) z.0 r.placed.cells y.1.0 at c.cells n y.1.1 z.1 r.holds.held.cells r.fits.cells e in
       let m = onward b.below c c.store in
       let who = owner_is w.program set z.0 b.value n c.store r.fits.store.sound.world.layout y.0 b.refers in

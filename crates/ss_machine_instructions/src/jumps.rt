@@ -3,7 +3,6 @@
 ghost use Rattle.std.specs.Prelude.{◌≡◌, ◌<◌, ℕ, length, Some, is_some};
 ghost use Rattle.ss_base.specs.declared.value.Value.TheVariants.{Whole, Text};
 ghost use Rattle.ss_world.specs.PendingList.{least_event};
-ghost use Rattle.ss_world.specs.Sets.{count_in};
 ghost use Rattle.ss_world.specs.Disciplines.{member_test};
 ghost use Rattle.ss_meaning.specs.Values.{allows, related};
 ghost use Rattle.ss_meaning.specs.Sets.{is_none};
@@ -13,12 +12,14 @@ ghost use Rattle.ss_machine_instructions.specs.declared.flow.Here.{Here as HereS
 ghost use Rattle.ss_machine_instructions.specs.Ways.{none_of, back_if_at, on_if_at, tested_at};
 
 use crate::flow::Here;
+use crate::sets::ask_set;
 use crate::state::State;
 use ss_base::{Alpha, FaultKind};
 use ss_code_instructions::address::Address;
 use ss_code_instructions::instruction::Instruction;
 use ss_machine_world::world::World;
 use ss_program::condition::Relation;
+use ss_program::expression::SetQuery;
 use std::cmp::Ordering;
 
 // Whether an order is one of those that a relation allows.
@@ -60,16 +61,6 @@ fn are_none(count: Result<i64, FaultKind>) -> Result<bool, FaultKind>
         Ok(count) => Ok(is_none(count)),
         Err(kind) => Err(kind),
     }
-}
-
-// How many members the set of an owner has.
-#[inline(always)]
-fn number_in(world: &mut World, set: usize, owner: i64) -> Result<i64, FaultKind>
-    requires set { set < length world.old.heap.layout.sets }
-    ensures value { result ≡ count_in world.old.heap set owner }
-    ensures same { world.new ≡ world.old }
-{
-    world.population.member_count(set, owner)
 }
 
 // Whether a notice is pending.
@@ -150,7 +141,8 @@ impl State {
         ensures { (skip : ℕ) → HasDone here self.old self.new (tested_at here result skip) (Instruction.UnlessEmpty set owner.now skip negated) }
     {
         let owner = self.number(here, owner);
-        let answer = are_none(number_in(&mut self.world, set as usize, owner));
+        let count = ask_set(&mut self.world, SetQuery::MemberCount, set as usize, owner);
+        let answer = are_none(count);
         self.tested(answer, negated)
     }
 

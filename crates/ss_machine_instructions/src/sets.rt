@@ -1,8 +1,6 @@
 //! Sets: what is asked of them, filing and removing.
 
 ghost use Rattle.std.specs.Prelude.{◌≡◌, ◌<◌, length, true, false};
-ghost use Rattle.ss_program.specs.declared.expression.SetQuery.TheVariants.{FirstMember, LastMember, MemberCount};
-ghost use Rattle.ss_program.specs.declared.expression.MemberQuery.TheVariants.{Predecessor, Successor, Membership};
 ghost use Rattle.ss_base.specs.declared.words.End.TheVariants as ends;
 ghost use Rattle.ss_base.specs.declared.value.Value.TheVariants.{Whole};
 ghost use Rattle.ss_meaning.specs.Sets.{set_answer, Foremost, Hindmost, ByRule, JustBefore, JustAfter};
@@ -18,6 +16,7 @@ use crate::state::State;
 use ss_base::FaultKind;
 use ss_code_instructions::address::Address;
 use ss_code_instructions::instruction::Instruction;
+use ss_machine_entities::population::Population;
 use ss_machine_world::world::World;
 use ss_program::expression::{MemberQuery, SetQuery};
 
@@ -26,56 +25,6 @@ use ss_program::expression::{MemberQuery, SetQuery};
 pub struct Filing {
     pub set: u32,
     pub noted: bool,
-}
-
-// The first member of the set of an owner, 0 for none.
-#[inline(always)]
-fn first_of(world: &mut World, set: usize, owner: i64) -> Result<i64, FaultKind>
-    requires set { set < length world.old.heap.layout.sets }
-    ensures value { result ≡ set_answer FirstMember world.old.heap set owner }
-    ensures same { world.new ≡ world.old }
-{
-    world.population.first(set, owner)
-}
-
-// The last one.
-#[inline(always)]
-fn last_of(world: &mut World, set: usize, owner: i64) -> Result<i64, FaultKind>
-    requires set { set < length world.old.heap.layout.sets }
-    ensures value { result ≡ set_answer LastMember world.old.heap set owner }
-    ensures same { world.new ≡ world.old }
-{
-    world.population.last(set, owner)
-}
-
-// How many there are.
-#[inline(always)]
-fn count_of(world: &mut World, set: usize, owner: i64) -> Result<i64, FaultKind>
-    requires set { set < length world.old.heap.layout.sets }
-    ensures value { result ≡ set_answer MemberCount world.old.heap set owner }
-    ensures same { world.new ≡ world.old }
-{
-    world.population.member_count(set, owner)
-}
-
-// The member before another one, 0 for none.
-#[inline(always)]
-fn one_before(world: &mut World, set: usize, member: i64) -> Result<i64, FaultKind>
-    requires set { set < length world.old.heap.layout.sets }
-    ensures value { result ≡ member_answer Predecessor world.old.heap set member }
-    ensures same { world.new ≡ world.old }
-{
-    world.population.previous(set, member)
-}
-
-// The member after it.
-#[inline(always)]
-fn one_after(world: &mut World, set: usize, member: i64) -> Result<i64, FaultKind>
-    requires set { set < length world.old.heap.layout.sets }
-    ensures value { result ≡ member_answer Successor world.old.heap set member }
-    ensures same { world.new ≡ world.old }
-{
-    world.population.next(set, member)
 }
 
 // 1 where there is an owner, 0 where there is none, or the fault.
@@ -90,31 +39,60 @@ fn one_where(owner: Result<Option<i64>, FaultKind>) -> Result<i64, FaultKind>
     }
 }
 
-// Whether a number is in some set of the name: 1 or 0.
+// What is asked of the set of an owner: a member, 0 for none, or how many there are.
 #[inline(always)]
-fn filed_in_any(world: &mut World, set: usize, member: i64) -> Result<i64, FaultKind>
-    requires set { set < length world.old.heap.layout.sets }
-    ensures value { result ≡ member_answer Membership world.old.heap set member }
-    ensures same { world.new ≡ world.old }
+fn answer_of_set(
+    population: &mut Population,
+    query: SetQuery,
+    set: usize,
+    owner: i64,
+) -> Result<i64, FaultKind>
+    requires set { set < length population.old.layout.sets }
+    ensures value { result ≡ set_answer query population.old set owner }
+    ensures same { population.new ≡ population.old }
 {
-    one_where(world.population.owner_in(set, member))
+    match query {
+        SetQuery::FirstMember => population.first(set, owner),
+        SetQuery::LastMember => population.last(set, owner),
+        SetQuery::MemberCount => population.member_count(set, owner),
+    }
 }
 
-// What is asked of the set of an owner.
+// What is asked of a member: the one before it or after it, 0 for none, or whether it is in some set of the name, 1 or 0.
 #[inline(always)]
-fn ask_set(world: &mut World, query: SetQuery, set: usize, owner: i64) -> Result<i64, FaultKind>
+fn answer_of_member(
+    population: &mut Population,
+    query: MemberQuery,
+    set: usize,
+    member: i64,
+) -> Result<i64, FaultKind>
+    requires set { set < length population.old.layout.sets }
+    ensures value { result ≡ member_answer query population.old set member }
+    ensures same { population.new ≡ population.old }
+{
+    match query {
+        MemberQuery::Predecessor => population.previous(set, member),
+        MemberQuery::Successor => population.next(set, member),
+        MemberQuery::Membership => one_where(population.owner_in(set, member)),
+    }
+}
+
+// What is asked of a set of the world.
+#[inline(always)]
+pub(crate) fn ask_set(
+    world: &mut World,
+    query: SetQuery,
+    set: usize,
+    owner: i64,
+) -> Result<i64, FaultKind>
     requires set { set < length world.old.heap.layout.sets }
     ensures value { result ≡ set_answer query world.old.heap set owner }
     ensures same { world.new ≡ world.old }
 {
-    match query {
-        SetQuery::FirstMember => first_of(world, set, owner),
-        SetQuery::LastMember => last_of(world, set, owner),
-        SetQuery::MemberCount => count_of(world, set, owner),
-    }
+    answer_of_set(&mut world.population, query, set, owner)
 }
 
-// What is asked of a member.
+// What is asked of a member of the world.
 #[inline(always)]
 fn ask_member(
     world: &mut World,
@@ -126,11 +104,7 @@ fn ask_member(
     ensures value { result ≡ member_answer query world.old.heap set member }
     ensures same { world.new ≡ world.old }
 {
-    match query {
-        MemberQuery::Predecessor => one_before(world, set, member),
-        MemberQuery::Successor => one_after(world, set, member),
-        MemberQuery::Membership => filed_in_any(world, set, member),
-    }
+    answer_of_member(&mut world.population, query, set, member)
 }
 
 // N. of the set of an owner is noted, where that is so.

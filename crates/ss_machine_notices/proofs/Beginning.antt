@@ -1,6 +1,6 @@
 -- An event begins: the notice that comes next is taken out, and let go.
-use Rattle.std.proofs.Common.{◌≡◌, ℕ, zero, suc, ◌+◌, ◌<◌, ◌≤◌, ◌^◌, ℤ, Bool, true, false, List, [], ◌∷◌, Option, Some, None, Ok, Err, refl, sym, ap, ◌∙◌, subst, arith}
-use Rattle.ss_machine_notices.proofs.Common.{act, class_of_record, ComingAs, eqb-true, FaultKind, HasLetGo, HasLetGoThen, HasReceived, Here, IsNextEvent, IsNextNotice, least_event, living, Mode, next_event_there, notices_seen, Seen, State, store_is, take_next, TakeEvent, There, Whole, with_seen, WrongClass}
+use Rattle.std.proofs.Common.{◌≡◌, ℕ, zero, suc, ◌+◌, ◌<◌, ◌≤◌, ◌^◌, ℤ, Bool, true, false, List, [], ◌∷◌, Option, Some, None, Ok, Err, refl, sym, ap, ◌∙◌, arith}
+use Rattle.ss_machine_notices.proofs.Common.{act, class_of_record, ComingAs, eqb-true, FaultKind, HasLetGo, HasLetGoThen, HasReceived, Here, IsNextEvent, IsNextNotice, least_event, living, Mode, next_event_there, none-some, notices_seen, one, one_tick_at, Seen, seen_is, State, take_next, TakeEvent, There, Whole, with_seen, WrongClass}
 use Rattle.std.specs.Prelude.{◌==◌, if◌then◌else◌, pos, negsuc, IfSome, is_some, slice_get, Result as OkOr}
 use Rattle.ss_code_instructions.specs.States.{Core, To, core_at}
 use Rattle.ss_machine_instructions.proofs.Placing.{located, site, goes_with}
@@ -14,13 +14,9 @@ use Rattle.ss_machine_instructions.specs.Ways.{at_place, on_at}
 -- ## Letting a notice go
 
 -- no tick is taken or given back
-pub lets_go_ticks : (saved : Option ℕ) (class : ℕ) (n : ℤ) (old new : State) (r : OkOr (Unit {0}) FaultKind) → HasLetGo saved class n old new r → new.ticks ≡ old.ticks
-lets_go_ticks (Some k) class n old new r d = ap (λ (s : State). s.ticks) d.1
-lets_go_ticks None class n old new r d = ap (λ (s : State). s.ticks) d.1
-
-pub lets_go_steps : (saved : Option ℕ) (class : ℕ) (n : ℤ) (old new : State) (r : OkOr (Unit {0}) FaultKind) → HasLetGo saved class n old new r → new.steps ≡ old.steps
-lets_go_steps (Some k) class n old new r d = ap (λ (s : State). s.steps) d.1
-lets_go_steps None class n old new r d = ap (λ (s : State). s.steps) d.1
+pub lets_go_keeps : (saved : Option ℕ) (class : ℕ) (n : ℤ) (old new : State) (r : OkOr (Unit {0}) FaultKind) → HasLetGo saved class n old new r → (new.ticks ≡ old.ticks) × (new.steps ≡ old.steps)
+lets_go_keeps (Some k) class n old new r d = (ap (λ (s : State). s.ticks) d.1, ap (λ (s : State). s.steps) d.1)
+lets_go_keeps None class n old new r d = (ap (λ (s : State). s.ticks) d.1, ap (λ (s : State). s.steps) d.1)
 
 -- after a fault the world is as it was
 pub lets_go_not : (saved : Option ℕ) (class : ℕ) (n : ℤ) (old new : State) (kind : FaultKind) → HasLetGo saved class n old new (Err kind) → new.world ≡ old.world
@@ -40,12 +36,6 @@ saved_within (Some k) from long le lt = omega (arith, le, lt)
 saved_within None from long le lt = lt
 
 -- ## The notice that comes next
-
-pub got : {A : Type 0} {x y : A} → Some x ≡ Some y → x ≡ y
-got e = cc
-
-some_none : {A : Type 0} (x : A) → Some x ≡ None → ⊥
-some_none x e = cc
 
 -- what comes next in the definition
 pub record NextIs (s : Store) (coming : Coming) : Type 0 where
@@ -136,9 +126,8 @@ module _ (w : Compiled) (c : Core) (here : Here) (s : State) (cell : ℕ) (r : I
       let acts : m ≡ To c' = ap (λ x. act w.code l x c) r.runs.carries.2 ∙ ap (λ o. take_next w.code r.runs.carries.0 o c) nothing in
       let h = goes_with w c here s (TakeEvent cell) r (c.place + 1) c.cells (cells_held (site w c here s (TakeEvent cell) r) (located w c here s (TakeEvent cell) r) (c.place + 1) c.cells r.holds.held.cells) in
       let holds : IsHeld w c' there s' = record { place = h.place; held = h.held; world = h.world; even = h.even; line = h.line } in
-      let plain : HasOneTick t w l m s s' (Some there) = record { leads = (c', acts, holds); ticks = refl; steps = refl } in
       let on : result ≡ Some there = way ∙ ap (λ p. at_place here (p + 1)) r.holds.place in
-      subst (λ o. HasOneTick t w l m s new o) (sym on) (subst (λ (u : State). HasOneTick t w l m s u (Some there)) (sym same) plain)
+      one_tick_at t w l m s s' new (Some there) result (c', acts, holds) refl refl same on
 
   -- which lives
   pub lives_as : (e : Seen) (x : ℤ) → IsNextNotice s.world e (Some x) → living e.heap x ≡ None → ⊥
@@ -146,10 +135,10 @@ module _ (w : Compiled) (c : Core) (here : Here) (s : State) (cell : ℕ) (r : I
       let a = comes_next (awaits e x d) in
       let n = next_is c.store a.0 a.1 in
       let first : Some (n.time, n.number) ≡ Some (e.time, x) = sym n.first ∙ ap (λ (y : World). least_event y.pending) r.holds.world ∙ d.0 in
-      let number : n.number ≡ x = ap (λ (p : ℤ × ℤ). p.1) (got first) in
+      let number : n.number ≡ x = ap (λ (p : ℤ × ℤ). p.1) (one first) in
       let there = record_living c.store.world.heap n.number n.entry n.there in
       let heap : c.store.world.heap ≡ e.heap = ap (λ (y : World). y.heap) r.holds.world ∙ sym (ap (λ (t : Seen). t.heap) d.1) in
-      some_none n.entry.class (sym there ∙ ap (λ h. living h n.number) heap ∙ ap (living e.heap) number ∙ none)
+      none-some n.entry.class (sym (sym there ∙ ap (λ h. living h n.number) heap ∙ ap (living e.heap) number ∙ none))
 
   -- the machine took it out
   abbrev pub next_taken : (t : ℕ) (e : Seen) (x : ℤ) (class : ℕ) → s.ticks ≡ suc t → s.ticks < 2 ^ 64 → IsNextNotice s.world e (Some x) → living e.heap x ≡ Some class → IsNextEvent w c here (record s { ticks = t; world = e }) cell x class
@@ -157,12 +146,12 @@ module _ (w : Compiled) (c : Core) (here : Here) (s : State) (cell : ℕ) (r : I
       let a = comes_next (awaits e x d) in
       let n = next_is c.store a.0 a.1 in
       let first : Some (n.time, n.number) ≡ Some (e.time, x) = sym n.first ∙ ap (λ (y : World). least_event y.pending) r.holds.world ∙ d.0 in
-      let pair : (n.time, n.number) ≡ (e.time, x) = got first in
+      let pair : (n.time, n.number) ≡ (e.time, x) = one first in
       let number : n.number ≡ x = ap (λ (p : ℤ × ℤ). p.1) pair in
       let time : n.time ≡ e.time = ap (λ (p : ℤ × ℤ). p.0) pair in
       let heap : c.store.world.heap ≡ e.heap = ap (λ (y : World). y.heap) r.holds.world ∙ sym (ap (λ (t : Seen). t.heap) d.1) in
       let there : Some n.entry.class ≡ Some class = sym (record_living c.store.world.heap n.number n.entry n.there) ∙ ap (λ h. living h n.number) heap ∙ ap (living e.heap) number ∙ lives in
-      let of : n.entry.class ≡ class = got there in
+      let of : n.entry.class ≡ class = one there in
       record {
         before = s;
         ready = r;
@@ -176,7 +165,7 @@ module _ (w : Compiled) (c : Core) (here : Here) (s : State) (cell : ℕ) (r : I
         store =
             n.store
             ∙ ap (λ z. at_event z c.store) time
-            ∙ ap (at_event e.time) (store_is w c here s (TakeEvent cell) r)
+            ∙ ap (at_event e.time) (seen_is w c here s (TakeEvent cell) r)
             ∙ ap (with_seen c.store) (sym d.1);
         place =
             ap (λ es. ranked_from 0 es class) (ap (λ (t : Seen). t.notices) d.1 ∙ sym (notices_seen w c here s (TakeEvent cell) r))

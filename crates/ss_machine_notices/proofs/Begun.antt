@@ -1,6 +1,6 @@
 -- What is known where an event begins: its rank, its entry, and its notice.
-use Rattle.std.proofs.Common.{◌≡◌, ℕ, zero, suc, ◌+◌, ◌<◌, ◌≤◌, ◌^◌, ℤ, true, List, [], ◌∷◌, length, Option, Some, None, refl, sym, ap, ◌∙◌, subst, arith}
-use Rattle.ss_machine_notices.proofs.Common.{class_said, comes_singly, Coming, coming_with, Compiled, Core, EntryPoint, field_said, frame_small, HasField, Here, IfSome, Integer, is_single, is_some, IsFittingStore, IsNextEvent, least_event, located, Mode, mode_of, Notice, Notices, site, slice_get, slice_get_within, State, Store, TakeEvent, There, Value, with_seen}
+use Rattle.std.proofs.Common.{◌≡◌, ℕ, zero, suc, ◌+◌, ◌<◌, ◌≤◌, ◌^◌, ℤ, true, List, [], ◌∷◌, get_or, length, Option, Some, None, refl, sym, ap, ◌∙◌, subst, arith}
+use Rattle.ss_machine_notices.proofs.Common.{class_said, comes_singly, Coming, coming_with, Compiled, Core, EntryPoint, field_said, frame_small, HasField, Here, IfSome, Integer, is_single, is_some, IsFittingStore, IsNextEvent, least_event, located, Mode, mode_of, Notice, Notices, SectionEntry, site, slice_get, slice_get_read, slice_get_within, State, Store, TakeEvent, There, Value, with_seen}
 use Rattle.ss_machine_frames.proofs.Reading.{hold_length, above_constants, found_in}
 use Rattle.ss_program.specs.Program.{Program, Event}
 use Rattle.ss_program.specs.WellTyped.{field_mode, kind_of_class, IsTypedEvent, IsPlain}
@@ -82,6 +82,12 @@ module _ (w : Compiled) (c : Core) (here : Here) (s : State) (cell : ℕ) (x : �
 
   pub begun_entry_within : n.coming.ranked.rank < length w.run.events
   begun_entry_within = slice_get_within w.run.events n.coming.ranked.rank begun_entry.run begun_entry.there
+
+  -- the entry that is read is that of its rank
+  pub entry_read : (es : List SectionEntry) (k : ℕ) (d : SectionEntry) → es ≡ w.run.events → k ≡ n.coming.ranked.rank → d ≡ get_or es k d → slice_get w.run.events n.coming.ranked.rank ≡ Some d
+  entry_read es k d all rank read =
+      let within : k < length es = omega (arith, rank, begun_entry_within, ap length all) in
+      ap (slice_get w.run.events) (sym rank) ∙ ap (λ (l : List SectionEntry). slice_get l k) (sym all) ∙ slice_get_read es (length es) k d refl within read
 
   -- what its routine is given are its first attributes
   pub begun_modes : (i : ℕ) (m : Mode) → slice_get event.given i ≡ Some m → slice_get (modes_of s.world.heap.layout class) i ≡ Some m

@@ -11,7 +11,7 @@ pub use Rattle.ss_base.specs.declared.value.Value.{Value}
 pub use Rattle.ss_base.specs.declared.value.Value.TheVariants.{Text, Whole}
 pub use Rattle.ss_code_instructions.specs.Carried.{IsEntry}
 pub use Rattle.ss_code_instructions.specs.Facts.{watch}
-pub use Rattle.ss_code_instructions.specs.Instructions.{EntryPoint, Instruction}
+pub use Rattle.ss_code_instructions.specs.Instructions.{EntryPoint}
 pub use Rattle.ss_code_instructions.specs.Machine.{act, enter, is_due, take_next}
 pub use Rattle.ss_code_instructions.specs.Shape.{IsSuited}
 pub use Rattle.ss_code_instructions.specs.States.{AnEvent, Breaks, Core, Rest, Stuck, To, at_height, did, fit}
@@ -24,11 +24,12 @@ pub use Rattle.ss_machine_frames.proofs.Entering.{cleared_long, value_long, valu
 pub use Rattle.ss_machine_frames.proofs.Lists.{set_length}
 pub use Rattle.ss_machine_frames.proofs.Reading.{hold_length, own_is}
 pub use Rattle.ss_machine_frames.specs.Holding.{AreValuesAt}
-pub use Rattle.ss_machine_frames.specs.Rows.{AreAlike, TwoRows, cleared, place_at, with_number, with_value}
+pub use Rattle.ss_machine_frames.specs.Rows.{AreAlike, TwoRows, cleared, place_at, with_number}
 pub use Rattle.ss_machine_instructions.proofs.Filing.{one}
-pub use Rattle.ss_machine_instructions.proofs.Placing.{calm, deep_at, deep_here, frame_small, located, site, small, suits}
+pub use Rattle.ss_machine_instructions.proofs.Placing.{calm, deep_at, deep_here, frame_small, located, one_tick_at, site, small, suits, suits_as}
 pub use Rattle.ss_machine_instructions.proofs.Programs.{noticed_in}
-pub use Rattle.ss_machine_instructions.proofs.Settling.{fine_is, fine_right, notices_seen, store_is}
+pub use Rattle.ss_machine_instructions.proofs.Seeing.{seen_is}
+pub use Rattle.ss_machine_instructions.proofs.Settling.{fine_is, fine_right, notices_seen}
 pub use Rattle.ss_machine_instructions.specs.Doing.{Compiled, HasNoTick, HasOneTick, HasPerformed, IsDelivering, IsReadyFor}
 pub use Rattle.ss_machine_instructions.specs.Entered.{HasEntered, IsOutOfMemory}
 pub use Rattle.ss_machine_instructions.specs.Ways.{begun_event_at, faulted, on_after}
@@ -58,5 +59,5 @@ pub use Rattle.ss_program.specs.declared.sections.Subject.TheVariants.{OfAttribu
 pub use Rattle.ss_world.specs.PendingList.{is_pending, least_event}
 pub use Rattle.ss_world.specs.State.{and_then, known_in, modes_of, timed, value_in}
 pub use Rattle.std.proofs.lemmas.Bool.{eq-eqb, eqb-true}
-pub use Rattle.std.proofs.lemmas.Option.{slice_get_read, slice_get_within}
+pub use Rattle.std.proofs.lemmas.Option.{none-some, slice_get-map, slice_get_read, slice_get_within}
 pub use Rattle.std.specs.Prelude.{IfSome, MatchResult, is_some, pos, slice_get, slice_set}

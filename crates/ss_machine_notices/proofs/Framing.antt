@@ -1,9 +1,10 @@
 -- The frame of an event: what the machine holds once it has begun.
-use Rattle.std.proofs.Common.{◌≡◌, inl, inr, ℕ, suc, ◌+◌, ◌<◌, ◌≤◌, ℤ, List, [], ◌∷◌, ◌++◌, length, Some, refl, sym, ap, ◌∙◌, subst, arith, length-append}
+use Rattle.std.proofs.Common.{◌≡◌, inl, inr, ℕ, ◌+◌, ◌<◌, ◌≤◌, ℤ, List, [], ◌∷◌, ◌++◌, length, Some, refl, sym, ap, ◌∙◌, subst, arith, length-append}
 use Rattle.ss_machine_notices.proofs.Common.{AnEvent, AreAlike, AreReceived, cleared, Compiled, Core, EntryPoint, Here, hold_length, IsEntry, IsNextEvent, located, Mode, own_is, SectionEntry, Seen, site, slice_get, slice_set, State, TakeEvent, TwoRows, Value, Whole, with_number, with_seen}
 use Rattle.ss_machine_frames.proofs.Places.{agree_out, all_agree, elsewhere_value, agree_on, agree_within, all_set, calls_agree, low_under}
 use Rattle.ss_machine_frames.specs.Holding.{AreValuesAt, AreCallsAt, IsCoreHeld}
 use Rattle.ss_machine_instructions.specs.Entered.{HasEntered, call_of}
+use Rattle.ss_machine_instructions.proofs.Calling.{firsts_long}
 use Rattle.ss_meaning.specs.Store.{Store, first_values}
 use Rattle.ss_machine_frames.specs.declared.frames.Frame.{Frame as Call}
 use Rattle.ss_machine_frames.proofs.Entering.{all_append, cleared_all, cleared_below, cleared_long, entered}
@@ -28,10 +29,6 @@ global_held constants depth frame r calls c k z bare h lt within =
       room = omega (arith, e.long, h.room);
       small = omega (arith, e.long, h.small);
     }
-
-firsts_long : (ms : List Mode) → length (first_values ms) ≡ length ms
-firsts_long [] = refl
-firsts_long (m ∷ ms) = ap suc (firsts_long ms)
 
 module _ (w : Compiled) (c : Core) (here : Here) (s : State) (cell : ℕ) (x : ℤ) (class : ℕ) (n : IsNextEvent w c here s cell x class) (e : EntryPoint) (run : SectionEntry) (is_entry : IsEntry w.run.depth e run) (s1 : State) (frame : ℕ) (enters : HasEntered here s s1 run cell frame) (high : length c.cells ≡ n.ready.runs.carries.0) (rank : ℕ) where
   -- the state of the definition in which the event begins

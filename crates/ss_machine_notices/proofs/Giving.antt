@@ -1,8 +1,9 @@
 -- A notice gets its first attributes and its time.
-use Rattle.std.proofs.Common.{◌≡◌, inl, inr, ℕ, zero, suc, ◌+◌, ◌<◌, ℤ, Bool, true, false, List, [], ◌∷◌, length, map, drop, Some, Ok, Err, refl, sym, ap, ◌∙◌, subst, arith}
-use Rattle.ss_machine_notices.proofs.Common.{Alpha, AlreadyScheduled, attribute_noted, eqb-true, Fault, FaultKind, fine_is, fine_right, HasChangedIf, Integer, is_pending, IsFittingStore, IsNoticeClass, Memory, Mode, mode_of, Notice, noticed_in, Program, Refused, slice_get_within, TwoRows, Value, watch, Whole}
+use Rattle.std.proofs.Common.{◌≡◌, inl, inr, ℕ, zero, suc, ◌+◌, ◌<◌, ℤ, Bool, true, false, List, [], ◌∷◌, length, drop, Some, Ok, Err, refl, sym, ap, ◌∙◌, subst, arith}
+use Rattle.ss_machine_notices.proofs.Common.{Alpha, AlreadyScheduled, attribute_noted, eqb-true, Fault, FaultKind, fine_is, fine_right, HasChangedIf, Integer, is_pending, IsFittingStore, IsNoticeClass, Memory, Mode, mode_of, Notice, noticed_in, Program, Refused, slice_get-map, slice_get_within, TwoRows, Value, watch, Whole}
 use Rattle.std.specs.Prelude.{◌&&◌, ◌==◌, IsOk, is_some, slice_get, MatchResult, Result as OkOr, if◌then◌else◌}
 use Rattle.std.specs.List.{AllByRecursion as Every}
+use Rattle.std.specs.Option.{option_map}
 use Rattle.ss_machine_notices.specs.Giving.{HasGivenValues, HasSetField, IsNoticeMade, IsSettledIn, IsSettledWithMemory, number_or, unpended, refiled, IsReadBack, IsSuitable, HasGivenOne}
 use Rattle.ss_machine_world.specs.Seen.{HasChanged, HasChangedWithMemory, HasRearranged, IsRight, Seen, with_seen, HasMade}
 use Rattle.ss_meaning.specs.Entities.{is_single, comes_singly, made_one}
@@ -19,23 +20,16 @@ use Rattle.ss_program.specs.declared.sections.Subject.{Subject}
 use Rattle.ss_meaning.specs.Places.{is_of_mode, assigned_attribute}
 use Rattle.ss_meaning.proofs.Fine.{Fine, fine_then, fine_turned, due_fine}
 use Rattle.ss_meaning.proofs.Heaps.{Changed, timed_sane}
-use Rattle.ss_meaning.proofs.Stores.{heap_fits}
+use Rattle.ss_meaning.proofs.Stores.{heap_fits, same_is}
 use Rattle.ss_meaning.proofs.Entities.{HasField, field_said, class_said, attribute_assigned_fine, made_one_fine}
 use Rattle.ss_meaning.proofs.Events.{endowed_fine}
 use Rattle.ss_code_instructions.proofs.Noting.{Quiet, noted_quiet}
 use Rattle.ss_machine_frames.proofs.Places.{all_get}
 use Rattle.ss_machine_world.proofs.Composing.{assigned_noted}
 use Rattle.ss_machine_world.proofs.Reading.{set_once}
-use Rattle.ss_machine_instructions.proofs.Filing.{within_there}
+use Rattle.ss_machine_world.proofs.Leaving.{there_in}
 
 -- ## Modes
-
-same_is : (m n : Mode) → m ≡ n → same_mode m n ≡ true
-same_is m n e = subst (λ k. same_mode m k ≡ true) e (itself m)
-  where
-    itself : (m : Mode) → same_mode m m ≡ true
-    itself Integer = refl
-    itself Alpha = refl
 
 -- no statistic watches an attribute that is a text
 module _ (p : Program) (class field : ℕ) (text : field_mode p class field ≡ Some Alpha) where
@@ -104,7 +98,7 @@ module _ (class field : ℕ) (n : ℤ) (v : Value) (notes : Bool) (e : Seen) (g 
   suits_field = slice_get_within (modes_of e.heap.layout class) field g.mode suits_mode
 
   is_fitting : is_of_mode v (slice_get (modes_of e.heap.layout class) field) ≡ true
-  is_fitting = ap (is_of_mode v) suits_mode ∙ same_is (mode_of v) g.mode g.right
+  is_fitting = ap (is_of_mode v) suits_mode ∙ ap (λ k. same_mode k g.mode) g.right ∙ same_is g.mode
 
   abbrev op : Store → OkOr Store Failure
   op = assigned_attribute class field (Whole n) v
@@ -168,11 +162,6 @@ got_at [] i lt = absurd (omega (arith, lt))
 got_at (x ∷ xs) zero lt = (x, refl)
 got_at (x ∷ xs) (suc i) lt = got_at xs i (omega (arith, lt))
 
-pub mode_got : (vs : List Value) (i : ℕ) (v : Value) → slice_get vs i ≡ Some v → slice_get (map mode_of vs) i ≡ Some (mode_of v)
-mode_got [] i v e = absurd cc
-mode_got (u ∷ vs) zero v e = let same : u ≡ v = cc in ap (λ x. Some (mode_of x)) same
-mode_got (u ∷ vs) (suc i) v e = mode_got vs i v e
-
 drop_got : {A : Type 0} (xs : List A) (i : ℕ) (x : A) → slice_get xs i ≡ Some x → drop i xs ≡ x ∷ drop (suc i) xs
 drop_got [] i x e = absurd cc
 drop_got (y ∷ xs) zero x e = let same : y ≡ x = cc in ap (λ z. z ∷ xs) same
@@ -205,7 +194,7 @@ module _ (class : ℕ) (n : ℤ) (notes : Bool) (from given : ℕ) (rows : TwoRo
         store = g.store;
         fits = d.fits;
         mode = mode_of next_value.0;
-        field_is = g.fields i (mode_of next_value.0) (ap (λ (ms : List Mode). slice_get ms i) (sym g.hold) ∙ mode_got g.values i next_value.0 next_value.1);
+        field_is = g.fields i (mode_of next_value.0) (ap (λ (ms : List Mode). slice_get ms i) (sym g.hold) ∙ slice_get-map mode_of g.values i ∙ ap (option_map mode_of) next_value.1);
         right = refl;
         reported = λ none. ap (λ (ss : List Statistic). watch ss (OfAttribute class i)) statistics_same ∙ g.reported none i lt;
       };
@@ -292,7 +281,7 @@ module _ (class : ℕ) (n : ℤ) (notes : Bool) (from given : ℕ) (rows : TwoRo
 
     again_is : rescheduled class (Whole n) g.values t (with_seen g.store old) ≡ if_ok (due (unpended class n old)) (λ u. refiled class (Whole n) g.values t (with_seen g.store old))
     again_is =
-        ap (λ b. if_ok (where_fit b (turned (λ _. n) (due (known_in old.heap class n)))) then_again) (within_there old.heap.layout.classes class class_here)
+        ap (λ b. if_ok (where_fit b (turned (λ _. n) (due (known_in old.heap class n)))) then_again) (there_in old.heap.layout.classes class class_here)
         ∙ by (known_in old.heap class n)
       where
         not_twice : Bool → OkOr (Unit {0}) FaultKind

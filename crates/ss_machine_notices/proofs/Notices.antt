@@ -1,16 +1,17 @@
 -- MakeNotice and Reschedule: what a notice is given lies in cells, and its time in the cell above them.
-use Rattle.std.proofs.Common.{◌≡◌, inr, ℕ, zero, suc, ◌+◌, ◌<◌, ◌≤◌, Bool, false, List, [], ◌∷◌, length, map, take, Option, Some, None, Ok, Err, refl, sym, ap, ◌∙◌, subst, arith, if◌then◌else◌}
-use Rattle.ss_machine_notices.proofs.Common.{act, Address, as_value, calm, Compiled, deep_at, deep_here, eq-eqb, Failure, Fault, field_mode, Fine, HasGivenValues, HasNoTick, HasPerformed, Here, Instruction, Integer, is_due, IsDelivering, IsNoticeMade, IsReadyFor, IsSettledWithMemory, IsSettling, located, Memory, Mode, mode_of, NoMemory, OfAttribute, Program, Refused, refused_where, Seen, site, small, State, Store, suits, Text, unless_refused, Value, watch, Whole, with_seen}
+use Rattle.std.proofs.Common.{◌≡◌, ℕ, suc, ◌+◌, ◌<◌, ◌≤◌, Bool, false, List, [], ◌∷◌, length, Option, Some, None, Ok, Err, refl, sym, ap, ◌∙◌, subst, arith, if◌then◌else◌}
+use Rattle.ss_machine_notices.proofs.Common.{act, Address, as_value, calm, Compiled, deep_at, deep_here, eq-eqb, Failure, Fault, field_mode, Fine, HasGivenValues, HasNoTick, HasPerformed, Here, Integer, is_due, IsDelivering, IsNoticeMade, IsReadyFor, IsSettledWithMemory, IsSettling, located, Memory, Mode, mode_of, OfAttribute, Program, Refused, refused_where, Seen, site, slice_get_within, small, State, Store, suits_as, unless_refused, Value, watch, Whole, with_seen}
 use Rattle.std.specs.Prelude.{ℤ, slice_get, Result as OkOr}
 use Rattle.std.specs.Option.{option_and_then}
-use Rattle.ss_code_instructions.specs.Shape.{IsSuited, HasOnTop, AreGivenModes}
+use Rattle.ss_code_instructions.specs.Shape.{HasOnTop, AreGivenModes}
 use Rattle.ss_code_instructions.specs.States.{at_height, Core, did, fit, Moved, Stuck, onward, TakenOff, take_off, with_top_number, with_block, with_operand_value, deliver_with}
-use Rattle.ss_machine_frames.proofs.Places.{agree_out, all_agree, elsewhere_value, Elsewhere, value_same, cells_agree, calls_agree}
-use Rattle.ss_machine_frames.proofs.Reading.{hold_length, own_is, above_constants, place_within, only_number, reads, read_within}
+use Rattle.ss_machine_frames.proofs.Places.{elsewhere_value, Elsewhere, value_same}
+use Rattle.ss_machine_frames.proofs.Reading.{hold_length, own_is, place_within, only_number, reads, read_within}
 use Rattle.ss_machine_frames.specs.Holding.{AreValuesAt, AreCellsAt}
 use Rattle.ss_machine_frames.specs.Rows.{TwoRows, with_number as with_number_at, place_at}
-use Rattle.ss_machine_instructions.proofs.Settling.{fine_right, store_is, fine_is, statistics_seen, fails_on}
-use Rattle.ss_machine_instructions.specs.Ways.{on_after, stopped, refused_by}
+use Rattle.ss_machine_instructions.proofs.Seeing.{seen_is, unmade}
+use Rattle.ss_machine_instructions.proofs.Settling.{fine_right, fine_is, statistics_seen, fails_on}
+use Rattle.ss_machine_instructions.specs.Ways.{on_after, refused_by}
 use Rattle.ss_meaning.specs.Events.{rescheduled, made_notice}
 use Rattle.ss_meaning.specs.Fitting.{IsFittingStore, AreOfModes}
 use Rattle.ss_meaning.proofs.Events.{made_notice_fine, rescheduled_fine}
@@ -18,46 +19,21 @@ use Rattle.ss_code_instructions.specs.declared.instruction.Instruction.{Instruct
 use Rattle.ss_code_instructions.specs.Instructions as i
 use Rattle.ss_code_instructions.specs.Carried.{HasCell, HasOperand, HasTarget, Is}
 use Rattle.ss_machine_frames.proofs.Entering.{cut}
-use Rattle.ss_machine_instructions.proofs.Calling.{blocked}
+use Rattle.ss_machine_instructions.proofs.Calling.{blocked, cells_long}
+use Rattle.ss_machine_instructions.proofs.Looping.{topped}
+use Rattle.ss_machine_frames.proofs.Lists.{get_take}
+use Rattle.ss_machine_frames.proofs.Writing.{cell_held}
 use Rattle.ss_machine_notices.proofs.Times.{refuses}
 
--- a number on top of other cells
-record Topped (cells : List Value) (rest : List Mode) : Type 0 where
-  number : ℤ
-  over : List Value
-  is : cells ≡ Whole number ∷ over
-  modes : AreOfModes over rest
-
-topped : (cells : List Value) (rest : List Mode) → AreOfModes cells (Integer ∷ rest) → Topped cells rest
-topped [] rest h = absurd cc
-topped (Whole z ∷ over) rest h = let q : map mode_of over ≡ rest = cc in record { number = z; over = over; is = refl; modes = q }
-topped (Text t ∷ over) rest h = absurd cc
-
-taken_long : (k : ℕ) (cells vs : List Value) (b : TakenOff) → take_off k cells vs ≡ Some b → length cells ≡ k + length b.below
-taken_long zero cells vs b e =
-    let d : TakenOff = record { values = vs; below = cells } in
-    let q : d ≡ b = cc in
-    let n : length cells ≡ length b.below = ap (λ (b : TakenOff). length b.below) q in
-    omega (arith, n)
-taken_long (suc k) [] vs b e = absurd cc
-taken_long (suc k) (v ∷ cells) vs b e = omega (arith, taken_long k cells (v ∷ vs) b e)
-
 -- the first modes of a class are those of its first attributes
-taken_get : {A : Type 0} (n : ℕ) (xs : List A) (i : ℕ) (a : A) → slice_get (take n xs) i ≡ Some a → slice_get xs i ≡ Some a
-taken_get zero xs i a q = absurd cc
-taken_get (suc n) [] i a q = absurd cc
-taken_get (suc n) (x ∷ xs) zero a q = q
-taken_get (suc n) (x ∷ xs) (suc i) a q = taken_get n xs i a q
-
 pub given_fields : (p : Program) (class : ℕ) (modes : List Mode) → AreGivenModes p class modes → (i : ℕ) (m : Mode) → slice_get modes i ≡ Some m → field_mode p class i ≡ Some m
 given_fields p class modes g i m q =
     ap (λ o. option_and_then (λ fs. slice_get fs i) o) g.1.1
-    ∙ taken_get (length modes) g.1.0 i m (ap (λ ms. slice_get ms i) (sym g.1.2) ∙ q)
+    ∙ sym (get_take g.1.0 (length modes) i (slice_get_within modes i m q))
+    ∙ ap (λ ms. slice_get ms i) (sym g.1.2)
+    ∙ q
 
 module _ (w : Compiled) (c : Core) (here : Here) (s : State) (run : Running) (r : IsReadyFor w c here s run) where
-  abbrev SuitsHere : Instruction → Type 0
-  SuitsHere x = IsSuited w.program w.code c.place r.placed.locals r.placed.cells x
-
   abbrev Low : ℕ
   Low = here.frame + length c.store.locals
 
@@ -87,19 +63,19 @@ module _ (w : Compiled) (c : Core) (here : Here) (s : State) (run : Running) (r 
   spread : (h cell given : ℕ) (above modes rest : List Mode) → cell ≡ length r.placed.locals + h → r.placed.cells ≡ Integer ∷ above → length modes ≡ given → HasOnTop h modes above rest → Spread h cell given modes rest
   spread h cell given above modes rest at e n block =
       let t = topped c.cells above (r.fits.cells ∙ e) in
-      let b = blocked modes rest t.over (t.modes ∙ block.is) in
-      let off : take_off given t.over [] ≡ Some b.taken = ap (λ k. take_off k t.over []) (sym n) ∙ b.is in
+      let b = blocked modes rest t.below (t.modes ∙ block.is) in
+      let off : take_off given t.below [] ≡ Some b.taken = ap (λ k. take_off k t.below []) (sym n) ∙ b.is in
       let high : length b.taken.below ≡ h = hold_length b.taken.below rest b.below ∙ block.height in
       let own = own_is (site w c here s run r) (located w c here s run r) in
       let place : here.frame + cell ≡ Low + length b.taken.below = omega (arith, at, high, own) in
-      let long = taken_long given t.over [] b.taken off in
-      let top : here.frame + cell + given ≡ Low + length t.over = omega (arith, place, long) in
+      let long = cells_long given t.below [] b.taken off in
+      let top : here.frame + cell + given ≡ Low + length t.below = omega (arith, place, long) in
       let all = subst (λ l. AreCellsAt s.rows Low l) t.is r.holds.held.cells in
-      let parts = cut s.rows Low given t.over [] b.taken all.1 tt off in
-      let deep : length r.placed.cells ≡ suc (length t.over) = sym (hold_length c.cells r.placed.cells r.fits.cells) ∙ ap length t.is in
+      let parts = cut s.rows Low given t.below [] b.taken all.1 tt off in
+      let deep : length r.placed.cells ≡ suc (length t.below) = sym (hold_length c.cells r.placed.cells r.fits.cells) ∙ ap length t.is in
       record {
         time = t.number;
-        over = t.over;
+        over = t.below;
         taken = b.taken;
         cells = t.is;
         off = off;
@@ -122,7 +98,7 @@ module _ (w : Compiled) (c : Core) (here : Here) (s : State) (run : Running) (r 
     typed = r.compiled.typed;
     modes = r.placed.locals;
     store = c.store;
-    fits = subst (λ (t : Store). IsFittingStore w.program r.placed.locals t) (store_is w c here s run r) r.fits.store;
+    fits = subst (λ (t : Store). IsFittingStore w.program r.placed.locals t) (seen_is w c here s run r) r.fits.store;
     notice = fit.0;
     values = z.taken.values;
     kinds = modes;
@@ -155,9 +131,9 @@ module _ (w : Compiled) (c : Core) (here : Here) (s : State) (run : Running) (r 
   MakesNotice class cell given to = HasCell w.code w.run.constants r.placed cell (λ h. HasTarget w.code w.run.constants r.placed to (λ t. Is w.code w.run.constants r.placed (i.MakeNotice class h given t)))
 
   -- the cells of the instruction
-  pub make_spread : (class cell given : ℕ) (to : Address) (z : MakesNotice class cell given to) → let y = subst SuitsHere z.2.2 (suits w c here s run r) in Spread z.0 cell given y.1 y.5.0
+  pub make_spread : (class cell given : ℕ) (to : Address) (z : MakesNotice class cell given to) → let y = suits_as w c here s run r z.2.2 in Spread z.0 cell given y.1 y.5.0
   make_spread class cell given to z =
-      let y = subst SuitsHere z.2.2 (suits w c here s run r) in
+      let y = suits_as w c here s run r z.2.2 in
       spread z.0 cell given y.0 y.1 y.5.0 z.1 y.2 y.3 y.5.1
 
   pub makes_in : (class cell given : ℕ) (to : Address) → MakesNotice class cell given to → here.frame + cell + given < length s.rows.numbers
@@ -165,12 +141,12 @@ module _ (w : Compiled) (c : Core) (here : Here) (s : State) (run : Running) (r 
 
   abbrev pub make_gives : (class cell given : ℕ) (to : Address) (notes : Bool) → MakesNotice class cell given to → IsQuietGiven notes class given → HasGivenValues class notes (here.frame + cell) given s.rows s.world
   make_gives class cell given to notes z reported =
-      let y = subst SuitsHere z.2.2 (suits w c here s run r) in
+      let y = suits_as w c here s run r z.2.2 in
       gives_of z.0 cell given class notes y.1 y.5.0 (make_spread class cell given to z) y.4 reported
 
   make_acts : (class cell given : ℕ) (to : Address) (z : MakesNotice class cell given to) (t : ℤ) → slice_get s.rows.numbers (here.frame + cell + given) ≡ Some t → act w.code r.placed.line r.placed.instruction c ≡ deliver_with r.placed.line z.2.0 (made_notice class (make_spread class cell given to z).taken.values t c.store) (Whole t ∷ (make_spread class cell given to z).taken.below) c
   make_acts class cell given to z t e =
-      let y = subst SuitsHere z.2.2 (suits w c here s run r) in
+      let y = suits_as w c here s run r z.2.2 in
       let v = make_spread class cell given to z in
       let l = r.placed.line in
       ap (λ x. act w.code l x c) z.2.2
@@ -183,7 +159,7 @@ module _ (w : Compiled) (c : Core) (here : Here) (s : State) (run : Running) (r 
 
   make_fine : (class cell given : ℕ) (to : Address) (z : MakesNotice class cell given to) (t : ℤ) → Fine IsFitting (made_notice class (make_spread class cell given to z).taken.values t c.store)
   make_fine class cell given to z t =
-      let y = subst SuitsHere z.2.2 (suits w c here s run r) in
+      let y = suits_as w c here s run r z.2.2 in
       let v = make_spread class cell given to z in
       made_notice_fine w.program r.compiled.typed r.placed.locals class v.taken.values y.1 t c.store y.4.0 v.kinds (fields_from class y.1 y.4) r.fits.store
 
@@ -194,7 +170,7 @@ module _ (w : Compiled) (c : Core) (here : Here) (s : State) (run : Running) (r 
   -- the number of the notice is to go to the target, once its time lies in the first of the cells
   pub make_delivers : (class cell given : ℕ) (to : Address) (notes : Bool) (reported : IsQuietGiven notes class given) (z : MakesNotice class cell given to) (t n : ℤ) (e : Seen) → slice_get s.rows.numbers (here.frame + cell + given) ≡ Some t → IsNoticeMade c.store class (make_gives class cell given to notes z reported).values t s.world e (Ok n) → IsDelivering w (make_core class cell given to z t) r.placed.line (act w.code r.placed.line r.placed.instruction c) here (record s { world = e; rows = with_number_at s.rows (here.frame + cell) t }) to (as_value (Ok n))
   make_delivers class cell given to notes reported z t n e at_time made =
-      let y = subst SuitsHere z.2.2 (suits w c here s run r) in
+      let y = suits_as w c here s run r z.2.2 in
       let v = make_spread class cell given to z in
       let l = r.placed.line in
       let i = here.frame + cell in
@@ -202,14 +178,9 @@ module _ (w : Compiled) (c : Core) (here : Here) (s : State) (run : Running) (r 
       let ew : Elsewhere s.rows rows i = elsewhere_value s.rows i (Whole t) in
       let room = v.room in
       let place = v.place in
-      let under = above_constants (site w c here s run r) (located w c here s run r) in
-      let k = length c.store.globals in
       let cells = Whole t ∷ v.taken.below in
-      let gives : made_notice class v.taken.values t c.store ≡ Ok (Whole n, with_seen c.store e) = ap (made_notice class v.taken.values t) (store_is w c here s run r) ∙ made in
-      let cells_here : AreCellsAt rows Low cells = (
-        subst (λ j. slice_get rows.numbers j ≡ Some t) place (value_same s.rows i (Whole t) r.holds.even (omega (arith, room))),
-        cells_agree s.rows rows Low v.taken.below (agree_out s.rows rows i Low (Low + length v.taken.below) ew (inr (omega (arith, place)))) v.under,
-      ) in
+      let gives : made_notice class v.taken.values t c.store ≡ Ok (Whole n, with_seen c.store e) = ap (made_notice class v.taken.values t) (seen_is w c here s run r) ∙ made in
+      let h = cell_held (site w c here s run r) (located w c here s run r) (length v.taken.below) i (Whole t) rows c.place v.taken.below place refl ew (value_same s.rows i (Whole t) r.holds.even (omega (arith, room))) v.under in
       record {
         compiled = r.compiled;
         placed = r.placed;
@@ -226,19 +197,11 @@ module _ (w : Compiled) (c : Core) (here : Here) (s : State) (run : Running) (r 
         deep = deep_at w c here s run r (c.place + 1) r.placed.locals y.5.2.0 y.5.2.2;
         right = refl;
         hold = ap (λ ms. Integer ∷ ms) v.below;
-        at = cells_here;
+        at = h.cells;
         fits = (fine_is IsFitting (made_notice class v.taken.values t c.store) (Whole n, with_seen c.store e) (make_fine class cell given to z t) gives).1;
         holds = record {
           place = r.holds.place;
-          held = record {
-            globals = all_agree s.rows rows 0 c.store.globals (agree_out s.rows rows i 0 (0 + k) ew (inr (omega (arith, place, under)))) r.holds.held.globals;
-            fixed = all_agree s.rows rows k w.run.constants (agree_out s.rows rows i k (k + length w.run.constants) ew (inr (omega (arith, place, under)))) r.holds.held.fixed;
-            locals = all_agree s.rows rows here.frame c.store.locals (agree_out s.rows rows i here.frame Low ew (inr (omega (arith, place)))) r.holds.held.locals;
-            cells = cells_here;
-            open_calls = calls_agree s.rows rows (k + length w.run.constants) here.frame s.frames c.frames (agree_out s.rows rows i (k + length w.run.constants) here.frame ew (inr (omega (arith, place)))) r.holds.held.open_calls;
-            room = omega (arith, ew.long, r.holds.held.room);
-            small = omega (arith, ew.long, r.holds.held.small);
-          };
+          held = record { globals = h.globals; fixed = h.fixed; locals = h.locals; cells = h.cells; open_calls = h.open_calls; room = h.room; small = h.small };
           world = refl;
           even = r.holds.even ∙ sym ew.long;
           line = r.holds.line;
@@ -254,45 +217,40 @@ module _ (w : Compiled) (c : Core) (here : Here) (s : State) (run : Running) (r 
   makes_not class cell given to notes reported z t e (Fault kind) new result at_time made same none =
       let v = make_spread class cell given to z in
       fails_on w c here s run r kind e new result (ap is_due z.2.2)
-      (make_acts class cell given to z t at_time ∙ ap (λ q. deliver_with r.placed.line z.2.0 q (Whole t ∷ v.taken.below) c) (ap (made_notice class v.taken.values t) (store_is w c here s run r) ∙ made))
+      (make_acts class cell given to z t at_time ∙ ap (λ q. deliver_with r.placed.line z.2.0 q (Whole t ∷ v.taken.below) c) (ap (made_notice class v.taken.values t) (seen_is w c here s run r) ∙ made))
       same none
   makes_not class cell given to notes reported z t e Memory new result at_time made same none =
-      let m = act w.code r.placed.line r.placed.instruction c in
-      let l = r.placed.line in
-      let s' : State = stopped NoMemory (record s { world = e }) in
-      let plain : HasNoTick w l m s s' None = record { leads = tt; ticks = refl; steps = refl } in
-      calm w c here s run r new result (ap is_due z.2.2)
-      (subst (λ o. HasNoTick w l m s new o) (sym none) (subst (λ u. HasNoTick w l m s u None) (sym same) plain))
+      calm w c here s run r new result (ap is_due z.2.2) (unmade w c here s run r e new result same none)
 
   -- ## Reschedule
 
   abbrev pub Reschedules : (class : ℕ) → (notice : Address) → (cell given : ℕ) → Type 0
   Reschedules class notice cell given = HasOperand w.code w.run.constants r.placed notice (λ y. HasCell w.code w.run.constants r.placed cell (λ h. Is w.code w.run.constants r.placed (i.Reschedule class y h given)))
 
-  pub again_spread : (class : ℕ) (notice : Address) (cell given : ℕ) (z : Reschedules class notice cell given) → let y = subst SuitsHere z.2.2 (suits w c here s run r) in Spread z.2.0 cell given y.1 y.5.0
+  pub again_spread : (class : ℕ) (notice : Address) (cell given : ℕ) (z : Reschedules class notice cell given) → let y = suits_as w c here s run r z.2.2 in Spread z.2.0 cell given y.1 y.5.0
   again_spread class notice cell given z =
-      let y = subst SuitsHere z.2.2 (suits w c here s run r) in
+      let y = suits_as w c here s run r z.2.2 in
       spread z.2.0 cell given y.0 y.1 y.5.0 z.2.1 y.2 y.3 y.5.1
 
   pub again_in : (class : ℕ) (notice : Address) (cell given : ℕ) → Reschedules class notice cell given → (place_at here.frame notice < length s.rows.numbers) × (here.frame + cell + given < length s.rows.numbers)
   again_in class notice cell given z =
-      let y = subst SuitsHere z.2.2 (suits w c here s run r) in
+      let y = suits_as w c here s run r z.2.2 in
       let v = again_spread class notice cell given z in
-      let few : length y.5.0 ≤ w.run.depth = omega (arith, hold_length v.taken.below y.5.0 v.below, taken_long given v.over [] v.taken v.off, hold_length c.cells r.placed.cells r.fits.cells, ap length v.cells, deep_here w c here s run r) in (
+      let few : length y.5.0 ≤ w.run.depth = omega (arith, hold_length v.taken.below y.5.0 v.below, cells_long given v.over [] v.taken v.off, hold_length c.cells r.placed.cells r.fits.cells, ap length v.cells, deep_here w c here s run r) in (
         read_within (site w c here s run r) (located w c here s run r) z.0 Integer y.5.0 y.5.2.0 notice y.5.2.1 z.1 few,
         v.room,
       )
 
   abbrev pub again_gives : (class : ℕ) (notice : Address) (cell given : ℕ) (notes : Bool) → Reschedules class notice cell given → IsQuietGiven notes class given → HasGivenValues class notes (here.frame + cell) given s.rows s.world
   again_gives class notice cell given notes z reported =
-      let y = subst SuitsHere z.2.2 (suits w c here s run r) in
+      let y = suits_as w c here s run r z.2.2 in
       gives_of z.2.0 cell given class notes y.1 y.5.0 (again_spread class notice cell given z) y.4 reported
 
   pub reschedules : (class : ℕ) (notice : Address) (cell given : ℕ) (notes : Bool) (reported : IsQuietGiven notes class given) (z : Reschedules class notice cell given) (n t : ℤ) (e : Seen) (answer : OkOr (Unit {0}) Refused) (new : State) (result : Option Here) → slice_get s.rows.numbers (place_at here.frame notice) ≡ Some n → slice_get s.rows.numbers (here.frame + cell + given) ≡ Some t → IsSettledWithMemory c.store (rescheduled class (Whole n) (again_gives class notice cell given notes z reported).values t) s.world e answer → new ≡ refused_where answer (record s { world = e }) → result ≡ on_after here (unless_refused answer) → HasPerformed (is_due r.placed.instruction) w r.placed.line (act w.code r.placed.line r.placed.instruction c) s new result
   reschedules class notice cell given notes reported z n t e answer new result at_notice at_time d same way =
       let l = r.placed.line in
       let is = z.2.2 in
-      let y = subst SuitsHere is (suits w c here s run r) in
+      let y = suits_as w c here s run r is in
       let v = again_spread class notice cell given z in
       let vs = v.taken.values in
       let one = reads (site w c here s run r) (located w c here s run r) z.0 Integer y.5.0 y.5.2.0 notice v.taken.below (Whole n) y.5.2.1 z.1 v.under v.below (only_number s.rows (place_at here.frame notice) n at_notice) in

@@ -4,13 +4,15 @@ use Rattle.ss_machine_notices.proofs.Common.{AnEvent, AreRead, at_height, Breaks
 use Rattle.std.specs.Prelude.{◌==◌, pos, negsuc, IfSome, is_some, slice_get, slice_set, slice_index_or, Result as OkOr}
 use Rattle.ss_base.specs.declared.layout.ClassKind.TheVariants.{Notice, Permanent, Temporary}
 use Rattle.ss_code_instructions.specs.Machine.{act, enter, take_event, take_next}
-use Rattle.ss_meaning.specs.Store.{Notices, Store, put_at}
-use Rattle.ss_meaning.specs.Values.{due, Fails, Failure, if_ok, turned, TypeError, same_mode}
+use Rattle.ss_meaning.specs.Store.{Notices, Store}
+use Rattle.ss_meaning.specs.Values.{due, Fails, Failure, if_ok, turned}
 use Rattle.ss_world.specs.State.{and_then, kind_of, modes_of, value_in, State as Heap, Record, numbered_record, of_class, issued_record, entity_of_kind, entity_in}
 use Rattle.ss_base.specs.declared.layout.ClassKind.{ClassKind}
 use Rattle.ss_meaning.specs.Events.{Beginning, attributes_given, saved_or_gone, event_begun}
 use Rattle.ss_meaning.proofs.Events.{BegunAs, begun_fine}
+use Rattle.ss_machine_frames.proofs.Writing.{put_is}
 use Rattle.ss_machine_world.proofs.Reading.{value_once}
+use Rattle.ss_program.specs.declared.expression.Variable.TheVariants.{Global}
 use Rattle.ss_machine_notices.proofs.Begun.{known, event, said_is}
 
 -- ## The attributes of a living notice can be read
@@ -59,15 +61,6 @@ read_is e class field x (v ∷ vs) s there read =
     ap (λ q. if_ok q (λ v. turned (λ ws. v ∷ ws) (attributes_given class (field + 1) (length vs) (Whole x) (with_seen s e)))) (value_once e class field x s here ∙ ap due read.0)
     ∙ ap (turned (λ ws. v ∷ ws)) (read_is e class (field + 1) x vs s (λ i lt. let one : field + suc i ≡ field + 1 + i = omega arith in subst (λ j. is_some (slice_get (modes_of e.heap.layout class) j) ≡ true) one (there (suc i) (omega (arith, lt)))) read.1)
 
--- ## A variable is assigned a number
-
-put_number : (vs : List Value) (k : ℕ) (z : ℤ) (old : Value) → slice_get vs k ≡ Some old → mode_of old ≡ Integer → put_at vs k (Whole z) ≡ Ok (slice_set vs k (Whole z))
-put_number [] k z old e m = absurd cc
-put_number (u ∷ vs) zero z old e m =
-    let q : u ≡ old = cc in
-    ap (λ n. if same_mode Integer n then Ok (Whole z ∷ vs) else Err TypeError) (ap mode_of q ∙ m)
-put_number (u ∷ vs) (suc k) z old e m = ap (turned (λ rest. u ∷ rest)) (put_number vs k z old e m)
-
 module _ (w : Compiled) (c : Core) (here : Here) (s : State) (cell : ℕ) (x : ℤ) (class : ℕ) (n : IsNextEvent w c here s cell x class) where
   -- ## Letting the notice go
 
@@ -96,7 +89,7 @@ module _ (w : Compiled) (c : Core) (here : Here) (s : State) (cell : ℕ) (x : �
       saved_as k new q saving right d = by q d
         where
           put_then : saved_or_gone (Some k) class (Whole x) (with_seen c.store s.world) ≡ noted (OfVariable k) (pos 0) (Whole x) (with_seen (record c.store { globals = slice_set c.store.globals k (Whole x) }) s.world)
-          put_then = ap (λ r. if_ok (turned (λ vs. record (with_seen c.store s.world) { globals = vs }) r) (noted (OfVariable k) (pos 0) (Whole x))) (put_number c.store.globals k x saving.0 saving.1 saving.2)
+          put_then = ap (λ (q : OkOr Store Failure). if_ok q (noted (OfVariable k) (pos 0) (Whole x))) (put_is (Global k) (Whole x) saving.0 (with_seen c.store s.world) saving.1 (sym saving.2))
 
           by : (q : OkOr (Unit {0}) FaultKind) → HasChanged (noted (OfVariable k) (pos 0) (Whole x)) s.world new.world q → GoesAs (Some k) new.world q
           by (Ok u) d = put_then ∙ d (record c.store { globals = slice_set c.store.globals k (Whole x) }) (λ wrong. right (put_then ∙ wrong))

@@ -1,6 +1,6 @@
 -- The attributes of a notice go where the frame of its event begins.
-use Rattle.std.proofs.Common.{◌≡◌, inl, inr, ℕ, zero, suc, ◌+◌, ◌<◌, ℤ, List, [], ◌∷◌, ◌++◌, length, map, take, Some, Ok, refl, sym, ap, ◌∙◌, subst, arith}
-use Rattle.std.proofs.lemmas.List.{take_all}
+use Rattle.std.proofs.Common.{◌≡◌, inl, inr, ℕ, zero, suc, ◌+◌, ◌<◌, ℤ, List, [], ◌∷◌, ◌++◌, length, map, take, Some, Ok, refl, sym, ap, ◌∙◌, subst, arith, length-append}
+use Rattle.std.proofs.lemmas.List.{map-append, take_all}
 use Rattle.ss_machine_notices.proofs.Common.{AreRead, AreReceived, AreValuesAt, Mode, mode_of, slice_get, Value, value_long, value_texts}
 use Rattle.ss_machine_frames.proofs.Places.{agree_out, all_agree, elsewhere_value, agree_within, agree_on, agree_same, value_same}
 use Rattle.ss_machine_frames.specs.Rows.{TwoRows, IsValueAt, with_value, AreAlike}
@@ -19,14 +19,6 @@ all_more r i [] v all at = let none_on : i + 0 ≡ i = omega arith in (subst (λ
 all_more r i (u ∷ vs) v all at =
     let one : i + suc (length vs) ≡ i + 1 + length vs = omega arith in
     (all.0, all_more r (i + 1) vs v all.1 (subst (λ k. IsValueAt r k v) one at))
-
-modes_more : (vs : List Value) (v : Value) → map mode_of (vs ++ v ∷ []) ≡ map mode_of vs ++ mode_of v ∷ []
-modes_more [] v = refl
-modes_more (u ∷ vs) v = ap (λ ms. mode_of u ∷ ms) (modes_more vs v)
-
-long_more : (vs : List Value) (v : Value) → length (vs ++ v ∷ []) ≡ suc (length vs)
-long_more [] v = refl
-long_more (u ∷ vs) v = ap suc (long_more vs v)
 
 take_got : (ms : List Mode) (i : ℕ) (m : Mode) → slice_get ms i ≡ Some m → take (suc i) ms ≡ take i ms ++ m ∷ []
 take_got [] i m e = absurd cc
@@ -75,12 +67,12 @@ module _ (h : State) (class : ℕ) (n : ℤ) (modes : List Mode) (from : ℕ) (o
         values = d.values ++ v ∷ [];
         read = read_more h class 0 n d.values v d.read (subst (λ j. value_in h class j n ≡ Ok v) (omega (arith, many)) is);
         hold =
-            modes_more d.values v
+            map-append mode_of d.values (v ∷ [])
             ∙ ap (λ ms. ms ++ mode_of v ∷ []) d.hold
             ∙ ap (λ x. take i modes ++ x ∷ []) right
             ∙ sym (take_got modes i m has)
             ∙ ap (λ j. take j modes) next;
-        many = long_more d.values v ∙ omega (arith, many);
+        many = omega (arith, length-append d.values (v ∷ []), many);
         lie = all_more (with_value now k v) from d.values v (all_agree now (with_value now k v) from d.values (agree_out now (with_value now k v) k from (from + length d.values) ew (inr (omega (arith, many)))) d.lie) (subst (λ j. IsValueAt (with_value now k v) j v) at here);
         below = agree_on old now (with_value now k v) 0 from d.below (agree_out now (with_value now k v) k 0 from ew (inr (omega arith)));
         above = λ to. agree_on old now (with_value now k v) (from + (i + 1)) to (agree_within old now (from + i) to (from + (i + 1)) to (omega arith) (omega arith) (d.above to)) (agree_out now (with_value now k v) k (from + (i + 1)) to ew (inl (omega arith)));

@@ -1,19 +1,17 @@
 -- What the machine does as an event begins is what the definition does.
 use Rattle.std.proofs.Common.{◌≡◌, ℕ, ◌+◌, ◌<◌, ◌≤◌, ℤ, true, List, [], ◌∷◌, length, map, Option, Some, None, Ok, Err, refl, sym, ap, ◌∙◌, subst, arith, if◌then◌else◌}
-use Rattle.ss_machine_notices.proofs.Common.{act, AnEvent, at_height, attributes_given, Beginning, Breaks, cleared, Compiled, Core, did, enter, eq-eqb, faulted, FaultKind, fit, HasEntered, HasOneTick, Here, hold_length, IsEntry, IsOutOfMemory, IsSuited, Mode, modes_of, NoMemory, one, Rest, SectionEntry, Seen, set_length, slice_get_within, State, Stuck, suits, TakeEvent, To, turned, TwoRows, Value, value_in, Whole, with_number, with_seen, with_value}
+use Rattle.ss_machine_notices.proofs.Common.{act, AnEvent, at_height, attributes_given, Beginning, Breaks, Compiled, Core, did, enter, eq-eqb, faulted, FaultKind, fit, HasEntered, HasOneTick, Here, hold_length, IsEntry, IsOutOfMemory, IsSuited, modes_of, NoMemory, one, one_tick_at, Rest, SectionEntry, Seen, set_length, slice_get_within, slice_set, State, Stuck, suits, TakeEvent, To, turned, TwoRows, Value, value_in, Whole, with_number, with_seen}
 use Rattle.std.specs.Prelude.{IfSome, is_some, slice_get, Result as OkOr}
-use Rattle.ss_base.specs.Layout.{mode_of, first_value}
+use Rattle.ss_base.specs.Layout.{mode_of}
 use Rattle.ss_machine_notices.specs.Beginning.{AreRead, AreReceived, HasLetGo, HasReceived, IsNextEvent, HasLetGoThen, AreReceivedIf, IsUnbegunAfter, IsUnbegun}
-use Rattle.ss_machine_frames.proofs.Entering.{value_long, value_texts, opened_is}
+use Rattle.ss_machine_frames.proofs.Entering.{opened_is}
+use Rattle.ss_machine_frames.specs.Holding.{IsCoreHeld}
 use Rattle.ss_machine_notices.proofs.Begun.{event, entry_point, code_entry, begun_entry, begun_modes, begun_kind, begun_saved, begun_saving}
 use Rattle.ss_machine_notices.proofs.Giving.{got_at}
+use Rattle.ss_machine_instructions.proofs.Calling.{cleared_even}
 use Rattle.ss_machine_notices.proofs.Opening.{value_lives, all_lives, begins_not, left_store, GoesAs, IsSaving, read_is, goes_as, goes_right, begun_then, take_is}
 use Rattle.ss_machine_notices.proofs.Framing.{begun_core, held_gone, held_saved}
-use Rattle.ss_machine_notices.proofs.Beginning.{lets_go_ticks, lets_go_steps}
-
-cleared_even : (r : TwoRows) (i : ℕ) (ms : List Mode) → length r.texts ≡ length r.numbers → length (cleared r i ms).texts ≡ length (cleared r i ms).numbers
-cleared_even r i [] e = e
-cleared_even r i (m ∷ ms) e = cleared_even (with_value r i (first_value m)) (i + 1) ms (value_texts r i (first_value m) ∙ e ∙ sym (value_long r i (first_value m)))
+use Rattle.ss_machine_notices.proofs.Beginning.{lets_go_keeps}
 
 module _ (w : Compiled) (c : Core) (here : Here) (s : State) (cell : ℕ) (x : ℤ) (class : ℕ) (n : IsNextEvent w c here s cell x class) (run : SectionEntry) (at_run : slice_get w.run.events n.coming.ranked.rank ≡ Some run) where
   -- the entry that is run is that of the event
@@ -67,53 +65,18 @@ module _ (w : Compiled) (c : Core) (here : Here) (s : State) (cell : ℕ) (x : �
       hold_given : map mode_of h.values ≡ (entry_point w c here s cell x class n).given
       hold_given = h.hold ∙ entry_is.given
 
-      pub begins_gone : (seen : Seen) → n.coming.ranked.said.saved ≡ None → GoesAs w c here s cell x class n n.coming.ranked.said.saved seen (Ok tt) → HasOneTick s.ticks w n.ready.placed.line (act w.code n.ready.placed.line n.ready.placed.instruction c) n.before (record s1 { rows = rows; world = seen }) (Some (record { place = run.place; frame = frame }))
-      begins_gone seen none goes =
+      -- the variables are these, the saved one among them, and the rows are these
+      begins_held : (gs : List Value) (rows' : TwoRows) (seen : Seen) → left_store w c here s cell x class n n.coming.ranked.said.saved seen ≡ record (with_seen c.store seen) { globals = gs } → GoesAs w c here s cell x class n n.coming.ranked.said.saved seen (Ok tt) → IsCoreHeld w.run.constants w.run.depth frame rows' s1.frames (begun_core w c here s cell x class n (entry_point w c here s cell x class n) run entry_is s1 frame enters high n.coming.ranked.rank h.values (record (with_seen c.store seen) { globals = gs })) → length rows'.texts ≡ length rows'.numbers → HasOneTick s.ticks w n.ready.placed.line (act w.code n.ready.placed.line n.ready.placed.instruction c) n.before (record s1 { rows = rows'; world = seen }) (Some (record { place = run.place; frame = frame }))
+      begins_held gs rows' seen left goes held even =
           let e = entry_point w c here s cell x class n in
-          let c' = begun_core w c here s cell x class n e run entry_is s1 frame enters high n.coming.ranked.rank h.values (with_seen c.store seen) in
+          let c' = begun_core w c here s cell x class n e run entry_is s1 frame enters high n.coming.ranked.rank h.values (record (with_seen c.store seen) { globals = gs }) in
           record {
             leads = (
               c',
               acts seen goes
-                  ∙ ap (λ o. enter e (AnEvent n.coming.ranked.rank) h.values c.cells c (left_store w c here s cell x class n o seen)) none
-                  ∙ ap (λ o. fit o (λ vs. To (begun_from vs seen))) (opened_is e.given e.others h.values hold_given),
-              record {
-                place = entry_is.place;
-                held = held_gone w c here s cell x class n e run entry_is s1 frame enters high n.coming.ranked.rank rows h seen;
-                world = refl;
-                even = h.even ∙ even_then ∙ sym h.long;
-                line = fault_line_none;
-              },
-            );
-            ticks = ap (λ (t : State). t.ticks) enters.is;
-            steps = steps_same;
-          }
-        where
-          begun_from : List Value → Seen → Core
-          begun_from vs seen = record {
-            place = (entry_point w c here s cell x class n).place;
-            cells = [];
-            frames = record { back = c.place + 1; cells = c.cells; locals = c.store.locals; first = length (entry_point w c here s cell x class n).given; count = (entry_point w c here s cell x class n).yielding; called = AnEvent n.coming.ranked.rank } ∷ c.frames;
-            store = record (with_seen c.store seen) { locals = vs };
-          }
-
-      pub begins_saved : (k : ℕ) (seen : Seen) → n.coming.ranked.said.saved ≡ Some k → k < length c.store.globals → k < frame → GoesAs w c here s cell x class n n.coming.ranked.said.saved seen (Ok tt) → HasOneTick s.ticks w n.ready.placed.line (act w.code n.ready.placed.line n.ready.placed.instruction c) n.before (record s1 { rows = with_number rows k x; world = seen }) (Some (record { place = run.place; frame = frame }))
-      begins_saved k seen some lt low goes =
-          let e = entry_point w c here s cell x class n in
-          let c' = begun_core w c here s cell x class n e run entry_is s1 frame enters high n.coming.ranked.rank h.values (left_store w c here s cell x class n (Some k) seen) in
-          record {
-            leads = (
-              c',
-              acts seen goes
-                  ∙ ap (λ o. enter e (AnEvent n.coming.ranked.rank) h.values c.cells c (left_store w c here s cell x class n o seen)) some
+                  ∙ ap (λ t. enter e (AnEvent n.coming.ranked.rank) h.values c.cells c t) left
                   ∙ ap (λ o. fit o (λ vs. To (begun_from vs))) (opened_is e.given e.others h.values hold_given),
-              record {
-                place = entry_is.place;
-                held = held_saved w c here s cell x class n e run entry_is s1 frame enters high n.coming.ranked.rank rows h seen k lt low;
-                world = refl;
-                even = h.even ∙ even_then ∙ sym h.long ∙ sym (set_length rows.numbers k x);
-                line = fault_line_none;
-              },
+              record { place = entry_is.place; held = held; world = refl; even = even; line = fault_line_none },
             );
             ticks = ap (λ (t : State). t.ticks) enters.is;
             steps = steps_same;
@@ -124,8 +87,20 @@ module _ (w : Compiled) (c : Core) (here : Here) (s : State) (cell : ℕ) (x : �
             place = (entry_point w c here s cell x class n).place;
             cells = [];
             frames = record { back = c.place + 1; cells = c.cells; locals = c.store.locals; first = length (entry_point w c here s cell x class n).given; count = (entry_point w c here s cell x class n).yielding; called = AnEvent n.coming.ranked.rank } ∷ c.frames;
-            store = record (left_store w c here s cell x class n (Some k) seen) { locals = vs };
+            store = record (with_seen c.store seen) { globals = gs; locals = vs };
           }
+
+      pub begins_gone : (seen : Seen) → n.coming.ranked.said.saved ≡ None → GoesAs w c here s cell x class n n.coming.ranked.said.saved seen (Ok tt) → HasOneTick s.ticks w n.ready.placed.line (act w.code n.ready.placed.line n.ready.placed.instruction c) n.before (record s1 { rows = rows; world = seen }) (Some (record { place = run.place; frame = frame }))
+      begins_gone seen none goes =
+          begins_held c.store.globals rows seen (ap (λ o. left_store w c here s cell x class n o seen) none) goes
+          (held_gone w c here s cell x class n (entry_point w c here s cell x class n) run entry_is s1 frame enters high n.coming.ranked.rank rows h seen)
+          (h.even ∙ even_then ∙ sym h.long)
+
+      pub begins_saved : (k : ℕ) (seen : Seen) → n.coming.ranked.said.saved ≡ Some k → k < length c.store.globals → k < frame → GoesAs w c here s cell x class n n.coming.ranked.said.saved seen (Ok tt) → HasOneTick s.ticks w n.ready.placed.line (act w.code n.ready.placed.line n.ready.placed.instruction c) n.before (record s1 { rows = with_number rows k x; world = seen }) (Some (record { place = run.place; frame = frame }))
+      begins_saved k seen some lt low goes =
+          begins_held (slice_set c.store.globals k (Whole x)) (with_number rows k x) seen (ap (λ o. left_store w c here s cell x class n o seen) some) goes
+          (held_saved w c here s cell x class n (entry_point w c here s cell x class n) run entry_is s1 frame enters high n.coming.ranked.rank rows h seen k lt low)
+          (h.even ∙ even_then ∙ sym h.long ∙ sym (set_length rows.numbers k x))
 
   -- ## Where it does not begin
 
@@ -133,15 +108,13 @@ module _ (w : Compiled) (c : Core) (here : Here) (s : State) (cell : ℕ) (x : �
   fails_as kind mid new result acts ticks steps same none =
       let m = act w.code n.ready.placed.line n.ready.placed.instruction c in
       let s' : State = faulted kind (record mid { fault_line = Some n.coming.ranked.said.line }) in
-      let plain : HasOneTick s.ticks w n.ready.placed.line m n.before s' None = record { leads = acts; ticks = ticks; steps = steps } in
-      subst (λ o. HasOneTick s.ticks w n.ready.placed.line m n.before new o) (sym none) (subst (λ (u : State). HasOneTick s.ticks w n.ready.placed.line m n.before u None) (sym same) plain)
+      one_tick_at s.ticks w n.ready.placed.line m n.before s' new None result acts ticks steps same none
 
   pub refused_as : (mid new : State) (result : Option Here) → mid.ticks ≡ s.ticks → mid.steps ≡ n.before.steps → new ≡ record mid { ticks = mid.ticks + 1; ending = NoMemory } → result ≡ None → HasOneTick s.ticks w n.ready.placed.line (act w.code n.ready.placed.line n.ready.placed.instruction c) n.before new result
   refused_as mid new result ticks steps same none =
       let m = act w.code n.ready.placed.line n.ready.placed.instruction c in
       let s' : State = record mid { ticks = mid.ticks + 1; ending = NoMemory } in
-      let plain : HasOneTick s.ticks w n.ready.placed.line m n.before s' None = record { leads = tt; ticks = omega (arith, ticks); steps = steps } in
-      subst (λ o. HasOneTick s.ticks w n.ready.placed.line m n.before new o) (sym none) (subst (λ (u : State). HasOneTick s.ticks w n.ready.placed.line m n.before u None) (sym same) plain)
+      one_tick_at s.ticks w n.ready.placed.line m n.before s' new None result tt (omega (arith, ticks)) steps same none
 
   -- some attributes are there, read or not
   pub some_given : (vs : List Value) × (attributes_given class 0 (length (event w c here s cell x class n).given) (Whole x) (with_seen c.store s.world) ≡ Ok vs)
@@ -157,10 +130,10 @@ module _ (w : Compiled) (c : Core) (here : Here) (s : State) (cell : ℕ) (x : �
       steps_now = ap (λ (t : State). t.steps) n.is
 
       by : (q : OkOr (Unit {0}) FaultKind) → HasLetGo n.coming.ranked.said.saved class x s1 u.mid q → IsUnbegunAfter n.coming.ranked.said.line u.mid new q → HasOneTick s.ticks w n.ready.placed.line (act w.code n.ready.placed.line n.ready.placed.instruction c) n.before new result
-      by (Ok t) d is = refused_as u.mid new result (lets_go_ticks n.coming.ranked.said.saved class x s1 u.mid (Ok t) d ∙ refused.ticks) (lets_go_steps n.coming.ranked.said.saved class x s1 u.mid (Ok t) d ∙ refused.steps ∙ steps_now) is none
+      by (Ok t) d is = refused_as u.mid new result ((lets_go_keeps n.coming.ranked.said.saved class x s1 u.mid (Ok t) d).0 ∙ refused.ticks) ((lets_go_keeps n.coming.ranked.said.saved class x s1 u.mid (Ok t) d).1 ∙ refused.steps ∙ steps_now) is none
       by (Err kind) d is =
           let goes = goes_as w c here s cell x class n n.coming.ranked.said.saved s1 u.mid (Err kind) refused.world (begun_saving w c here s cell x class n) (goes_right w c here s cell x class n some_given.0 some_given.1) d in
-          fails_as kind u.mid new result (begins_not w c here s cell x class n some_given.0 some_given.1 u.mid.world kind goes) (lets_go_ticks n.coming.ranked.said.saved class x s1 u.mid (Err kind) d ∙ refused.ticks) (lets_go_steps n.coming.ranked.said.saved class x s1 u.mid (Err kind) d ∙ refused.steps ∙ steps_now) is none
+          fails_as kind u.mid new result (begins_not w c here s cell x class n some_given.0 some_given.1 u.mid.world kind goes) ((lets_go_keeps n.coming.ranked.said.saved class x s1 u.mid (Err kind) d).0 ∙ refused.ticks) ((lets_go_keeps n.coming.ranked.said.saved class x s1 u.mid (Err kind) d).1 ∙ refused.steps ∙ steps_now) is none
 
   -- ## Where the frame is there
 
@@ -211,7 +184,7 @@ module _ (w : Compiled) (c : Core) (here : Here) (s : State) (cell : ℕ) (x : �
         by : (q : OkOr (Unit {0}) FaultKind) → AreReceivedIf s1.world.heap class x run.given.items frame s1.rows v.rows q → HasLetGoThen n.coming.ranked.said class x (record s1 { rows = v.rows }) mid q (Err kind) → HasOneTick s.ticks w n.ready.placed.line (act w.code n.ready.placed.line n.ready.placed.instruction c) n.before new result
         by (Ok u) h d =
             let goes = goes_as w c here s cell x class n n.coming.ranked.said.saved (record s1 { rows = v.rows }) mid (Err kind) world_is (begun_saving w c here s cell x class n) (goes_right w c here s cell x class n some_given.0 some_given.1) d in
-            fails_as kind mid new result (begins_not w c here s cell x class n some_given.0 some_given.1 mid.world kind goes) (lets_go_ticks n.coming.ranked.said.saved class x (record s1 { rows = v.rows }) mid (Err kind) d ∙ ticks_then) (lets_go_steps n.coming.ranked.said.saved class x (record s1 { rows = v.rows }) mid (Err kind) d ∙ steps_then) same none
+            fails_as kind mid new result (begins_not w c here s cell x class n some_given.0 some_given.1 mid.world kind goes) ((lets_go_keeps n.coming.ranked.said.saved class x (record s1 { rows = v.rows }) mid (Err kind) d).0 ∙ ticks_then) ((lets_go_keeps n.coming.ranked.said.saved class x (record s1 { rows = v.rows }) mid (Err kind) d).1 ∙ steps_then) same none
         by (Err k) h d =
             let there = value_lives s.world.heap class h.0 x n.lives (begun_kind w c here s cell x class n) in
             let wrong : Ok there.0 ≡ Err k = sym there.1 ∙ ap (λ (e : Seen). value_in e.heap class h.0 x) (sym world_is) ∙ h.2 in

@@ -1,72 +1,64 @@
 -- Times to schedule for, filing a notice, and cancelling.
-use Rattle.std.proofs.Common.{◌≡◌, ℕ, ◌+◌, ◌<◌, ◌≤◌, false, List, length, Option, Some, None, Ok, Err, refl, sym, ap, ◌∙◌, subst}
+use Rattle.std.proofs.Common.{◌≡◌, ℕ, ◌+◌, ◌<◌, ◌≤◌, false, List, length, Option, Some, Ok, Err, refl, ap, ◌∙◌}
 use Rattle.std.specs.Prelude.{ℤ, IsOk, slice_get, Result as OkOr}
-use Rattle.ss_machine_notices.proofs.Common.{act, Address, as_value, calm, Compiled, deep_at, deep_here, Fault, FaultKind, HasAnswer, HasChanged, HasChangedWithMemory, HasNoTick, HasPerformed, Here, Integer, is_due, IsDelivering, IsFittingStore, IsNoticeClass, IsReadyFor, IsRight, IsSettledWithMemory, IsSettling, kind_of_class, located, Memory, Mode, NoMemory, Notice, noticed_in, place_at, Refused, refused_where, Seen, site, State, Store, suits, time_after, unless_refused, Value, Whole, with_seen}
-use Rattle.ss_code_instructions.specs.Shape.{IsSuited, IsGivingMode, IsAccepting, typed_scope}
+use Rattle.ss_machine_notices.proofs.Common.{act, Address, as_value, calm, Compiled, deep_at, deep_here, Fault, FaultKind, HasAnswer, HasChanged, HasChangedWithMemory, HasPerformed, Here, Integer, is_due, IsDelivering, IsFittingStore, IsNoticeClass, IsReadyFor, IsSettledWithMemory, IsSettling, kind_of_class, located, Memory, Mode, Notice, noticed_in, place_at, Refused, refused_where, Seen, site, State, Store, suits_as, time_after, unless_refused, Value, Whole, with_seen}
+use Rattle.ss_code_instructions.specs.Shape.{IsGivingMode, IsAccepting, typed_scope}
 use Rattle.ss_code_instructions.specs.States.{Core, did, onward, with_operand_value, deliver}
-use Rattle.ss_machine_instructions.proofs.Settling.{fine_right, store_is, layout_seen, notices_seen, changes_settle, settles, went_on, fails_on}
-use Rattle.ss_machine_instructions.specs.Ways.{on_after, stopped, faulted_by, done_unless_fault}
+use Rattle.ss_machine_instructions.proofs.Seeing.{seen_is, layout_is, asked, settles, unmade, changes}
+use Rattle.ss_machine_instructions.proofs.Settling.{fine_right, notices_seen}
+use Rattle.ss_machine_instructions.specs.Ways.{on_after, faulted_by, done_unless_fault}
 use Rattle.ss_meaning.specs.Events.{filed_notice, Moment, AtTime, Later, not_past, time_at, unscheduled}
-use Rattle.ss_meaning.specs.Values.{due, Fails, Failure, if_ok, turned, number_of}
-use Rattle.ss_meaning.proofs.Fine.{Any}
-use Rattle.ss_meaning.proofs.Events.{time_at_fine, filed_notice_fine, unscheduled_fine}
+use Rattle.ss_meaning.specs.Values.{Fails, Failure, if_ok, turned, number_of}
+use Rattle.ss_meaning.proofs.Events.{filed_notice_fine}
 use Rattle.ss_code_instructions.specs.declared.instruction.Instruction.{Instruction as Running}
 use Rattle.ss_code_instructions.specs.Instructions as i
-use Rattle.ss_code_instructions.specs.Instructions.{Instruction, Operand, Target}
+use Rattle.ss_code_instructions.specs.Instructions.{Operand, Target}
 use Rattle.ss_code_instructions.specs.Carried.{HasOperand, HasTarget, Is, IsOperandAt, IsTargetAt}
 use Rattle.ss_machine_frames.proofs.Reading.{only_number, reads, read_within, reads_both, BothWithin, both_within}
 use Rattle.ss_machine_instructions.proofs.Delivering.{delivers, deliver_is, number_right}
 
 module _ (w : Compiled) (c : Core) (here : Here) (s : State) (run : Running) (r : IsReadyFor w c here s run) where
-  abbrev SuitsHere : Instruction → Type 0
-  SuitsHere x = IsSuited w.program w.code c.place r.placed.locals r.placed.cells x
-
   -- ## Times
 
   -- the time of a moment whose number was read
-  when_delivers : (moment : Value → Moment) (y : Operand) (target : Target) (time to : Address) (rest after : List Mode) (n : ℤ) (answer : OkOr ℤ FaultKind) → act w.code r.placed.line r.placed.instruction c ≡ with_operand_value y c.store c.cells (λ v below. deliver r.placed.line target (turned Whole (time_at (moment v) c.store)) below c) → IsGivingMode (typed_scope w.program w.code r.placed.locals) y Integer r.placed.cells rest → IsOperandAt w.code w.run.constants r.placed y time → IsAccepting (typed_scope w.program w.code r.placed.locals) target Integer rest after → IsTargetAt w.code w.run.constants r.placed target to → length after ≤ w.run.depth → slice_get s.rows.numbers (place_at here.frame time) ≡ Some n → time_at (moment (Whole n)) c.store ≡ due answer → IsDelivering w c r.placed.line (act w.code r.placed.line r.placed.instruction c) here s to (as_value answer)
-  when_delivers moment y target time to rest after n answer acts gives at_y accepts at_to deep at_time e =
+  when_delivers : (moment : Value → Moment) (y : Operand) (target : Target) (time to : Address) (rest after : List Mode) (n : ℤ) (answer : OkOr ℤ FaultKind) → act w.code r.placed.line r.placed.instruction c ≡ with_operand_value y c.store c.cells (λ v below. deliver r.placed.line target (turned Whole (time_at (moment v) c.store)) below c) → IsGivingMode (typed_scope w.program w.code r.placed.locals) y Integer r.placed.cells rest → IsOperandAt w.code w.run.constants r.placed y time → IsAccepting (typed_scope w.program w.code r.placed.locals) target Integer rest after → IsTargetAt w.code w.run.constants r.placed target to → length after ≤ w.run.depth → slice_get s.rows.numbers (place_at here.frame time) ≡ Some n → HasAnswer (time_at (moment (Whole n))) s.world answer → IsDelivering w c r.placed.line (act w.code r.placed.line r.placed.instruction c) here s to (as_value answer)
+  when_delivers moment y target time to rest after n answer acts gives at_y accepts at_to deep at_time looks =
       let l = r.placed.line in
       let one = reads (site w c here s run r) (located w c here s run r) y Integer r.placed.cells rest time c.cells (Whole n) gives at_y r.holds.held.cells r.fits.cells (only_number s.rows (place_at here.frame time) n at_time) in
+      let reads_it : act w.code l r.placed.instruction c ≡ deliver l target (turned Whole (time_at (moment (Whole n)) c.store)) one.below c = acts ∙ one.is (λ v below. deliver l target (turned Whole (time_at (moment v) c.store)) below c) in
+      let e = asked w c here s run r (time_at (moment (Whole n))) answer (λ wrong. reads_it ∙ ap (λ q. deliver l target (turned Whole q) one.below c) wrong) looks in
       delivers w c here s run r (as_value answer) to target Integer rest after one.below
-      (acts
-      ∙ one.is (λ v below. deliver l target (turned Whole (time_at (moment v) c.store)) below c)
+      (reads_it
       ∙ ap (λ q. deliver l target (turned Whole q) one.below c) e
       ∙ deliver_is l target answer one.below c)
       accepts at_to deep (number_right answer) one.modes one.cells
 
   pub at_in : (time to : Address) → HasOperand w.code w.run.constants r.placed time (λ y. HasTarget w.code w.run.constants r.placed to (λ t. Is w.code w.run.constants r.placed (i.At y t))) → place_at here.frame time < length s.rows.numbers
   at_in time to z =
-      let y = subst SuitsHere z.2.2 (suits w c here s run r) in
+      let y = suits_as w c here s run r z.2.2 in
       read_within (site w c here s run r) (located w c here s run r) z.0 Integer r.placed.cells y.0 time y.1 z.1 (deep_here w c here s run r)
 
   pub ats : (time to : Address) (n : ℤ) (answer : OkOr ℤ FaultKind) → HasOperand w.code w.run.constants r.placed time (λ y. HasTarget w.code w.run.constants r.placed to (λ t. Is w.code w.run.constants r.placed (i.At y t))) → slice_get s.rows.numbers (place_at here.frame time) ≡ Some n → HasAnswer (not_past n) s.world answer → IsDelivering w c r.placed.line (act w.code r.placed.line r.placed.instruction c) here s to (as_value answer)
   ats time to n answer z at looks =
       let is = z.2.2 in
-      let y = subst SuitsHere is (suits w c here s run r) in
-      let f : Store → OkOr ℤ Failure = not_past n in
-      let right : IsRight (f c.store) = fine_right Any (f c.store) (time_at_fine w.program r.compiled.typed r.placed.locals (AtTime (Whole n)) c.store refl) in
-      let e : f c.store ≡ due answer = ap f (store_is w c here s run r) ∙ looks c.store (λ wrong. right (ap f (store_is w c here s run r) ∙ wrong)) in
-      when_delivers AtTime z.0 z.2.0 time to y.0 y.2.0 n answer (ap (λ x. act w.code r.placed.line x c) is) y.1 z.1 y.2.1 z.2.1 (deep_at w c here s run r (c.place + 1) r.placed.locals y.2.0 y.2.2) at e
+      let y = suits_as w c here s run r is in
+      when_delivers AtTime z.0 z.2.0 time to y.0 y.2.0 n answer (ap (λ x. act w.code r.placed.line x c) is) y.1 z.1 y.2.1 z.2.1 (deep_at w c here s run r (c.place + 1) r.placed.locals y.2.0 y.2.2) at looks
 
   pub in_in : (units to : Address) → HasOperand w.code w.run.constants r.placed units (λ y. HasTarget w.code w.run.constants r.placed to (λ t. Is w.code w.run.constants r.placed (i.In y t))) → place_at here.frame units < length s.rows.numbers
   in_in units to z =
-      let y = subst SuitsHere z.2.2 (suits w c here s run r) in
+      let y = suits_as w c here s run r z.2.2 in
       read_within (site w c here s run r) (located w c here s run r) z.0 Integer r.placed.cells y.0 units y.1 z.1 (deep_here w c here s run r)
 
   pub ins : (units to : Address) (n : ℤ) (answer : OkOr ℤ FaultKind) → HasOperand w.code w.run.constants r.placed units (λ y. HasTarget w.code w.run.constants r.placed to (λ t. Is w.code w.run.constants r.placed (i.In y t))) → slice_get s.rows.numbers (place_at here.frame units) ≡ Some n → HasAnswer (time_after n) s.world answer → IsDelivering w c r.placed.line (act w.code r.placed.line r.placed.instruction c) here s to (as_value answer)
   ins units to n answer z at looks =
       let is = z.2.2 in
-      let y = subst SuitsHere is (suits w c here s run r) in
-      let f : Store → OkOr ℤ Failure = time_after n in
-      let right : IsRight (f c.store) = fine_right Any (f c.store) (time_at_fine w.program r.compiled.typed r.placed.locals (Later (Whole n)) c.store refl) in
-      let e : f c.store ≡ due answer = ap f (store_is w c here s run r) ∙ looks c.store (λ wrong. right (ap f (store_is w c here s run r) ∙ wrong)) in
-      when_delivers Later z.0 z.2.0 units to y.0 y.2.0 n answer (ap (λ x. act w.code r.placed.line x c) is) y.1 z.1 y.2.1 z.2.1 (deep_at w c here s run r (c.place + 1) r.placed.locals y.2.0 y.2.2) at e
+      let y = suits_as w c here s run r is in
+      when_delivers Later z.0 z.2.0 units to y.0 y.2.0 n answer (ap (λ x. act w.code r.placed.line x c) is) y.1 z.1 y.2.1 z.2.1 (deep_at w c here s run r (c.place + 1) r.placed.locals y.2.0 y.2.2) at looks
 
   -- ## A class of notices
 
   pub noticed : (class : ℕ) → kind_of_class w.program class ≡ Some Notice → IsNoticeClass s.world class
-  noticed class kind = noticed_in w.program r.compiled.typed r.placed.locals s.world c.store class kind r.fits.store (notices_seen w c here s run r) (layout_seen w c here s run r)
+  noticed class kind = noticed_in w.program r.compiled.typed r.placed.locals s.world c.store class kind r.fits.store (notices_seen w c here s run r) (layout_is w c here s run r)
 
   pub class_within : (class : ℕ) → kind_of_class w.program class ≡ Some Notice → class < length s.world.heap.layout.classes
   class_within class kind = (noticed class kind).within
@@ -75,17 +67,11 @@ module _ (w : Compiled) (c : Core) (here : Here) (s : State) (run : Running) (r 
 
   -- by the answer
   pub refuses : (f : Store → OkOr Store Failure) (e : Seen) (answer : OkOr (Unit {0}) Refused) (new : State) (result : Option Here) → is_due r.placed.instruction ≡ false → IsSettling c r.placed.line (act w.code r.placed.line r.placed.instruction c) here s f → IsSettledWithMemory c.store f s.world e answer → new ≡ refused_where answer (record s { world = e }) → result ≡ on_after here (unless_refused answer) → HasPerformed (is_due r.placed.instruction) w r.placed.line (act w.code r.placed.line r.placed.instruction c) s new result
-  refuses f e (Ok u) new result calmly z d same way = went_on w c here s run r f e new result calmly z d same way
+  refuses f e (Ok u) new result calmly z d same way =
+      settles w c here s run r (f c.store) z.below e (Ok u) new result calmly z.acts z.at (ap f (seen_is w c here s run r) ∙ d) same way
   refuses f e (Err (Fault kind)) new result calmly z d same way =
-      fails_on w c here s run r kind e new result calmly
-      (z.acts ∙ ap (λ q. did r.placed.line q (λ t. onward z.below c t)) (ap f (store_is w c here s run r) ∙ d)) same way
-  refuses f e (Err Memory) new result calmly z d same way =
-      let m = act w.code r.placed.line r.placed.instruction c in
-      let l = r.placed.line in
-      let s' : State = stopped NoMemory (record s { world = e }) in
-      let plain : HasNoTick w l m s s' None = record { leads = tt; ticks = refl; steps = refl } in
-      calm w c here s run r new result calmly
-      (subst (λ o. HasNoTick w l m s new o) (sym way) (subst (λ n. HasNoTick w l m s n None) (sym same) plain))
+      settles w c here s run r (f c.store) z.below e (Err kind) new result calmly z.acts z.at (ap f (seen_is w c here s run r) ∙ d) same way
+  refuses f e (Err Memory) new result calmly z d same way = calm w c here s run r new result calmly (unmade w c here s run r e new result same way)
 
   -- what holds of each store holds of this one
   pub in_store : (f : Store → OkOr Store Failure) (e : Seen) (answer : OkOr (Unit {0}) Refused) → HasChangedWithMemory f s.world e answer → IsSettledWithMemory c.store f s.world e answer
@@ -104,7 +90,7 @@ module _ (w : Compiled) (c : Core) (here : Here) (s : State) (run : Running) (r 
 
   pub file_notice_in : (class : ℕ) (notice time : Address) → FilesNotice class notice time → BothWithin (site w c here s run r) (located w c here s run r) notice time × IsNoticeClass s.world class
   file_notice_in class notice time z =
-      let y = subst SuitsHere z.2.2 (suits w c here s run r) in (
+      let y = suits_as w c here s run r z.2.2 in (
         both_within (site w c here s run r) (located w c here s run r) z.0 z.2.0 Integer Integer r.placed.cells y.1.0 notice time y.1.1 z.1 z.2.1 (deep_here w c here s run r),
         noticed class y.0,
       )
@@ -113,7 +99,7 @@ module _ (w : Compiled) (c : Core) (here : Here) (s : State) (run : Running) (r 
   file_notices class notice time n t e answer new result z at_notice at_time d same way =
       let l = r.placed.line in
       let is = z.2.2 in
-      let y = subst SuitsHere is (suits w c here s run r) in
+      let y = suits_as w c here s run r is in
       let both = reads_both (site w c here s run r) (located w c here s run r) z.0 z.2.0 Integer Integer r.placed.cells y.1.0 notice time c.cells (Whole n) (Whole t) y.1.1 z.1 z.2.1 r.holds.held.cells r.fits.cells (only_number s.rows (place_at here.frame notice) n at_notice) (only_number s.rows (place_at here.frame time) t at_time) in
       let op : Store → OkOr Store Failure = filed_notice class (Whole n) t in
       let left : IsSettling c l (act w.code l r.placed.instruction c) here s op = record {
@@ -130,22 +116,16 @@ module _ (w : Compiled) (c : Core) (here : Here) (s : State) (run : Running) (r 
 
   pub cancels_in : (class : ℕ) (notice : Address) → HasOperand w.code w.run.constants r.placed notice (λ y. Is w.code w.run.constants r.placed (i.Cancel class y)) → (place_at here.frame notice < length s.rows.numbers) × (class < length s.world.heap.layout.classes)
   cancels_in class notice z =
-      let y = subst SuitsHere z.2 (suits w c here s run r) in (
+      let y = suits_as w c here s run r z.2 in (
         read_within (site w c here s run r) (located w c here s run r) z.0 Integer r.placed.cells y.1.0 notice y.1.1 z.1 (deep_here w c here s run r),
         class_within class y.0,
       )
 
   pub cancels : (class : ℕ) (notice : Address) (n : ℤ) (e : Seen) (answer : OkOr (Unit {0}) FaultKind) (new : State) (result : Option Here) → HasOperand w.code w.run.constants r.placed notice (λ y. Is w.code w.run.constants r.placed (i.Cancel class y)) → slice_get s.rows.numbers (place_at here.frame notice) ≡ Some n → HasChanged (unscheduled class (Whole n)) s.world e answer → new ≡ faulted_by answer (record s { world = e }) → result ≡ on_after here (done_unless_fault answer) → HasPerformed (is_due r.placed.instruction) w r.placed.line (act w.code r.placed.line r.placed.instruction c) s new result
   cancels class notice n e answer new result z at d same way =
-      let l = r.placed.line in
       let is = z.2 in
-      let y = subst SuitsHere is (suits w c here s run r) in
+      let y = suits_as w c here s run r is in
       let one = reads (site w c here s run r) (located w c here s run r) z.0 Integer r.placed.cells y.1.0 notice c.cells (Whole n) y.1.1 z.1 r.holds.held.cells r.fits.cells (only_number s.rows (place_at here.frame notice) n at) in
-      let op : Store → OkOr Store Failure = unscheduled class (Whole n) in
-      let left : IsSettling c l (act w.code l r.placed.instruction c) here s op = record {
-        below = one.below;
-        acts = ap (λ x. act w.code l x c) is ∙ one.is (λ x below. did l (unscheduled class x c.store) (λ s. onward below c s));
-        right = fine_right (IsFittingStore w.program r.placed.locals) (op c.store) (unscheduled_fine w.program r.compiled.typed r.placed.locals class (Whole n) c.store y.0 refl r.fits.store);
-        at = one.cells;
-      } in
-      settles w c here s run r op e answer new result (ap is_due is) left (changes_settle op s.world e answer d) same way
+      changes w c here s run r (unscheduled class (Whole n)) one.below e answer new result (ap is_due is)
+      (ap (λ x. act w.code r.placed.line x c) is ∙ one.is (λ x below. did r.placed.line (unscheduled class x c.store) (λ t. onward below c t)))
+      one.cells d same way

@@ -1,5 +1,5 @@
 -- How an event begins: the attributes of its notice go where its frame begins, and the notice is saved in a variable or goes.
-use Rattle.std.specs.Prelude.{◌≡◌, ℕ, suc, ◌+◌, ◌<◌, ◌^◌, List, [], ◌∷◌, length, map, ℤ, pos, Option, Some, None, Result, Ok, Err}
+use Rattle.std.specs.Prelude.{◌≡◌, ℕ, suc, ◌+◌, ◌<◌, ◌^◌, List, [], ◌∷◌, length, map, ℤ, pos, true, slice_get, IfSome, Option, Some, None, Result, Ok, Err}
 use Rattle.ss_base.specs.declared.fault.FaultKind.{FaultKind}
 use Rattle.ss_base.specs.declared.layout.Mode.{Mode}
 use Rattle.ss_base.specs.declared.line.Line.{Line}
@@ -8,7 +8,7 @@ use Rattle.ss_base.specs.declared.value.Value.TheVariants.{Whole}
 use Rattle.ss_base.specs.Layout.{mode_of}
 use Rattle.ss_world.specs.State.{State, value_in}
 use Rattle.ss_program.specs.declared.sections.Subject.TheVariants.{OfVariable}
-use Rattle.ss_meaning.specs.Entities.{gone}
+use Rattle.ss_meaning.specs.Entities.{gone, is_single}
 use Rattle.ss_meaning.specs.Events.{Coming, ranked_from, next_event}
 use Rattle.ss_meaning.specs.Fitting.{living}
 use Rattle.ss_meaning.specs.Histories.{noted}
@@ -17,7 +17,7 @@ use Rattle.ss_code_instructions.specs.declared.instruction.Instruction.TheVarian
 use Rattle.ss_code_instructions.specs.States.{Core}
 use Rattle.ss_machine_frames.specs.Rows.{TwoRows, with_number, with_value, AreAlike}
 use Rattle.ss_machine_frames.specs.Holding.{AreValuesAt}
-use Rattle.ss_machine_world.specs.Seen.{HasChanged, with_seen}
+use Rattle.ss_machine_world.specs.Seen.{Seen, HasChanged, with_seen}
 use Rattle.ss_machine_instructions.specs.declared.flow.Ending.TheVariants.{NoMemory}
 use Rattle.ss_machine_instructions.specs.declared.flow.Here.{Here}
 use Rattle.ss_machine_instructions.specs.declared.state.State.{State as Machine}
@@ -52,6 +52,13 @@ AreReceivedIf h class n ms i old new (Ok u) = AreReceived h class n ms i old new
 AreReceivedIf h class n ms i old new (Err kind) = (field : ℕ) × (field < length ms) × (value_in h class field n ≡ Err kind)
 
 -- ## The notice
+
+-- one of this rank and class can be let go: the variable that it is saved in, if it is, lies below a limit
+pub record CanLetGo (e : Seen) (r k limit : ℕ) : Type 0 where
+  pub rank : r < length e.notices
+  pub class : k < length e.heap.layout.classes
+  pub single : is_single (slice_get e.heap.layout.classes k) ≡ true
+  pub saved : (said : Notices) → slice_get e.notices r ≡ Some said → IfSome said.saved (λ v. v < limit)
 
 -- it is saved in a variable, which is noted, or it goes
 abbrev pub HasLetGo : (saved : Option ℕ) → (class : ℕ) → (notice : ℤ) → (old new : Machine) → Result (Unit {0}) FaultKind → Type 0

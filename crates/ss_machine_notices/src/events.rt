@@ -1,18 +1,17 @@
 //! Events: how they begin.
 
-ghost use Rattle.std.specs.Prelude.{◌≡◌, ℕ, ◌+◌, ◌<◌, ◌≤◌, ◌^◌, true, length, slice_get, Some, None, Ok, Err, IfSome, MatchResult};
+ghost use Rattle.std.specs.Prelude.{◌≡◌, ℕ, ◌+◌, ◌<◌, ◌≤◌, ◌^◌, length, slice_get, Some, None, Ok, Err, MatchResult};
 ghost use Rattle.ss_base.specs.declared.layout.Mode.{Mode as ModeSeen};
 ghost use Rattle.ss_base.specs.declared.value.Value.TheVariants.{Whole, Text};
 ghost use Rattle.ss_base.specs.declared.layout.Mode.TheVariants.{Integer, Alpha as AlphaMode};
 ghost use Rattle.ss_world.specs.State.{modes_of, value_in};
-ghost use Rattle.ss_meaning.specs.Entities.{is_single};
 ghost use Rattle.ss_meaning.specs.Fitting.{living};
 ghost use Rattle.ss_meaning.specs.Store.{Notices};
 ghost use Rattle.ss_code_instructions.specs.States.{Core};
 ghost use Rattle.ss_code_instructions.specs.Machine.{act};
 ghost use Rattle.ss_machine_instructions.specs.Doing.{Compiled, HasOneTick, CanWhere, HasDoneWhere};
 ghost use Rattle.ss_machine_instructions.specs.Ways.{faulted, begun_event_at, led};
-ghost use Rattle.ss_machine_notices.specs.Beginning.{IsReadTo, AreReceivedIf, HasLetGo, IsUnbegun, HasReceived, IsNextEvent};
+ghost use Rattle.ss_machine_notices.specs.Beginning.{IsReadTo, AreReceivedIf, CanLetGo, HasLetGo, IsUnbegun, HasReceived, IsNextEvent};
 
 use crate::scheduling::Giving;
 use ss_base::{Alpha, FaultKind, Line, Mode};
@@ -173,10 +172,7 @@ fn fault_of_event<T>(state: &mut State, kind: FaultKind, rank: usize) -> Option<
 // The notice of an event of this rank is saved in a variable, which is noted where it is watched, or it goes.
 #[inline(always)]
 fn let_go(state: &mut State, rank: usize, class: usize, notice: i64) -> Result<(), FaultKind>
-    requires rank { rank < length state.old.world.notices }
-    requires class { class < length state.old.world.heap.layout.classes }
-    requires single { is_single (slice_get state.old.world.heap.layout.classes class) ≡ true }
-    requires saved { (said : Notices) → slice_get state.old.world.notices rank ≡ Some said → IfSome said.saved (λ k. k < length state.old.rows.numbers) }
+    requires { CanLetGo state.old.world rank class (length state.old.rows.numbers) }
     ensures { (said : Notices) → slice_get state.old.world.notices rank ≡ Some said → HasLetGo said.saved class notice state.old state.new result }
 {
     match saved_of(&state.world, rank) {
@@ -192,10 +188,7 @@ fn let_go(state: &mut State, rank: usize, class: usize, notice: i64) -> Result<(
 #[cold]
 #[inline(never)]
 fn unbegun(state: &mut State, rank: usize, class: usize, notice: i64) -> Option<usize>
-    requires rank { rank < length state.old.world.notices }
-    requires class { class < length state.old.world.heap.layout.classes }
-    requires single { is_single (slice_get state.old.world.heap.layout.classes class) ≡ true }
-    requires saved { (said : Notices) → slice_get state.old.world.notices rank ≡ Some said → IfSome said.saved (λ k. k < length state.old.rows.numbers) }
+    requires goes { CanLetGo state.old.world rank class (length state.old.rows.numbers) }
     requires ticks { state.old.ticks + 1 < 2 ^ 64 }
     ensures none { result ≡ None }
     ensures state { (said : Notices) → slice_get state.old.world.notices rank ≡ Some said → IsUnbegun said class notice state.old state.new }
@@ -209,10 +202,7 @@ fn unbegun(state: &mut State, rank: usize, class: usize, notice: i64) -> Option<
 // The attributes of a notice are read, and the notice is let go.
 #[inline(always)]
 fn receive(state: &mut State, what: Giving, rank: usize, modes: &[Mode]) -> Result<(), FaultKind>
-    requires rank { rank < length state.old.world.notices }
-    requires class { what.class < length state.old.world.heap.layout.classes }
-    requires single { is_single (slice_get state.old.world.heap.layout.classes what.class) ≡ true }
-    requires saved { (said : Notices) → slice_get state.old.world.notices rank ≡ Some said → IfSome said.saved (λ k. k < what.from) }
+    requires goes { CanLetGo state.old.world rank what.class what.from }
     requires modes { (i : ℕ) (m : ModeSeen) → slice_get modes.now i ≡ Some m → slice_get (modes_of state.old.world.heap.layout what.class) i ≡ Some m }
     requires places { what.from + length modes.now ≤ length state.old.rows.numbers }
     requires small { what.from + length modes.now ≤ 2 ^ 64 }

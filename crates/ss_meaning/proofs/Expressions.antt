@@ -33,7 +33,7 @@ pub applied_fine : (op : UnaryOperator) (x : Value) → mode_of x ≡ Integer �
 applied_fine op (Whole z) p = fine_turned (HasMode_is Integer) Whole (due (computed_alone op z)) (any_due (computed_alone op z)) (λ y u. refl)
 applied_fine op (Text t) p = absurd cc
 
-related_there : (r : Relation) (m : Mode) (x y : Value) → mode_of x ≡ m → mode_of y ≡ m → There Any (related r x y)
+pub related_there : (r : Relation) (m : Mode) (x y : Value) → mode_of x ≡ m → mode_of y ≡ m → There Any (related r x y)
 related_there r m (Whole x) (Whole y) p q = tt
 related_there r m (Text s) (Text t) p q = tt
 related_there r m (Whole x) (Text t) p q = absurd cc

@@ -144,7 +144,7 @@ set_modes (w ∷ vs) (n ∷ ms) (suc k) m v q g p =
     let later : AreOfModes (slice_set vs k v) ms = set_modes vs ms k m v rest g p in cc
 
 -- another record of the same class in place of one
-set_class : (rs : List (Option Record)) (i : ℕ) (r q : Record) → slice_get rs i ≡ Some (Some r) → q.class ≡ r.class → (j : ℕ) → class_of_record (slice_get (slice_set rs i (Some q)) j) ≡ class_of_record (slice_get rs j)
+pub set_class : (rs : List (Option Record)) (i : ℕ) (r q : Record) → slice_get rs i ≡ Some (Some r) → q.class ≡ r.class → (j : ℕ) → class_of_record (slice_get (slice_set rs i (Some q)) j) ≡ class_of_record (slice_get rs j)
 set_class [] i r q g c j = absurd cc
 set_class (o ∷ rs) zero r q g c zero = let there : o ≡ Some r = cc in ap Some c ∙ sym (ap (λ y. class_of_record (Some y)) there)
 set_class (o ∷ rs) zero r q g c (suc j) = refl
@@ -176,7 +176,7 @@ set_single h i r q f g c m =
     ((every_set (IsFittingRecord h.layout) h.records i (Some q) f.0 (subst (λ d. AreOfModes q.values (modes_of h.layout d)) (sym c) m), f.1), set_same h i r q g c)
 
 -- the number of an entity that is there
-number_is : (h : State) (x : ℤ) (r : Record) → HasRecord h x r → slice_get h.records (number_in x - 1) ≡ Some (Some r)
+pub number_is : (h : State) (x : ℤ) (r : Record) → HasRecord h x r → slice_get h.records (number_in x - 1) ≡ Some (Some r)
 number_is h (pos zero) r q = absurd q
 number_is h (pos (suc i)) r q = let one : suc i - 1 ≡ i = omega arith in subst (λ j. slice_get h.records j ≡ Some (Some r)) (sym one) q
 number_is h (negsuc k) r q = absurd q
@@ -187,7 +187,7 @@ made_set None i r = refl
 made_set (Some None) i r = refl
 made_set (Some (Some rs)) i r = set_length rs (i - 1) r
 
-made_at : (ps : List (Option (List Record))) (c i : ℕ) (r : Record) (k : ℕ) → length (records_in (slice_get (slice_set ps c (with_indexed (slice_get ps c) i r)) k)) ≡ length (records_in (slice_get ps k))
+pub made_at : (ps : List (Option (List Record))) (c i : ℕ) (r : Record) (k : ℕ) → length (records_in (slice_get (slice_set ps c (with_indexed (slice_get ps c) i r)) k)) ≡ length (records_in (slice_get ps k))
 made_at [] c i r k = refl
 made_at (o ∷ ps) zero i r zero = made_set (Some o) i r
 made_at (o ∷ ps) zero i r (suc k) = refl
@@ -340,7 +340,7 @@ created_sane h class f = by (nat_lt (length h.records) LAST_NUMBER)
     by true = with_created_is h class f
     by false = tt
 
-get_other : {A : Type 0} (xs : List A) (c : ℕ) (a : A) (k : ℕ) → (c ≡ k → ⊥) → slice_get (slice_set xs c a) k ≡ slice_get xs k
+pub get_other : {A : Type 0} (xs : List A) (c : ℕ) (a : A) (k : ℕ) → (c ≡ k → ⊥) → slice_get (slice_set xs c a) k ≡ slice_get xs k
 get_other [] c a k h = refl
 get_other (x ∷ xs) zero a zero h = absurd (h refl)
 get_other (x ∷ xs) zero a (suc k) h = refl
@@ -373,20 +373,24 @@ with_made_is h class n f = record {
     lives (pos (suc j)) = refl
     lives (negsuc k) = refl
 
-pub created_all_sane : (h : State) (class : ℕ) (z : ℤ) → IsFittingHeap h → Sane (Filled h class) (created_all h class z)
-created_all_sane h class z f = by (is_made h class)
+-- what holds of a heap with the entities of a class that were not made
+pub created_all_keeps : (Q : State → Type 0) (h : State) (class : ℕ) (z : ℤ) → ((n : ℕ) → is_made h class ≡ false → Q (with_made h class n)) → Sane Q (created_all h class z)
+created_all_keeps Q h class z so = by (is_made h class) refl
   where
-    in_range : (n : ℕ) (b : Bool) → Sane (Filled h class) (if b then Ok (with_made h class n) else Err Rattle.ss_base.specs.declared.fault.FaultKind.TheVariants.BadCount)
-    in_range n true = with_made_is h class n f
-    in_range n false = tt
+    in_range : is_made h class ≡ false → (n : ℕ) (b : Bool) → Sane Q (if b then Ok (with_made h class n) else Err Rattle.ss_base.specs.declared.fault.FaultKind.TheVariants.BadCount)
+    in_range q n true = so n q
+    in_range q n false = tt
 
-    many : (z : ℤ) → Sane (Filled h class) (made_many h class z)
-    many (pos n) = in_range n (nat_le n MOST_ENTITIES)
-    many (negsuc k) = tt
+    many : is_made h class ≡ false → (z : ℤ) → Sane Q (made_many h class z)
+    many q (pos n) = in_range q n (nat_le n MOST_ENTITIES)
+    many q (negsuc k) = tt
 
-    by : (b : Bool) → Sane (Filled h class) (if b then Err Rattle.ss_base.specs.declared.fault.FaultKind.TheVariants.CreatedTwice else made_many h class z)
-    by true = tt
-    by false = many z
+    by : (b : Bool) → is_made h class ≡ b → Sane Q (if b then Err Rattle.ss_base.specs.declared.fault.FaultKind.TheVariants.CreatedTwice else made_many h class z)
+    by true q = tt
+    by false q = many q z
+
+pub created_all_sane : (h : State) (class : ℕ) (z : ℤ) → IsFittingHeap h → Sane (Filled h class) (created_all h class z)
+created_all_sane h class z f = created_all_keeps (Filled h class) h class z (λ n q. with_made_is h class n f)
 
 -- ## Destroying
 
@@ -431,27 +435,36 @@ cut_is h i f = record {
     kept (pos (suc j)) c other q = ap class_of_record (get_other h.records i None j (λ e. other (ap pos (ap suc e)))) ∙ q
     kept (negsuc k) c other q = q
 
-let_go_sane : (h : State) (c : ℕ) (x : ℤ) (r : Record) → IsFittingHeap h → HasRecord h x r → Sane (Gone h x) (let_go h c (number_in x))
-let_go_sane h c (pos zero) r f q = absurd q
-let_go_sane h c (pos (suc i)) r f q = first (in_a_set h.layout.sets 0 h.lists c (suc i))
+-- what holds once the record of an entity that is in no set goes
+abbrev pub LetsGo : (State → Type 0) → State → ℕ → ℤ → Type 0
+LetsGo Q h c x = (i : ℕ) (r : Record) → x ≡ pos (suc i) → slice_get h.records i ≡ Some (Some r) → r.class ≡ c → in_a_set h.layout.sets 0 h.lists c (suc i) ≡ false → Q (record h { records = slice_set h.records i None })
+
+let_go_keeps : (Q : State → Type 0) (h : State) (c : ℕ) (x : ℤ) (r : Record) → HasRecord h x r → r.class ≡ c → LetsGo Q h c x → Sane Q (let_go h c (number_in x))
+let_go_keeps Q h c (pos zero) r q own go = absurd q
+let_go_keeps Q h c (pos (suc i)) r q own go = first (in_a_set h.layout.sets 0 h.lists c (suc i)) refl
   where
     one : suc i - 1 ≡ i
     one = omega arith
 
-    second : (b : Bool) → Sane (Gone h (pos (suc i))) (if b then Err Rattle.ss_base.specs.declared.fault.FaultKind.TheVariants.OwnsMembers else Ok (record h { records = slice_set h.records (suc i - 1) None }))
-    second true = tt
-    second false = subst (λ j. Gone h (pos (suc i)) (record h { records = slice_set h.records j None })) (sym one) (cut_is h i f)
+    second : in_a_set h.layout.sets 0 h.lists c (suc i) ≡ false → (b : Bool) → Sane Q (if b then Err Rattle.ss_base.specs.declared.fault.FaultKind.TheVariants.OwnsMembers else Ok (record h { records = slice_set h.records (suc i - 1) None }))
+    second apart true = tt
+    second apart false = subst (λ k. Q (record h { records = slice_set h.records k None })) (sym one) (go i r refl q own apart)
 
-    first : (b : Bool) → Sane (Gone h (pos (suc i))) (if b then Err Rattle.ss_base.specs.declared.fault.FaultKind.TheVariants.InASet else (if owns_members h.layout.sets 0 h.lists c (suc i) then Err Rattle.ss_base.specs.declared.fault.FaultKind.TheVariants.OwnsMembers else Ok (record h { records = slice_set h.records (suc i - 1) None })))
-    first true = tt
-    first false = second (owns_members h.layout.sets 0 h.lists c (suc i))
-let_go_sane h c (negsuc k) r f q = absurd q
+    first : (b : Bool) → in_a_set h.layout.sets 0 h.lists c (suc i) ≡ b → Sane Q (if b then Err Rattle.ss_base.specs.declared.fault.FaultKind.TheVariants.InASet else (if owns_members h.layout.sets 0 h.lists c (suc i) then Err Rattle.ss_base.specs.declared.fault.FaultKind.TheVariants.OwnsMembers else Ok (record h { records = slice_set h.records (suc i - 1) None })))
+    first true apart = tt
+    first false apart = second apart (owns_members h.layout.sets 0 h.lists c (suc i))
+let_go_keeps Q h c (negsuc k) r q own go = absurd q
 
-single_by : (k : ClassKind) (h : State) (c : ℕ) (x : ℤ) (r : Record) → (k ≡ Permanent → ⊥) → IsEntityAs k h c x r → HasRecord h x r
+single_by : (k : ClassKind) (h : State) (c : ℕ) (x : ℤ) (r : Record) → (k ≡ Permanent → ⊥) → IsEntityAs k h c x r → HasRecord h x r × (r.class ≡ c)
 single_by Permanent h c x r other q = absurd (other refl)
-single_by Temporary h c x r other q = q.0
-single_by Notice h c x r other q = q.0
+single_by Temporary h c x r other q = q
+single_by Notice h c x r other q = q
+
+pub destroyed_keeps : (Q : State → Type 0) (h : State) (c : ℕ) (x : ℤ) → (kind_of h.layout c ≡ Permanent → ⊥) → LetsGo Q h c x → Sane Q (destroyed h c x)
+destroyed_keeps Q h c x other go =
+    sane_then Q (entity_in h c x) (λ r. let_go h c (number_in x)) (entity_known h c x) (λ r q.
+    let e = single_by (kind_of h.layout c) h c x r other q in let_go_keeps Q h c x r e.0 e.1 go)
 
 pub destroyed_sane : (h : State) (c : ℕ) (x : ℤ) → IsFittingHeap h → (kind_of h.layout c ≡ Permanent → ⊥) → Sane (Gone h x) (destroyed h c x)
 destroyed_sane h c x f other =
-    sane_then (Gone h x) (entity_in h c x) (λ r. let_go h c (number_in x)) (entity_known h c x) (λ r q. let_go_sane h c x r f (single_by (kind_of h.layout c) h c x r other q))
+    destroyed_keeps (Gone h x) h c x other (λ i r e q own apart. subst (λ y. Gone h y (record h { records = slice_set h.records i None })) (sym e) (cut_is h i f))

@@ -3,7 +3,7 @@ use Rattle.std.proofs.Common.{◌≡◌, ℕ, zero, suc, ◌<◌, Bool, true, fa
 use Rattle.std.specs.Prelude.{slice_get, ◌&&◌, Result, is_some, not, if◌then◌else◌}
 use Rattle.std.proofs.lemmas.Bool.{lt-ltb}
 use Rattle.std.specs.List.{AllZip, list_all}
-use Rattle.ss_meaning.proofs.Common.{Class, Discipline, due, End, entity, entity_in, Fails, Failure, fetched, Fifo, Global, if_ok, Integer, IsFittingHeap, IsFittingStore, IsLiving, IsLivingOwner, IsSubjectOwner, Lifo, members_of, Mode, mode_of, modes_of, number_in, number_of, OfAttribute, OfCount, OfVariable, option_map, Owner, Program, Ranked, RankKey, State, Statistic, Store, Subject, sure, System, Text, turned, TypeError, unless_fault, Value, where_fit, Whole, with_heap, with_histories}
+use Rattle.ss_meaning.proofs.Common.{Class, Discipline, due, End, entity, entity_in, Fails, Failure, fetched, Fifo, Global, if_ok, Integer, IsFittingStore, IsLiving, IsLivingOwner, IsSubjectOwner, Lifo, members_of, Mode, mode_of, modes_of, number_in, number_of, OfAttribute, OfCount, OfVariable, option_map, Owner, Program, Ranked, RankKey, State, Statistic, Store, Subject, sure, System, Text, turned, TypeError, unless_fault, Value, where_fit, Whole, with_heap, with_histories}
 use Rattle.ss_base.specs.declared.fault.FaultKind.TheVariants.{NotFiled}
 use Rattle.ss_base.specs.declared.layout.SetLayout.{SetLayout}
 use Rattle.ss_world.specs.Sets.{member_class, owner_kind, owner_by as owner_of_kind, joiner, owner, first_in, last_in, count_in, next_in, previous_in, owner_of_member, filed_first, filed_last, filed_before, filed_after, removed}
@@ -14,7 +14,6 @@ use Rattle.ss_program.specs.declared.expression.SetQuery.{SetQuery}
 use Rattle.ss_program.specs.declared.expression.SetQuery.TheVariants.{MemberCount}
 use Rattle.ss_program.specs.declared.expression.MemberQuery.{MemberQuery}
 use Rattle.ss_program.specs.declared.expression.MemberQuery.TheVariants.{Predecessor, Successor, Membership}
-use Rattle.ss_base.specs.declared.words.End.TheVariants as ends
 use Rattle.ss_program.specs.WellTyped.{IsWellTyped, IsSet, IsOwned, owner_of_set, IsTypedDiscipline, AreTypedKeys, IsTypedSubject, IsAlone, IsOfEntities}
 use Rattle.ss_stats.specs.History.{History, sum_of, mean_of}
 use Rattle.ss_meaning.specs.Histories.{noted, history_of_subject, folded, figure_kept, mean_kept, renewed}
@@ -23,7 +22,7 @@ use Rattle.ss_meaning.specs.Statistics.{subject_of_statistic, bearer_number, pre
 use Rattle.ss_meaning.proofs.Fine.{Fine, Sane, There, Any, fine_then, fine_turned, fine_weaker, due_fine, any_due, sure_fine, fit_fine, unless_fine, sane_then}
 use Rattle.ss_meaning.proofs.Lists.{every_get}
 use Rattle.ss_meaning.proofs.Heaps.{Changed, entity_known, entity_lives, get_within}
-use Rattle.ss_meaning.proofs.Filings.{first_sane, last_sane, before_sane, after_sane, removed_sane, filed_sane, first_removed_sane, last_removed_sane}
+use Rattle.ss_meaning.proofs.Filings.{first_sane, last_sane, before_sane, after_sane, removed_sane, filed_sane, end_sane, keeps_fit}
 use Rattle.ss_meaning.proofs.Kept.{number_fine, history_fine, renewed_fine}
 use Rattle.ss_meaning.proofs.Stores.{heap_fits, kept_fit, statistics_are, noted_fine, held_there}
 use Rattle.ss_meaning.proofs.Entities.{HasField, field_said, entity_fine, attribute_fine}
@@ -163,15 +162,15 @@ module _ (p : Program) (typed : IsWellTyped p) (ms : List Mode) where
       fine_then (Changed s.world.heap) (sure (slice_get s.world.setting.disciplines set)) (λ d. where_fit (is_fit s.world.heap.layout set d) (due (filed s.world.heap d set o x)))
       (sure_fine (IsTypedDiscipline p q.0) (slice_get s.world.setting.disciplines set) (subst (λ c. There (IsTypedDiscipline p q.0) (slice_get c.disciplines set)) (sym f.sound.world.setting) (discipline_at p.layout.sets p.disciplines set q.0 typed.disciplines q.1))) (λ d good.
       fit_fine (Changed s.world.heap) (is_fit s.world.heap.layout set d) (due (filed s.world.heap d set o x)) (ap (λ l. is_fit l set d) f.sound.world.layout ∙ discipline_fits set q.0 d q.1 good)
-      (due_fine (Changed s.world.heap) (filed s.world.heap d set o x) (filed_sane s.world.heap d set o x f.sound.world.heap)))
-  filed_by_fine Foremost set o x s g q f = due_fine (Changed s.world.heap) (filed_first s.world.heap set o x) (first_sane s.world.heap set o x f.sound.world.heap)
-  filed_by_fine Hindmost set o x s g q f = due_fine (Changed s.world.heap) (filed_last s.world.heap set o x) (last_sane s.world.heap set o x f.sound.world.heap)
+      (due_fine (Changed s.world.heap) (filed s.world.heap d set o x) (filed_sane (Changed s.world.heap) s.world.heap d set o x (keeps_fit s.world.heap set f.sound.world.heap))))
+  filed_by_fine Foremost set o x s g q f = due_fine (Changed s.world.heap) (filed_first s.world.heap set o x) (first_sane (Changed s.world.heap) s.world.heap set o x (keeps_fit s.world.heap set f.sound.world.heap))
+  filed_by_fine Hindmost set o x s g q f = due_fine (Changed s.world.heap) (filed_last s.world.heap set o x) (last_sane (Changed s.world.heap) s.world.heap set o x (keeps_fit s.world.heap set f.sound.world.heap))
   filed_by_fine (JustBefore y) set o x s g q f =
       fine_then (Changed s.world.heap) (member set y s) (λ k. due (filed_before s.world.heap set o x k)) (member_fine set y s q g f) (λ k e.
-      due_fine (Changed s.world.heap) (filed_before s.world.heap set o x k) (before_sane s.world.heap set o x k f.sound.world.heap))
+      due_fine (Changed s.world.heap) (filed_before s.world.heap set o x k) (before_sane (Changed s.world.heap) s.world.heap set o x k (keeps_fit s.world.heap set f.sound.world.heap)))
   filed_by_fine (JustAfter y) set o x s g q f =
       fine_then (Changed s.world.heap) (member set y s) (λ k. due (filed_after s.world.heap set o x k)) (member_fine set y s q g f) (λ k e.
-      due_fine (Changed s.world.heap) (filed_after s.world.heap set o x k) (after_sane s.world.heap set o x k f.sound.world.heap))
+      due_fine (Changed s.world.heap) (filed_after s.world.heap set o x k) (after_sane (Changed s.world.heap) s.world.heap set o x k (keeps_fit s.world.heap set f.sound.world.heap)))
 
   pub filed_in_fine : (filing : Filing) (set : ℕ) (x : Value) (o : Option Value) (s : Store) → FilingOk filing → mode_of x ≡ Integer → OwnerOk set o → IsFittingStore p ms s → Fine (IsFittingStore p ms) (filed_in filing set x o s)
   filed_in_fine filing set x o s k g q f =
@@ -183,17 +182,13 @@ module _ (p : Program) (typed : IsWellTyped p) (ms : List Mode) where
   removed_from_fine set x o s g q f =
       fine_then (IsFittingStore p ms) (member set x s) (λ n. if_ok (owner_number set o s) (λ m. if_ok (due (removed s.world.heap set m n)) (recounted set m s))) (member_fine set x s (set_of set o q) g f) (λ n z.
       fine_then (IsFittingStore p ms) (owner_number set o s) (λ m. if_ok (due (removed s.world.heap set m n)) (recounted set m s)) (owner_number_fine set o s q f) (λ m y.
-      fine_then (IsFittingStore p ms) (due (removed s.world.heap set m n)) (recounted set m s) (due_fine (Changed s.world.heap) (removed s.world.heap set m n) (removed_sane s.world.heap set m n f.sound.world.heap)) (λ h c.
+      fine_then (IsFittingStore p ms) (due (removed s.world.heap set m n)) (recounted set m s) (due_fine (Changed s.world.heap) (removed s.world.heap set m n) (removed_sane (Changed s.world.heap) s.world.heap set m n (keeps_fit s.world.heap set f.sound.world.heap))) (λ h c.
       recounted_fine set m s h y f c)))
-
-  end_sane : (end : End) (h : State) (set : ℕ) (o : ℤ) → IsFittingHeap h → Sane (λ r. Changed h r.1) (end_removed end h set o)
-  end_sane ends.First h set o f = first_removed_sane h set o f
-  end_sane ends.Last h set o f = last_removed_sane h set o f
 
   pub removed_at_fine : (end : End) (set : ℕ) (o : Option Value) (s : Store) → OwnerOk set o → IsFittingStore p ms s → Fine (λ b. (mode_of b.0 ≡ Integer) × IsFittingStore p ms b.1) (removed_at end set o s)
   removed_at_fine end set o s q f =
       fine_then (λ b. (mode_of b.0 ≡ Integer) × IsFittingStore p ms b.1) (owner_number set o s) (λ m. if_ok (due (end_removed end s.world.heap set m)) (λ r. turned (λ t. (Whole r.0, t)) (recounted set m s r.1))) (owner_number_fine set o s q f) (λ m y.
-      fine_then (λ b. (mode_of b.0 ≡ Integer) × IsFittingStore p ms b.1) (due (end_removed end s.world.heap set m)) (λ r. turned (λ t. (Whole r.0, t)) (recounted set m s r.1)) (due_fine (λ r. Changed s.world.heap r.1) (end_removed end s.world.heap set m) (end_sane end s.world.heap set m f.sound.world.heap)) (λ r c.
+      fine_then (λ b. (mode_of b.0 ≡ Integer) × IsFittingStore p ms b.1) (due (end_removed end s.world.heap set m)) (λ r. turned (λ t. (Whole r.0, t)) (recounted set m s r.1)) (due_fine (λ r. Changed s.world.heap r.1) (end_removed end s.world.heap set m) (end_sane (Changed s.world.heap) end s.world.heap set m (keeps_fit s.world.heap set f.sound.world.heap))) (λ r c.
       fine_turned (λ b. (mode_of b.0 ≡ Integer) × IsFittingStore p ms b.1) (λ t. (Whole r.0, t)) (recounted set m s r.1) (recounted_fine set m s r.1 y f c) (λ t g. (refl, g))))
 
   -- ## Going over members

@@ -45,7 +45,7 @@ printed_there pictures xs q = by (take_all (flat_map picture_fields pictures) xs
     by true h = tt
     by false h = absurd cc
 
-empty_fine : (v : Value) → mode_of v ≡ Integer → Fine Any (empty_lines v)
+pub empty_fine : (v : Value) → mode_of v ≡ Integer → Fine Any (empty_lines v)
 empty_fine (Whole (pos n)) q = unless_fine Any (Rattle.std.specs.Prelude.nat_lt 1000 n) BadCount (Ok (Rattle.std.specs.Prelude.replicate n 10)) (λ e. tt)
 empty_fine (Whole (Rattle.std.specs.Prelude.negsuc n)) q = tt
 empty_fine (Text t) q = absurd cc

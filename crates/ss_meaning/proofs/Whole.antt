@@ -41,7 +41,7 @@ taken_there (m ∷ ms) (v ∷ vs) h =
     subst (λ b. There (λ us. AreOfModes us (m ∷ ms)) (if b then prepended v (taken_by_modes ms vs) else None)) (sym (ap (λ n. same_mode n m) here ∙ same_is m))
     (prepended_there v m ms (taken_by_modes ms vs) here (taken_there ms vs rest))
 
-both_hold : (vs us : List Value) (ms ns : List Mode) → AreOfModes vs ms → AreOfModes us ns → AreOfModes (vs ++ us) (ms ++ ns)
+pub both_hold : (vs us : List Value) (ms ns : List Mode) → AreOfModes vs ms → AreOfModes us ns → AreOfModes (vs ++ us) (ms ++ ns)
 both_hold [] us [] ns h g = g
 both_hold [] us (m ∷ ms) ns h g = absurd cc
 both_hold (v ∷ vs) us [] ns h g = absurd cc
@@ -50,7 +50,7 @@ both_hold (v ∷ vs) us (m ∷ ms) ns h g =
     let rest : AreOfModes vs ms = cc in
     let later : AreOfModes (vs ++ us) (ms ++ ns) = both_hold vs us ms ns rest g in cc
 
-opened_there : (given others : List Mode) (vs : List Value) → AreOfModes vs given → There (λ ls. AreOfModes ls (given ++ others)) (opened given others vs)
+pub opened_there : (given others : List Mode) (vs : List Value) → AreOfModes vs given → There (λ ls. AreOfModes ls (given ++ others)) (opened given others vs)
 opened_there given others vs h = by (taken_by_modes given vs) (taken_there given vs h)
   where
     by : (o : Option (List Value)) → There (λ us. AreOfModes us given) o → There (λ ls. AreOfModes ls (given ++ others)) (appended o (first_values others))
@@ -65,7 +65,7 @@ front_there (y ∷ ys) os (l ∷ ls) h =
     let rest : AreOfModes ls (ys ++ os) = cc in
     prepended_there l y ys (front (length ys) ls) here (front_there ys os ls rest)
 
-yielded_there : (gs ys os : List Mode) (ls : List Value) → AreOfModes ls (gs ++ (ys ++ os)) → There (λ us. AreOfModes us ys) (yielded (length gs) (length ys) ls)
+pub yielded_there : (gs ys os : List Mode) (ls : List Value) → AreOfModes ls (gs ++ (ys ++ os)) → There (λ us. AreOfModes us ys) (yielded (length gs) (length ys) ls)
 yielded_there [] ys os ls h = front_there ys os ls h
 yielded_there (g ∷ gs) ys os [] h = absurd cc
 yielded_there (g ∷ gs) ys os (l ∷ ls) h = let rest : AreOfModes ls (gs ++ (ys ++ os)) = cc in yielded_there gs ys os ls rest

@@ -2,10 +2,9 @@
 pub use Rattle.ss_base.specs.declared.layout.ClassKind.{ClassKind}
 pub use Rattle.ss_base.specs.declared.layout.Mode.{Mode}
 pub use Rattle.ss_base.specs.declared.line.Line.{Line}
-pub use Rattle.ss_names.specs.Entries.{attributes_of_class, class_variables, fields_by_class, given_by, notice_number, number_added, row_of}
-pub use Rattle.ss_names.specs.Filling.{Entering, Fields, HasRows, all_entered, clash_after, enter_name, entered, entities_pass, field_pushed, meanings_pass, merged_if, mode_named, names_pass, no_set, table_fields, variables_pass, with_all_meanings, with_field, with_fields, with_meanings, with_ranks, with_rows, with_sets, with_subjects, with_variables}
-pub use Rattle.ss_names.specs.Table.{Table, subjects_by}
-pub use Rattle.ss_names.specs.View.{view_table}
+pub use Rattle.ss_names.specs.Entries.{attributes_of_class, given_by, row_of}
+pub use Rattle.ss_names.specs.Filling.{Fields, HasRows, all_entered, enter_name, entered, entities_pass, field_pushed, meanings_pass, names_pass, variables_pass, with_all_meanings, with_field, with_subjects}
+pub use Rattle.ss_names.specs.Table.{Table}
 pub use Rattle.ss_names.specs.declared.entry.Attribute.{Attribute}
 pub use Rattle.ss_names.specs.declared.entry.Set.{Set}
 pub use Rattle.ss_names.specs.declared.meaning.Meaning.{Meaning}
@@ -18,7 +17,7 @@ pub use Rattle.std.proofs.lemmas.List.{length-map, length-set, map_push}
 pub use Rattle.std.proofs.lemmas.List.FromFn.{length-map-range_with_len}
 pub use Rattle.std.proofs.lemmas.List.Sums.{fold-append}
 pub use Rattle.std.proofs.lemmas.Result.{on_ok_weaker}
-pub use Rattle.std.specs.List.{fold, position_or_len}
+pub use Rattle.std.specs.List.{fold}
 pub use Rattle.std.specs.Map.{keys_of}
 pub use Rattle.std.specs.Option.{option_or}
-pub use Rattle.std.specs.Prelude.{option_to_list, slice_get}
+pub use Rattle.std.specs.Prelude.{slice_get}

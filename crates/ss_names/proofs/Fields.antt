@@ -1,6 +1,6 @@
 -- Attributes and the rows of their classes, one more at a time.
-use Rattle.std.proofs.Common.{◌≡◌, ℕ, inl, inr, ◌+◌, ◌<◌, nat_eq, nat_lt, Bool, true, false, cond, List, [], ◌∷◌, ◌++◌, length, get_or, slice_set, Option, Some, None, is_some, refl, sym, ap, subst, ◌∙◌, append_assoc, append-nil, ltb-true, arith}
-use Rattle.std.specs.List.{filter, fold, position_or_len}
+use Rattle.std.proofs.Common.{◌≡◌, ℕ, inl, inr, ◌+◌, ◌<◌, nat_eq, Bool, true, false, cond, List, [], ◌∷◌, ◌++◌, length, get_or, slice_set, Option, Some, None, is_some, refl, sym, ap, subst, ◌∙◌, append_assoc, append-nil, arith}
+use Rattle.std.specs.List.{filter, fold}
 use Rattle.ss_names.proofs.Common.{Attribute, ClassKind, Declaration, Declared, entry_beside, entry_if, field_pushed, Fields, first_entries, keys_append, keys_of, Mode, NameBytes, place_among, place_in, same_name, value_for, with_field, with_first}
 use Rattle.std.proofs.lemmas.Bool.{ne_eqb}
 use Rattle.std.proofs.lemmas.Bool.Decides.{eqb_tells}
@@ -8,7 +8,7 @@ use Rattle.std.proofs.lemmas.List.{ext_get_or, get_or-set_same, get_or-set_other
 use Rattle.std.proofs.lemmas.List.Elements.{filter-append}
 use Rattle.std.proofs.lemmas.List.FromFn.{length-map-range_with_len, get_or-map-range_with_len}
 use Rattle.std.proofs.lemmas.Map.Entries.{length-keys_of}
-use Rattle.std.proofs.lemmas.Option.{none-some, same_Some}
+use Rattle.std.proofs.lemmas.List.Quantifiers.{position-Some}
 use Rattle.ss_names_declarations.specs.declared.declaration.Declared.TheVariants as declared
 use Rattle.ss_names.specs.Entries.{attribute_after, attribute_by, attributes_after, attributes_of_class, fields_by_class, given_by}
 
@@ -119,14 +119,8 @@ below_append : (n : ℕ) (xs ys : List (NameBytes × ℕ)) → AllBelow n xs →
 below_append n [] ys h k = k
 below_append n (x ∷ xs) ys h k = (h.0, below_append n xs ys h.1 k)
 
-below_by : (b : Bool) (p n k : ℕ) → nat_lt p n ≡ b → cond b (Some p) None ≡ Some k → k < n
-below_by true p n k lt h = subst (λ (j : ℕ). j < n) (same_Some p k h) (ltb-true p n lt)
-below_by false p n k lt h = absurd (none-some k h)
-
 pub place_below : (names : List NameBytes) (name : NameBytes) (k : ℕ) → place_among names name ≡ Some k → k < length names
-place_below names name k h =
-    let p = position_or_len (same_name name) names in
-    below_by (nat_lt p (length names)) p (length names) k refl h
+place_below names name k h = (position-Some (same_name name) names k [] h).0
 
 pub class_below : {V : Type 0} (cs : List (NameBytes × V)) (class : NameBytes) (k : ℕ) → place_in cs class ≡ Some k → k < length cs
 class_below cs class k h = subst (λ n. k < n) (length-keys_of cs) (place_below (keys_of cs) class k h)

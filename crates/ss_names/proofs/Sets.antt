@@ -1,15 +1,13 @@
 -- The sets: the properties of each, by one declaration after the other.
 use Rattle.std.proofs.Common.{◌≡◌, ℕ, suc, Bool, true, false, cond, List, [], ◌∷◌, ◌++◌, length, map, Option, Some, None, option_map, refl, sym, ap, ◌∙◌}
-use Rattle.ss_names.proofs.Common.{ClassKind, Declaration, Declared, fold-append, length-set, NameBytes, option_or, Set, slice_get}
+use Rattle.ss_names.proofs.Common.{ClassKind, Declaration, Declared, fold-append, length-set, NameBytes, Set, slice_get}
 use Rattle.std.specs.List.{AllByRecursion as Every, IsDistinct, fold, position_or_len}
 use Rattle.std.proofs.Math.Path.{fun_ext}
 use Rattle.std.proofs.lemmas.Cmp.{nat_list_eq_equiv}
 use Rattle.std.proofs.lemmas.Map.Keys.{IsDistinct-push}
-use Rattle.ss_base.specs.declared.layout.Owner.{Owner}
 use Rattle.ss_names_declarations.specs.NameTable.{entry_if, is_one_of, place_among, place_in, same_name, value_for, with_name}
 use Rattle.ss_names_declarations.specs.declared.declaration.Declared.TheVariants as declared
-use Rattle.ss_names_declarations.proofs.Entries.{number, value_append}
-use Rattle.ss_names.specs.declared.entry.DefinedOrder.{DefinedOrder}
+use Rattle.ss_names_declarations.proofs.Entries.{number, or_assoc, or_none, value_append}
 use Rattle.ss_names.specs.Entries.{given_by, member_by, order_by, owner_entry, owner_named, set_names, set_by, set_of}
 use Rattle.ss_names.specs.Filling.{merged, merged_if, merged_with, no_set, set_part, with_set}
 
@@ -72,14 +70,6 @@ sets_folded known names (e ∷ es) d =
 
 -- ---- the properties of a set in the end
 
-or_none : {A : Type 0} (o : Option A) → option_or o None ≡ o
-or_none None = refl
-or_none (Some x) = refl
-
-or_assoc : {A : Type 0} (a b c : Option A) → option_or (option_or a b) c ≡ option_or a (option_or b c)
-or_assoc None b c = refl
-or_assoc (Some x) b c = refl
-
 merged_none : (s : Set) → merged s no_set ≡ s
 merged_none s = λ i. record { owner = or_none s.owner i; member = or_none s.member i; order = or_none s.order i }
 
@@ -101,32 +91,26 @@ value_if None set name true is = refl
 value_if None set name false is = refl
 value_if (Some v) set name b is = ap (λ c. cond c (Some v) None) is
 
--- a test on a set of which one thing is said
-module _ (known : Set) where
-  by_owner : (o : Option Owner) (b : Bool) → cond b (merged known (record { owner = o; member = None; order = None })) known ≡ merged known (record { owner = cond b o None; member = None; order = None })
-  by_owner o true = refl
-  by_owner o false = sym (merged_none known)
+-- a test on a set of which this is said
+tested : (known s : Set) (b : Bool) → cond b (merged known s) known ≡ merged known (record { owner = cond b s.owner None; member = cond b s.member None; order = cond b s.order None })
+tested known s true = refl
+tested known s false = sym (merged_none known)
 
-  by_member : (o : Option ℕ) (b : Bool) → cond b (merged known (record { owner = None; member = o; order = None })) known ≡ merged known (record { owner = None; member = cond b o None; order = None })
-  by_member o true = refl
-  by_member o false = sym (merged_none known)
-
-  by_order : (o : Option DefinedOrder) (b : Bool) → cond b (merged known (record { owner = None; member = None; order = o })) known ≡ merged known (record { owner = None; member = None; order = cond b o None })
-  by_order o true = refl
-  by_order o false = sym (merged_none known)
+part_said : (known s : Set) (set name : NameBytes) → cond (same_name set name) (merged known s) known ≡ merged known (record { owner = value_for (entry_if set s.owner) name; member = value_for (entry_if set s.member) name; order = value_for (entry_if set s.order) name })
+part_said known s set name =
+    let is = same_name name set in
+    ap (λ b. cond b (merged known s) known) (nat_list_eq_equiv.symm set name)
+    ∙ tested known s is
+    ∙ (λ i. merged known (record {
+      owner = sym (value_if s.owner set name is refl) i;
+      member = sym (value_if s.member set name is refl) i;
+      order = sym (value_if s.order set name is refl) i;
+    }))
 
 part_is : (cs : List (NameBytes × ClassKind)) (known : NameBytes → Set) (w : Declared) (name : NameBytes) → fold said_more known (set_part cs w) name ≡ merged (known name) (said_of cs w name)
-part_is cs known (declared.Owner set class) name =
-    ap (λ b. cond b (merged (known name) (record { owner = owner_named cs class; member = None; order = None })) (known name)) (nat_list_eq_equiv.symm set name)
-    ∙ by_owner (known name) (owner_named cs class) (same_name name set)
-    ∙ (λ i. merged (known name) (record { owner = sym (value_if (owner_named cs class) set name (same_name name set) refl) i; member = None; order = None }))
-part_is cs known (declared.Member set class) name =
-    ap (λ b. cond b (merged (known name) (record { owner = None; member = place_in cs class; order = None })) (known name)) (nat_list_eq_equiv.symm set name)
-    ∙ by_member (known name) (place_in cs class) (same_name name set)
-    ∙ (λ i. merged (known name) (record { owner = None; member = sym (value_if (place_in cs class) set name (same_name name set) refl) i; order = None }))
-part_is cs known (declared.Order set rule statement) name =
-    ap (λ b. cond b (merged (known name) (record { owner = None; member = None; order = Some (record { rule = rule; statement = statement }) })) (known name)) (nat_list_eq_equiv.symm set name)
-    ∙ by_order (known name) (Some (record { rule = rule; statement = statement })) (same_name name set)
+part_is cs known (declared.Owner set class) name = part_said (known name) (record { owner = owner_named cs class; member = None; order = None }) set name
+part_is cs known (declared.Member set class) name = part_said (known name) (record { owner = None; member = place_in cs class; order = None }) set name
+part_is cs known (declared.Order set rule statement) name = part_said (known name) (record { owner = None; member = None; order = Some (record { rule = rule; statement = statement }) }) set name
 part_is cs known _ name = sym (merged_none (known name))
 
 said_append : (cs : List (NameBytes × ClassKind)) (x : Declaration) (ds : List Declaration) (name : NameBytes) → merged (said_of cs x.what name) (set_of cs ds name) ≡ set_of cs (x ∷ ds) name

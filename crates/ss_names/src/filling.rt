@@ -57,16 +57,8 @@ fn usual_after(usual: Option<Mode>, mode: ModeWord) -> Option<Mode>
     }
 }
 
-// Adds a key that ranks sets.
-fn push_rank_key(keys: &mut Vec<RankedBy>, key: RankedBy) -> Result<(), AllocError>
-    ensures { OnOk result (keys.new.items ≡ pushed keys.old.items key) }
-{
-    keys.push(key)?;
-    Ok(())
-}
-
-// Adds a key for ties.
-fn push_tie_key(keys: &mut Vec<TiedBy>, key: TiedBy) -> Result<(), AllocError>
+// Adds a key.
+fn push_key<K: Copy>(keys: &mut Vec<K>, key: K) -> Result<(), AllocError>
     ensures { OnOk result (keys.new.items ≡ pushed keys.old.items key) }
 {
     keys.push(key)?;
@@ -129,7 +121,7 @@ fn add_names(names: &mut Names, what: &Declared) -> Result<(), AllocError>
                 attribute: *attribute,
                 high: *high,
             };
-            push_rank_key(&mut names.rank_keys, key)
+            push_key(&mut names.rank_keys, key)
         }
         Declared::TieKey {
             class,
@@ -141,7 +133,7 @@ fn add_names(names: &mut Names, what: &Declared) -> Result<(), AllocError>
                 attribute: *attribute,
                 high: *high,
             };
-            push_tie_key(&mut names.tie_keys, key)
+            push_key(&mut names.tie_keys, key)
         }
         _ => Ok(()),
     }

@@ -1,80 +1,35 @@
 -- What is so of the earliest of some breaches.
-use Rattle.std.proofs.Common.{◌≡◌, ℕ, ◌<◌, ◌≤◌, Bool, true, false, cond, ◌&&◌, ◌==◌, nat_lt, nat_le, List, [], ◌∷◌, ◌++◌, Option, Some, None, ◌⊎◌, inl, inr, ⊎_elim, refl, sym, ap, subst, ◌∙◌, true≢false, arith}
-use Rattle.std.specs.Bool.{Decides}
+use Rattle.std.proofs.Common.{◌≡◌, ℕ, ◌≤◌, Bool, true, false, cond, nat_le, List, [], ◌∷◌, ◌++◌, Option, Some, None, inl, inr, ⊎_elim, refl, sym, ap, subst, ◌∙◌, true≢false, arith}
 use Rattle.std.specs.List.{AllByRecursion, filter, find, fold, list_all}
-use Rattle.std.proofs.lemmas.Bool.{and_from, and_parts, cases_Bool, cases_lt, cond-false, cond-true, eq-eqb, eqb-false, eqb-true, false_from_ne_true, leb-true, ne_eqb}
-use Rattle.std.proofs.lemmas.Bool.Decides.{Decides-and, Decides-eqb, Decides-ltb, Decides-or}
+use Rattle.std.proofs.lemmas.Bool.{and_from, and_parts, cases_Bool, cond-false, cond-true, eq-eqb, eqb-false, eqb-true, leb-true, ne_eqb}
+use Rattle.std.proofs.lemmas.Bool.Decides.{nat_tests}
 use Rattle.std.proofs.lemmas.Option.{none-some, same_Some}
 use Rattle.ss_names_declarations.specs.Earliest.{EarliestIsFirst, EarliestIsLeast, EarliestOfParts, precedes, earlier, earlier_of, earliest, is_in_order, is_of_rule}
 
 -- ---- places
 
--- what the test of two places says
-abbrev IsBefore : ℕ × ℕ → ℕ × ℕ → Type 0
-IsBefore p q = (p.0 < q.0) ⊎ ((p.0 ≡ q.0) × (p.1 < q.1))
+rule_first : (p q : ℕ × ℕ) → precedes p q ≡ true → p.0 ≤ q.0
+rule_first p q e = grind (arith, nat_tests)
 
-decides : (p q : ℕ × ℕ) → Decides (precedes p q) (IsBefore p q)
-decides p q =
-    Decides-or (nat_lt p.0 q.0) ((p.0 == q.0) && nat_lt p.1 q.1) (Decides-ltb p.0 q.0)
-    (Decides-and (p.0 == q.0) (nat_lt p.1 q.1) (Decides-eqb p.0 q.0) (Decides-ltb p.1 q.1))
-
-is_before : (p q : ℕ × ℕ) → precedes p q ≡ true → IsBefore p q
-is_before p q e = (decides p q).0 e
-
-is_true : (p q : ℕ × ℕ) → IsBefore p q → precedes p q ≡ true
-is_true p q h = (decides p q).1 h
-
-not_before : (p q : ℕ × ℕ) → precedes p q ≡ false → IsBefore p q → ⊥
-not_before p q e h = true≢false (sym (is_true p q h) ∙ e)
-
-rule_first : (p q : ℕ × ℕ) → IsBefore p q → p.0 ≤ q.0
-rule_first p q (inl less) = omega arith
-rule_first p q (inr both) = omega arith
-
-joined : (p q r : ℕ × ℕ) → IsBefore p q → IsBefore q r → IsBefore p r
-joined p q r (inl a) (inl b) = inl (omega arith)
-joined p q r (inl a) (inr b) = inl (omega arith)
-joined p q r (inr a) (inl b) = inl (omega arith)
-joined p q r (inr a) (inr b) = inr (omega arith, omega arith)
-
-crossed : (p q : ℕ × ℕ) → IsBefore p q → IsBefore q p → ⊥
-crossed p q (inl a) (inl b) = omega arith
-crossed p q (inl a) (inr b) = omega arith
-crossed p q (inr a) (inl b) = omega arith
-crossed p q (inr a) (inr b) = omega arith
-
-at_most : (m n : ℕ) → (m < n → ⊥) → n ≤ m
-at_most m n h = ⊎_elim (λ (l : m < n). absurd (h l)) (λ (g : n ≤ m). g) (cases_lt m n)
-
-less_than : (m n : ℕ) → m ≤ n → (n ≡ m → ⊥) → m < n
-less_than m n le h = ⊎_elim (λ (l : m < n). l) (λ (g : n ≤ m). let same : n ≡ m = omega arith in absurd (h same)) (cases_lt m n)
-
--- a place that does not come before a second, which does not come before a third, does not come before the third
-between : (p q r : ℕ × ℕ) → IsBefore p r → (IsBefore p q → ⊥) → (IsBefore q r → ⊥) → ⊥
-between p q r (inl less) h k =
-    let a : q.0 ≤ p.0 = at_most p.0 q.0 (λ l. h (inl l)) in
-    let b : r.0 ≤ q.0 = at_most q.0 r.0 (λ l. k (inl l)) in
-    omega arith
-between p q r (inr both) h k =
-    let a : q.0 ≤ p.0 = at_most p.0 q.0 (λ l. h (inl l)) in
-    let b : r.0 ≤ q.0 = at_most q.0 r.0 (λ l. k (inl l)) in
-    let first : p.0 ≡ q.0 = omega arith in
-    let second : q.0 ≡ r.0 = omega arith in
-    let c : q.1 ≤ p.1 = at_most p.1 q.1 (λ l. h (inr (first, l))) in
-    let d : r.1 ≤ q.1 = at_most q.1 r.1 (λ l. k (inr (second, l))) in
-    omega arith
+rule_after : (p q : ℕ × ℕ) → precedes p q ≡ false → q.0 ≤ p.0
+rule_after p q e = grind (arith, nat_tests)
 
 onward : (p q r : ℕ × ℕ) → precedes p q ≡ true → precedes q r ≡ true → precedes p r ≡ true
-onward p q r e f = is_true p r (joined p q r (is_before p q e) (is_before q r f))
+onward p q r e f = grind (arith, nat_tests)
 
 one_way : (p q : ℕ × ℕ) → precedes p q ≡ true → precedes q p ≡ false
-one_way p q e = false_from_ne_true (precedes q p) (λ f. crossed p q (is_before p q e) (is_before q p f))
+one_way p q e = grind (arith, nat_tests)
 
 not_itself : (p : ℕ × ℕ) → precedes p p ≡ false
-not_itself p = false_from_ne_true (precedes p p) (λ e. crossed p p (is_before p p e) (is_before p p e))
+not_itself p = grind (arith, nat_tests)
 
+-- a place that does not come before a second, which does not come before a third, does not come before the third
 chain : (p q r : ℕ × ℕ) → precedes p q ≡ false → precedes q r ≡ false → precedes p r ≡ false
-chain p q r e f = false_from_ne_true (precedes p r) (λ g. between p q r (is_before p r g) (not_before p q e) (not_before q r f))
+chain p q r e f = grind (arith, nat_tests)
+
+-- of two of one rule that with the earlier line does not come after the other
+in_line_order : (p q : ℕ × ℕ) → q.0 ≡ p.0 → p.1 ≤ q.1 → precedes q p ≡ false
+in_line_order p q same le = grind (arith, nat_tests)
 
 module _ {E : Type 0} (order : E → ℕ × ℕ) where
   -- ---- parts
@@ -86,32 +41,17 @@ module _ {E : Type 0} (order : E → ℕ × ℕ) where
   -- the earlier of three, from either end
   of_three : (a : Option E) (b c : E) → earlier_of order a (earlier order (Some b) c) ≡ earlier order (earlier order a b) c
   of_three None b c = of_none (earlier order (Some b) c)
-  of_three (Some x) b c = ⊎_elim
-      (λ (cb : precedes (order c) (order b) ≡ true). ⊎_elim
-      (λ (bx : precedes (order b) (order x) ≡ true).
-      let cx : precedes (order c) (order x) ≡ true = onward (order c) (order b) (order x) cb bx in
-      ap (λ (t : Bool). earlier_of order (Some x) (cond t (Some c) (Some b))) cb ∙
-      ap (λ (t : Bool). cond t (Some c) (Some x)) cx ∙
-      sym (ap (λ (t : Bool). cond t (Some c) (Some b)) cb) ∙
-      sym (ap (λ (t : Bool). earlier order (cond t (Some b) (Some x)) c) bx))
-      (λ (bx : precedes (order b) (order x) ≡ false).
-      ap (λ (t : Bool). earlier_of order (Some x) (cond t (Some c) (Some b))) cb ∙
-      sym (ap (λ (t : Bool). earlier order (cond t (Some b) (Some x)) c) bx))
-      (cases_Bool (precedes (order b) (order x))))
-      (λ (cb : precedes (order c) (order b) ≡ false). ⊎_elim
-      (λ (bx : precedes (order b) (order x) ≡ true).
-      ap (λ (t : Bool). earlier_of order (Some x) (cond t (Some c) (Some b))) cb ∙
-      ap (λ (t : Bool). cond t (Some b) (Some x)) bx ∙
-      sym (ap (λ (t : Bool). cond t (Some c) (Some b)) cb) ∙
-      sym (ap (λ (t : Bool). earlier order (cond t (Some b) (Some x)) c) bx))
-      (λ (bx : precedes (order b) (order x) ≡ false).
-      let cx : precedes (order c) (order x) ≡ false = chain (order c) (order b) (order x) cb bx in
-      ap (λ (t : Bool). earlier_of order (Some x) (cond t (Some c) (Some b))) cb ∙
-      ap (λ (t : Bool). cond t (Some b) (Some x)) bx ∙
-      sym (ap (λ (t : Bool). cond t (Some c) (Some x)) cx) ∙
-      sym (ap (λ (t : Bool). earlier order (cond t (Some b) (Some x)) c) bx))
-      (cases_Bool (precedes (order b) (order x))))
-      (cases_Bool (precedes (order c) (order b)))
+  of_three (Some x) b c =
+      elim (cases_Bool (precedes (order c) (order b))) [
+        | inl cb ↦ elim (cases_Bool (precedes (order b) (order x))) [
+          | inl bx ↦ (let cx : precedes (order c) (order x) ≡ true = onward (order c) (order b) (order x) cb bx in rw (bx, cb, cx) refl)
+          | inr bx ↦ rw (bx, cb) refl
+        ]
+        | inr cb ↦ elim (cases_Bool (precedes (order b) (order x))) [
+          | inl bx ↦ rw (cb, bx, cb) refl
+          | inr bx ↦ (let cx : precedes (order c) (order x) ≡ false = chain (order c) (order b) (order x) cb bx in rw (cb, bx, cx) refl)
+        ]
+      ]
 
   of_three_maybe : (a : Option E) (b : E) (o : Option E) → earlier_of order (earlier order a b) o ≡ earlier_of order a (earlier_of order (Some b) o)
   of_three_maybe a b None = refl
@@ -133,12 +73,9 @@ module _ {E : Type 0} (order : E → ℕ × ℕ) where
 
   -- ---- the least
 
-  -- one breach more, where it comes before what was found, or where it does not
-  taken : (found y : E) (ys : List E) → precedes (order y) (order found) ≡ true → fold (earlier order) (Some y) ys ≡ fold (earlier order) (Some found) (y ∷ ys)
+  -- one breach more, which comes before what was found or does not
+  taken : (found y : E) (ys : List E) {t : Bool} → precedes (order y) (order found) ≡ t → fold (earlier order) (cond t (Some y) (Some found)) ys ≡ fold (earlier order) (Some found) (y ∷ ys)
   taken found y ys t = sym (ap (λ (c : Bool). fold (earlier order) (cond c (Some y) (Some found)) ys) t)
-
-  kept : (found y : E) (ys : List E) → precedes (order y) (order found) ≡ false → fold (earlier order) (Some found) ys ≡ fold (earlier order) (Some found) (y ∷ ys)
-  kept found y ys t = sym (ap (λ (c : Bool). fold (earlier order) (cond c (Some y) (Some found)) ys) t)
 
   least_from : (found : E) (xs : List E) (b : E) → fold (earlier order) (Some found) xs ≡ Some b → (precedes (order found) (order b) ≡ false) × AllByRecursion (λ c. precedes (order c) (order b) ≡ false) xs
   least_from found [] b e = (subst (λ x. precedes (order found) (order x) ≡ false) (same_Some found b e) (not_itself (order found)), tt)
@@ -147,7 +84,7 @@ module _ {E : Type 0} (order : E → ℕ × ℕ) where
       let r = least_from y ys b (taken found y ys t ∙ e) in
       (chain (order found) (order y) (order b) (one_way (order y) (order found) t) r.0, (r.0, r.1)))
       (λ (t : precedes (order y) (order found) ≡ false).
-      let r = least_from found ys b (kept found y ys t ∙ e) in
+      let r = least_from found ys b (taken found y ys t ∙ e) in
       (r.0, (chain (order y) (order found) (order b) t r.0, r.1)))
       (cases_Bool (precedes (order y) (order found)))
 
@@ -165,9 +102,9 @@ module _ {E : Type 0} (order : E → ℕ × ℕ) where
   no_later found (y ∷ ys) b e = ⊎_elim
       (λ (t : precedes (order y) (order found) ≡ true).
       let low : (order b).0 ≤ (order y).0 = no_later y ys b (taken found y ys t ∙ e) in
-      let high : (order y).0 ≤ (order found).0 = rule_first (order y) (order found) (is_before (order y) (order found) t) in
+      let high : (order y).0 ≤ (order found).0 = rule_first (order y) (order found) t in
       omega arith)
-      (λ (t : precedes (order y) (order found) ≡ false). no_later found ys b (kept found y ys t ∙ e))
+      (λ (t : precedes (order y) (order found) ≡ false). no_later found ys b (taken found y ys t ∙ e))
       (cases_Bool (precedes (order y) (order found)))
 
   abbrev reaches : E → E → Bool
@@ -191,21 +128,16 @@ module _ {E : Type 0} (order : E → ℕ × ℕ) where
       let outer = and_parts (list_all (reaches x) (y ∷ l)) (is_in_order order (y ∷ l)) e in
       leb-true (order x).1 (order y).1 (and_parts (reaches x y) (list_all (reaches x) l) outer.0).0
 
-  -- two of one rule, of which the second has an earlier line, are not in order
-  not_in_order : (x y : E) → (order y).0 ≡ (order x).0 → (order x).1 ≤ (order y).1 → IsBefore (order y) (order x) → ⊥
-  not_in_order x y same le (inl less) = omega arith
-  not_in_order x y same le (inr both) = omega arith
-
   -- where the next breach replaces what was found, that is of a later rule than the earliest
   of_other_rule : (t u : Bool) (b x y : E) (l : List E) → is_of_rule order b x ≡ t → is_of_rule order b y ≡ u → (order b).0 ≤ (order y).0 → precedes (order y) (order x) ≡ true →
       is_in_order order (cond t (x ∷ cond u (y ∷ l) l) (cond u (y ∷ l) l)) ≡ true → is_of_rule order b x ≡ false
   of_other_rule true true b x y l p q low before e =
       let one : (order x).0 ≡ (order b).0 = eqb-true (order x).0 (order b).0 p in
       let two : (order y).0 ≡ (order b).0 = eqb-true (order y).0 (order b).0 q in
-      absurd (not_in_order x y (two ∙ sym one) (first_two x y l e) (is_before (order y) (order x) before))
+      absurd (true≢false (sym before ∙ in_line_order (order x) (order y) (two ∙ sym one) (first_two x y l e)))
   of_other_rule true false b x y l p q low before e =
       let one : (order x).0 ≡ (order b).0 = eqb-true (order x).0 (order b).0 p in
-      let high : (order y).0 ≤ (order x).0 = rule_first (order y) (order x) (is_before (order y) (order x) before) in
+      let high : (order y).0 ≤ (order x).0 = rule_first (order y) (order x) before in
       let same : (order y).0 ≡ (order b).0 = omega arith in
       absurd (eqb-false (order y).0 (order b).0 q same)
   of_other_rule false u b x y l p q low before e = p
@@ -218,8 +150,8 @@ module _ {E : Type 0} (order : E → ℕ × ℕ) where
   passed_second b x y ys low after e = ⊎_elim
       (λ (p : is_of_rule order b x ≡ true). cond-true (is_of_rule order b x) (Some x) (find (is_of_rule order b) (y ∷ ys)) p ∙ sym (cond-true (is_of_rule order b x) (Some x) (find (is_of_rule order b) ys) p) ∙ e)
       (λ (p : is_of_rule order b x ≡ false).
-      let less : (order b).0 < (order x).0 = less_than (order b).0 (order x).0 low (eqb-false (order x).0 (order b).0 p) in
-      let high : (order x).0 ≤ (order y).0 = at_most (order y).0 (order x).0 (λ l. not_before (order y) (order x) after (inl l)) in
+      let other : (order x).0 ≡ (order b).0 → ⊥ = eqb-false (order x).0 (order b).0 p in
+      let high : (order x).0 ≤ (order y).0 = rule_after (order y) (order x) after in
       let apart : (order y).0 ≡ (order b).0 → ⊥ = λ (same : (order y).0 ≡ (order b).0). omega arith in
       cond-false (is_of_rule order b x) (Some x) (find (is_of_rule order b) (y ∷ ys)) p ∙
       cond-false (is_of_rule order b y) (Some y) (find (is_of_rule order b) ys) (ne_eqb (order y).0 (order b).0 apart) ∙
@@ -238,7 +170,7 @@ module _ {E : Type 0} (order : E → ℕ × ℕ) where
       let other : is_of_rule order b found ≡ false = of_other_rule (is_of_rule order b found) (is_of_rule order b y) b found y (filter (is_of_rule order b) ys) refl refl low t sorted in
       passed b found y ys other (first_from y ys b rest there))
       (λ (t : precedes (order y) (order found) ≡ false).
-      let there : fold (earlier order) (Some found) ys ≡ Some b = kept found y ys t ∙ e in
+      let there : fold (earlier order) (Some found) ys ≡ Some b = taken found y ys t ∙ e in
       let low : (order b).0 ≤ (order found).0 = no_later found ys b there in
       let rest : is_in_order order (filter (is_of_rule order b) (found ∷ ys)) ≡ true = without_second (is_of_rule order b found) (is_of_rule order b y) found y (filter (is_of_rule order b) ys) sorted in
       passed_second b found y ys low t (first_from found ys b rest there))

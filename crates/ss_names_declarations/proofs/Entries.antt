@@ -1,15 +1,16 @@
 -- Entries by their places and by their names, and the first of each name.
 use Rattle.std.proofs.Common.{◌≡◌, ℕ, zero, suc, ◌+◌, ◌<◌, Bool, true, false, not, cond, nat_lt, List, [], ◌∷◌, ◌++◌, length, Option, Some, None, is_some, refl, sym, ap, subst, ◌∙◌, arith}
+use Rattle.ss_names_declarations.proofs.Common.{is_some-lookup, keys_of, values_of}
+use Rattle.ss_names_declarations.specs.NameTable.{entry_beside, first_entries, place_in, same_name, value_for, with_first}
 use Rattle.std.specs.Prelude.{slice_get, option_map}
-use Rattle.std.specs.List.{AllByRecursion as Every, IsDistinct, fold, position_or_len}
+use Rattle.std.specs.List.{AllByRecursion as Every, IsDistinct, fold, list_any, position_or_len}
 use Rattle.std.specs.Option.{option_or}
-use Rattle.std.specs.Map.{keys_of, values_of}
 use Rattle.std.specs.Cmp.Lexicographic.{bytes_decides}
 use Rattle.std.proofs.lemmas.Bool.Decides.{nat_tests}
 use Rattle.std.proofs.lemmas.Cmp.{nat_list_eq_equiv}
 use Rattle.std.proofs.lemmas.Map.Entries.{lookup_from_place}
+use Rattle.std.proofs.lemmas.Map.Keys.{IsDistinct-push}
 use Rattle.std.proofs.lemmas.Option.{slice_get-map}
-use Rattle.ss_names_declarations.specs.NameTable.{entry_beside, first_entries, place_in, same_name, value_for, with_first}
 
 -- ---- by places
 
@@ -106,27 +107,10 @@ module _ {V : Type 0} where
 
   -- ---- each name once
 
-  apart : (es : List (List ℕ × V)) (name : List ℕ) → value_for es name ≡ None → Every (λ k. same_name name k ≡ false) (keys_of es)
-  apart [] name h = tt
-  apart (e ∷ es) name h = by (same_name name e.0) (apart es name) refl
-    where
-      by : (b : Bool) → (value_for es name ≡ None → Every (λ k. same_name name k ≡ false) (keys_of es)) → same_name name e.0 ≡ b → Every (λ k. same_name name k ≡ false) (keys_of (e ∷ es))
-      by true next is =
-          let here : cond true (Some e.1) (value_for es name) ≡ None = subst (λ b. cond b (Some e.1) (value_for es name) ≡ None) is h in
-          absurd cc
-      by false next is = (is, next (subst (λ b. cond b (Some e.1) (value_for es name) ≡ None) is h))
-
-  pushed_once : (es : List (List ℕ × V)) (e : List ℕ × V) → Every (λ k. same_name e.0 k ≡ false) (keys_of es) → IsDistinct same_name (keys_of es) → IsDistinct same_name (keys_of (es ++ e ∷ []))
-  unfolding IsDistinct
-  pushed_once [] e h d = (tt, tt)
-  pushed_once (f ∷ es) e h d = (one_more es d.0, pushed_once es e h.1 d.1)
-    where
-      one_more : (gs : List (List ℕ × V)) → Every (λ k. same_name f.0 k ≡ false) (keys_of gs) → Every (λ k. same_name f.0 k ≡ false) (keys_of (gs ++ e ∷ []))
-      one_more [] k = (nat_list_eq_equiv.symm f.0 e.0 ∙ h.0, tt)
-      one_more (g ∷ gs) k = (k.0, one_more gs k.1)
-
   beside_once : (es : List (List ℕ × V)) (e : List ℕ × V) (known : Option V) → value_for es e.0 ≡ known → IsDistinct same_name (keys_of es) → IsDistinct same_name (keys_of (entry_beside es e known))
-  beside_once es e None h d = pushed_once es e (apart es e.0 h) d
+  beside_once es e None h d =
+      let absent : list_any (same_name e.0) (keys_of es) ≡ false = sym (is_some-lookup (same_name e.0) es) ∙ ap is_some h in
+      subst (IsDistinct same_name) (sym (keys_append es (e ∷ []))) (IsDistinct-push nat_list_eq_equiv (keys_of es) e.0 d absent)
   beside_once es e (Some v) h d = d
 
   folded_once : (start all : List (List ℕ × V)) → IsDistinct same_name (keys_of start) → IsDistinct same_name (keys_of (fold with_first start all))
@@ -169,11 +153,11 @@ module _ {V : Type 0} where
   value_append (e ∷ xs) ys name =
       ap (cond (same_name name e.0) (Some e.1)) (value_append xs ys name) ∙ one_or_more (same_name name e.0) e.1 (value_for xs name) (value_for ys name)
 
-  or_assoc : (a b c : Option V) → option_or (option_or a b) c ≡ option_or a (option_or b c)
+  pub or_assoc : (a b c : Option V) → option_or (option_or a b) c ≡ option_or a (option_or b c)
   or_assoc None b c = refl
   or_assoc (Some a) b c = refl
 
-  or_none : (a : Option V) → option_or a None ≡ a
+  pub or_none : (a : Option V) → option_or a None ≡ a
   or_none None = refl
   or_none (Some a) = refl
 

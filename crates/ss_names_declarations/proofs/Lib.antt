@@ -1,3 +1,4 @@
+mod Common
 mod Rows
 pub mod EarliestBreach
 pub mod Entries

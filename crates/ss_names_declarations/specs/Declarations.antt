@@ -13,11 +13,25 @@ use Rattle.ss_names_declarations.specs.declared.declaration.SetRule.TheVariants.
 use Rattle.ss_names_declarations.specs.declared.declaration.Declared.{Declared}
 use Rattle.ss_names_declarations.specs.declared.declaration.Declared.TheVariants.{Normally, Class, Attribute, Owner, Member, Variable, Order, RankKey, PriorityOrder, Priority, Ties, TieKey, Subject, Statistic, Main, Routine, Event, Parameter, Local}
 use Rattle.ss_names_declarations.specs.declared.declaration.Declaration.{Declaration}
+use Rattle.ss_names_declarations.specs.declared.declarations.Listed.{Listed}
+use Rattle.ss_names_declarations.specs.declared.declarations.Listed.TheVariants as lists
 
 -- ---- single declarations
 
 abbrev pub at_line : Line → Declared → Declaration
 at_line line what = record { line = line; what = what }
+
+-- what a name of a list is declared as
+abbrev pub declared_as : Listed → NameBytes → Declared
+declared_as (lists.Attribute class) name = Attribute name class
+declared_as (lists.Owner class) name = Owner name class
+declared_as (lists.Member class) name = Member name class
+declared_as lists.Notice name = Class name Notice
+declared_as (lists.Variable mode) name = Variable name mode
+declared_as (lists.Order rule statement) name = Order name rule statement
+declared_as lists.Priority name = Priority name
+declared_as (lists.Parameter section) name = Parameter name section
+declared_as (lists.Local section mode) name = Local name section mode
 
 -- what the section of this number is given or yields
 abbrev pub parameter_declaration : Line → ℕ → NameBytes → Declaration

@@ -3,12 +3,11 @@
 ghost use Rattle.std.specs.Prelude.{◌≡◌, [], ◌∷◌, ◌++◌, map, OnOk, IfOk};
 ghost use Rattle.std.specs.List.{flat_map};
 ghost use Rattle.ss_tree.specs.View.{view_clause, view_order, view_preamble, view_definition, view_kind, view_section, view_program_tree};
-ghost use Rattle.ss_base.specs.declared.layout.ClassKind.TheVariants as kinds;
 ghost use Rattle.ss_tree.specs.Names.{NameBytes};
 ghost use Rattle.ss_tree.specs.declared.preamble.NamedKey.{NamedKey as KeySeen};
 ghost use Rattle.ss_tree.specs.declared.preamble.NamedStatistic.{NamedStatistic as StatisticSeen};
 ghost use Rattle.ss_names_declarations.specs.declared.declaration.Declared.TheVariants as d;
-ghost use Rattle.ss_names_declarations.specs.Declarations.{at_line, parameter_declaration, local_declaration, in_clause, rule_of, in_set_order, in_preamble_statement, in_section_head, in_definition, in_section, flat_map_from, declarations};
+ghost use Rattle.ss_names_declarations.specs.Declarations.{at_line, declared_as, parameter_declaration, in_clause, rule_of, in_set_order, in_preamble_statement, in_section_head, in_definition, in_section, flat_map_from, declarations};
 
 use crate::declaration::{Declaration, Declared, SetRule};
 use ss_base::{Line, Name};
@@ -28,55 +27,82 @@ fn add(out: &mut Vec<Declaration>, line: Line, what: Declared) -> Result<(), All
     Ok(())
 }
 
-// Adds attributes of a class.
-fn add_attributes(
-    out: &mut Vec<Declaration>,
-    line: Line,
-    class: Name,
-    names: &[Name],
-) -> Result<(), AllocError>
-    ensures { OnOk result (out.new.items ≡ out.old.items ++ map (λ (name : NameBytes). at_line line (d.Attribute name class)) names.now) }
-{
-    for name in names {
-        let attribute = Declared::Attribute {
-            attribute: *name,
-            class,
-        };
-        add(out, line, attribute)?;
-    }
-    Ok(())
+// What the names of a list are declared as.
+#[derive(Clone, Copy)]
+enum Listed {
+    /// Attributes of a class.
+    Attribute(Name),
+    /// Sets of a class or, without one, of THE SYSTEM.
+    Owner(Option<Name>),
+    /// Sets that the entities of a class may belong to.
+    Member(Name),
+    /// Classes of notices.
+    Notice,
+    Variable(ModeWord),
+    /// Sets with this rule, by the statement of this number.
+    Order(SetRule, usize),
+    /// Classes in the priority order.
+    Priority,
+    /// Parameters of the section of this number.
+    Parameter(usize),
+    /// Local variables of the section of this number.
+    Local(usize, ModeWord),
 }
 
-// Adds the sets of an owner.
-fn add_owned_sets(
-    out: &mut Vec<Declaration>,
-    line: Line,
-    class: &Option<Name>,
-    names: &[Name],
-) -> Result<(), AllocError>
-    ensures { OnOk result (out.new.items ≡ out.old.items ++ map (λ (set : NameBytes). at_line line (d.Owner set class.now)) names.now) }
+// What a name of a list is declared as.
+fn declared_as(listed: &Listed, name: Name) -> Declared
+    ensures { result ≡ declared_as listed.now name }
 {
-    for name in names {
-        let owner = Declared::Owner {
-            set: *name,
+    match listed {
+        Listed::Attribute(class) => Declared::Attribute {
+            attribute: name,
             class: *class,
-        };
-        add(out, line, owner)?;
+        },
+        Listed::Owner(class) => Declared::Owner {
+            set: name,
+            class: *class,
+        },
+        Listed::Member(class) => Declared::Member {
+            set: name,
+            class: *class,
+        },
+        Listed::Notice => Declared::Class {
+            class: name,
+            kind: ClassKind::Notice,
+        },
+        Listed::Variable(mode) => Declared::Variable {
+            variable: name,
+            mode: *mode,
+        },
+        Listed::Order(rule, statement) => Declared::Order {
+            set: name,
+            rule: *rule,
+            statement: *statement,
+        },
+        Listed::Priority => Declared::Priority { class: name },
+        Listed::Parameter(section) => Declared::Parameter {
+            parameter: name,
+            section: *section,
+        },
+        Listed::Local(section, mode) => Declared::Local {
+            variable: name,
+            section: *section,
+            mode: *mode,
+        },
     }
-    Ok(())
 }
 
-// Adds the sets that the entities of a class may belong to.
-fn add_member_sets(
+// Adds what the names of a list are declared as.
+fn add_names(
     out: &mut Vec<Declaration>,
     line: Line,
-    class: Name,
+    listed: &Listed,
     names: &[Name],
 ) -> Result<(), AllocError>
-    ensures { OnOk result (out.new.items ≡ out.old.items ++ map (λ (set : NameBytes). at_line line (d.Member set class)) names.now) }
+    ensures { OnOk result (out.new.items ≡ out.old.items ++ map (λ (name : NameBytes). at_line line (declared_as listed.now name)) names.now) }
 {
     for name in names {
-        add(out, line, Declared::Member { set: *name, class })?;
+        add(out, line, declared_as(listed, *name))?;
     }
     Ok(())
 }
@@ -91,9 +117,9 @@ fn add_clause(
     ensures { OnOk result (out.new.items ≡ out.old.items ++ in_clause line class (view_clause clause.now)) }
 {
     match clause {
-        Clause::Has(names) => add_attributes(out, line, class, names),
-        Clause::Owns(names) => add_owned_sets(out, line, &Some(class), names),
-        Clause::BelongsTo(names) => add_member_sets(out, line, class, names),
+        Clause::Has(names) => add_names(out, line, &Listed::Attribute(class), names),
+        Clause::Owns(names) => add_names(out, line, &Listed::Owner(Some(class)), names),
+        Clause::BelongsTo(names) => add_names(out, line, &Listed::Member(class), names),
     }
 }
 
@@ -112,39 +138,6 @@ fn add_clauses(
     Ok(())
 }
 
-// Adds the classes of notices after INCLUDE.
-fn add_notices(out: &mut Vec<Declaration>, line: Line, names: &[Name]) -> Result<(), AllocError>
-    ensures { OnOk result (out.new.items ≡ out.old.items ++ map (λ (name : NameBytes). at_line line (d.Class name kinds.Notice)) names.now) }
-{
-    for name in names {
-        let notice = Declared::Class {
-            class: *name,
-            kind: ClassKind::Notice,
-        };
-        add(out, line, notice)?;
-    }
-    Ok(())
-}
-
-// Adds variables of a mode.
-fn add_variables(
-    out: &mut Vec<Declaration>,
-    line: Line,
-    mode: ModeWord,
-    names: &[Name],
-) -> Result<(), AllocError>
-    ensures { OnOk result (out.new.items ≡ out.old.items ++ map (λ (name : NameBytes). at_line line (d.Variable name mode)) names.now) }
-{
-    for name in names {
-        let variable = Declared::Variable {
-            variable: *name,
-            mode,
-        };
-        add(out, line, variable)?;
-    }
-    Ok(())
-}
-
 // How a DEFINE orders its sets.
 fn rule_of(order: &SetOrder) -> SetRule
     ensures { result ≡ rule_of (view_order order.now) }
@@ -154,27 +147,6 @@ fn rule_of(order: &SetOrder) -> SetRule
         SetOrder::Lifo => SetRule::Lifo,
         SetOrder::Ranked(_) => SetRule::Ranked,
     }
-}
-
-// Adds the sets that the statement of this number orders.
-fn add_ordered_sets(
-    out: &mut Vec<Declaration>,
-    line: Line,
-    rule: SetRule,
-    statement: usize,
-    names: &[Name],
-) -> Result<(), AllocError>
-    ensures { OnOk result (out.new.items ≡ out.old.items ++ map (λ (set : NameBytes). at_line line (d.Order set rule statement)) names.now) }
-{
-    for name in names {
-        let order = Declared::Order {
-            set: *name,
-            rule,
-            statement,
-        };
-        add(out, line, order)?;
-    }
-    Ok(())
 }
 
 // Adds the keys of the statement of this number.
@@ -224,18 +196,8 @@ fn add_sets(
     ensures { OnOk result (out.new.items ≡ out.old.items ++ (map (λ (set : NameBytes). at_line line (d.Order set (rule_of (view_order order.now)) statement)) names.now ++ in_set_order line statement (view_order order.now))) }
 {
     let rule = rule_of(order);
-    add_ordered_sets(out, line, rule, statement, names)?;
+    add_names(out, line, &Listed::Order(rule, statement), names)?;
     add_order(out, line, statement, order)
-}
-
-// Adds the classes of the priority order.
-fn add_priorities(out: &mut Vec<Declaration>, line: Line, names: &[Name]) -> Result<(), AllocError>
-    ensures { OnOk result (out.new.items ≡ out.old.items ++ map (λ (class : NameBytes). at_line line (d.Priority class)) names.now) }
-{
-    for name in names {
-        add(out, line, Declared::Priority { class: *name })?;
-    }
-    Ok(())
 }
 
 // Adds the keys for the ties of a class.
@@ -289,7 +251,9 @@ fn add_statement(
     match statement {
         PreambleStatement::PermanentEntities { .. } => Ok(()),
         PreambleStatement::TemporaryEntities { .. } => Ok(()),
-        PreambleStatement::EventNotices { line, included } => add_notices(out, *line, included),
+        PreambleStatement::EventNotices { line, included } => {
+            add_names(out, *line, &Listed::Notice, included)
+        }
         PreambleStatement::Every {
             line,
             kind,
@@ -306,16 +270,18 @@ fn add_statement(
         PreambleStatement::Normally { line, mode } => {
             add(out, *line, Declared::Normally { mode: *mode })
         }
-        PreambleStatement::SystemOwns { line, sets } => add_owned_sets(out, *line, &None, sets),
+        PreambleStatement::SystemOwns { line, sets } => {
+            add_names(out, *line, &Listed::Owner(None), sets)
+        }
         PreambleStatement::DefineVariables { line, names, mode } => {
-            add_variables(out, *line, *mode, names)
+            add_names(out, *line, &Listed::Variable(*mode), names)
         }
         PreambleStatement::DefineSets { line, names, order } => {
             add_sets(out, *line, number, names, order)
         }
         PreambleStatement::PriorityOrder { line, classes } => {
             add(out, *line, Declared::PriorityOrder)?;
-            add_priorities(out, *line, classes)
+            add_names(out, *line, &Listed::Priority, classes)
         }
         PreambleStatement::BreakTies { line, class, keys } => {
             add(out, *line, Declared::Ties { class: *class })?;
@@ -338,6 +304,7 @@ fn add_statement(
 }
 
 // Adds what a preamble declares.
+#[tactic(auto, using(crate::proofs::Rows::one_more, std::proofs::lemmas::Grind::common_steps))]
 fn add_preamble(
     out: &mut Vec<Declaration>,
     preamble: &[PreambleStatement],
@@ -359,14 +326,7 @@ fn add_parameters(
 ) -> Result<(), AllocError>
     ensures { OnOk result (out.new.items ≡ out.old.items ++ map (parameter_declaration line section) names.now) }
 {
-    for name in names {
-        let parameter = Declared::Parameter {
-            parameter: *name,
-            section,
-        };
-        add(out, line, parameter)?;
-    }
-    Ok(())
+    add_names(out, line, &Listed::Parameter(section), names)
 }
 
 // Adds what the head of the section of this number declares.
@@ -412,27 +372,6 @@ fn add_head(
     }
 }
 
-// Adds local variables of the section of this number.
-fn add_locals(
-    out: &mut Vec<Declaration>,
-    line: Line,
-    section: usize,
-    mode: ModeWord,
-    names: &[Name],
-) -> Result<(), AllocError>
-    ensures { OnOk result (out.new.items ≡ out.old.items ++ map (local_declaration line section mode) names.now) }
-{
-    for name in names {
-        let local = Declared::Local {
-            variable: *name,
-            section,
-            mode,
-        };
-        add(out, line, local)?;
-    }
-    Ok(())
-}
-
 // Adds what the DEFINEs at the head of the section of this number declare.
 fn add_definitions(
     out: &mut Vec<Declaration>,
@@ -442,13 +381,8 @@ fn add_definitions(
     ensures { OnOk result (out.new.items ≡ out.old.items ++ flat_map (in_definition section) (map view_definition definitions.now)) }
 {
     for definition in definitions {
-        add_locals(
-            out,
-            definition.line,
-            section,
-            definition.mode,
-            &definition.names,
-        )?;
+        let listed = Listed::Local(section, definition.mode);
+        add_names(out, definition.line, &listed, &definition.names)?;
     }
     Ok(())
 }
@@ -466,6 +400,7 @@ fn add_section(
 }
 
 // Adds what the sections of a program declare.
+#[tactic(auto, using(crate::proofs::Rows::one_more, std::proofs::lemmas::Grind::common_steps))]
 fn add_sections(out: &mut Vec<Declaration>, sections: &[Section]) -> Result<(), AllocError>
     ensures { OnOk result (out.new.items ≡ out.old.items ++ flat_map_from in_section 0 (map view_section sections.now)) }
 {

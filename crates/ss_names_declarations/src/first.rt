@@ -13,6 +13,7 @@ use std::alloc::AllocError;
 ///
 /// # Errors
 /// `AllocError` where memory is refused.
+#[tactic(auto, using(crate::proofs::Entries::beside_if))]
 pub fn insert_first<V: Copy>(
     entries: &mut Table<Name, V>,
     name: Name,

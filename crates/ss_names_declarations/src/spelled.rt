@@ -12,6 +12,7 @@ use std::alloc::AllocError;
 ///
 /// # Errors
 /// `AllocError` where memory is refused; then the table stays as it was too.
+#[tactic(auto, using(crate::proofs::Entries::beside_if))]
 pub fn insert_spelled<V: Copy>(
     entries: &mut Table<Spelling, V>,
     name: Spelling,

@@ -38,6 +38,9 @@ class_numbered : (cs : List (NameBytes × ClassKind)) (w : Declared) (name : Nam
 class_numbered cs (d.Attribute own class) name n a = (class, (entry_from own name (place_in cs class) n a).1)
 class_numbered cs _ name n a = absurd a
 
+pub row_of : (ds : List Declaration) (class : ℕ) → class < length (classes ds) → get_or (fields ds) class [] ≡ attributes_of_class (attribute_classes ds) class
+row_of ds class lt = get_or-map-range_with_len (attributes_of_class (attribute_classes ds)) 0 (length (classes ds)) class class [] lt (omega arith)
+
 -- the class of an attribute is there, and the attribute is in its row
 pub attribute_there : (ds : List Declaration) (name : NameBytes) (a : Attribute) → value_for (attributes ds) name ≡ Some a → (a.class < length (classes ds)) × (slice_get (get_or (fields ds) a.class []) a.field ≡ Some name)
 attribute_there ds name a h =
@@ -46,5 +49,4 @@ attribute_there ds name a h =
     let x = value_declared (attribute_by (classes ds)) ds name a.class found.0 in
     let class = class_numbered (classes ds) x.0.what name a.class x.2 in
     let below : a.class < length (classes ds) = place_in_below (classes ds) class.0 a.class class.1 in
-    let row : get_or (fields ds) a.class [] ≡ attributes_of_class owned a.class = get_or-map-range_with_len (attributes_of_class owned) 0 (length (classes ds)) a.class a.class [] below (omega arith) in
-    (below, ap (λ (names : List NameBytes). slice_get names a.field) row ∙ found.1)
+    (below, ap (λ (names : List NameBytes). slice_get names a.field) (row_of ds a.class below) ∙ found.1)

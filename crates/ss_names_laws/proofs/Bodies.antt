@@ -3,8 +3,8 @@ use Rattle.std.proofs.Common.{◌≡◌, ℕ, zero, suc, ◌+◌, Bool, true, fa
 use Rattle.std.specs.Prelude.{◌==◌, nat_le, slice_get, if◌then◌else◌}
 use Rattle.std.specs.List.{AllByRecursion as Every, flat_map}
 use Rattle.ss_names_laws.proofs.Common.{Line, NameBytes, Role, Use, Used}
-use Rattle.ss_names_uses.specs.Uses.{in_body, in_places, as_mean, fields_of_pictures, in_call, in_condition, in_expression, in_field, in_given, in_guard, in_head, in_inner, in_item, in_item_at, in_items, in_itself, in_loop_head, in_named, in_new, in_numbers, in_old, in_option, in_phrase, in_position, in_row, in_start, in_statement, in_target, in_terms, in_test, in_value, in_when, loop_variable, expression_tree_mode, of_fit, of_text, with_decimals}
-use Rattle.ss_tree.specs.Tree.{ExpressionTree, number, text, named, call, parenthesised, product, signed, sum, ExpressionRow, no_expression, and_expression, TermRow, no_term, and_term, NamedTree, TestTree, compare, empty, member, data_ended, ConditionTree, PhraseTree, GuardTree, StartTree, from_end, from_member, after_member, HeadTree, over_range, over_members, over_class, LoopHeadTree, for_head, guarded, PositionTree, by_discipline, at_first, at_last, before, after, WhenTree, at_time, in_units, now, StatementTree, let_statement, add_statement, subtract_statement, call_statement, return_statement, stop_statement, read_statement, start_simulation, if_statement, loop_statement, find_statement, find_if_statement, create_statement, create_every, destroy_statement, file_statement, remove_end, remove_statement, schedule_new, schedule_statement, cancel_statement, reset_statement, print_statement, skip_statement, StatementRow, no_statement, and_statement}
+use Rattle.ss_names_uses.specs.Uses.{in_body, in_places, as_mean, fields_of_pictures, in_condition, in_expression, in_field, in_given, in_guard, in_head, in_inner, in_item, in_item_at, in_itself, in_named, in_new, in_numbers, in_old, in_option, in_phrase, in_position, in_row, in_start, in_statement, in_target, in_terms, in_test, in_value, in_when, loop_variable, expression_tree_mode, of_fit, with_decimals}
+use Rattle.ss_tree.specs.Tree.{ExpressionTree, number, text, named, call, parenthesised, product, signed, sum, ExpressionRow, no_expression, and_expression, TermRow, no_term, and_term, NamedTree, TestTree, compare, empty, member, data_ended, ConditionTree, PhraseTree, GuardTree, StartTree, from_end, from_member, after_member, HeadTree, over_range, over_members, over_class, for_head, guarded, PositionTree, before, after, WhenTree, at_time, in_units, now, StatementTree, let_statement, add_statement, subtract_statement, call_statement, read_statement, start_simulation, if_statement, loop_statement, find_statement, find_if_statement, create_statement, create_every, destroy_statement, file_statement, remove_end, remove_statement, schedule_new, schedule_statement, cancel_statement, reset_statement, print_statement, skip_statement, StatementRow, no_statement, and_statement}
 use Rattle.ss_names_uses.specs.declared.used.ModeOf.{ModeOf}
 use Rattle.ss_names_uses.specs.declared.used.ModeOf.TheVariants as modes
 use Rattle.ss_names_uses.specs.declared.used.Role.TheVariants as roles
@@ -58,14 +58,11 @@ mean_or_unfit true e = mean e
 mean_or_unfit false e = refl
 
 module _ (line : Line) where
-  text_said : (is_number : Bool) → Silent (of_text line is_number)
-  text_said true = record { each = (refl, tt) }
-  text_said false = nothing
-
   mutual
     expression : (is_number : Bool) (e : ExpressionTree) → Silent (in_expression line is_number e)
     expression is_number (number z) = nothing
-    expression is_number (text t) = text_said is_number
+    expression true (text t) = record { each = (refl, tt) }
+    expression false (text t) = nothing
     expression is_number (named designator subscripts) = record { each = (refl, (numbers subscripts).each) }
     expression is_number (call function arguments) = record { each = (refl, (numbers arguments).each) }
     expression is_number (parenthesised e) = expression is_number e
@@ -114,18 +111,12 @@ module _ (line : Line) where
   head (over_class class called ps) =
       record { each = (refl, (both (option (loop_variable line) called looped) (phrases ps)).each) }
 
-  loop_head : (h : LoopHeadTree) → Silent (in_loop_head line h)
-  loop_head (for_head h) = head h
-  loop_head (guarded guards) = pieces (in_guard line) guards (λ (g : GuardTree). condition g.condition)
-
   -- ---- parts of statements
 
   position : (p : PositionTree) → Silent (in_position line p)
-  position by_discipline = nothing
-  position at_first = nothing
-  position at_last = nothing
   position (before e) = expression true e
   position (after e) = expression true e
+  position _ = nothing
 
   when : (t : WhenTree) → Silent (in_when line t)
   when (at_time e) = expression true e
@@ -147,11 +138,6 @@ module _ (line : Line) where
   given_to : (class : NameBytes) (given : List ExpressionTree) → Silent (in_given line class given)
   given_to class given = record { each = (refl, (places (λ (i : ℕ). in_value line (modes.Attribute class i)) 0 given (λ i e. value (modes.Attribute class i) e)).each) }
 
-  called_with : (name : NameBytes) (given : List ExpressionTree) (yielding : List NamedTree) → Silent (in_call line name given yielding)
-  called_with name given yielding =
-      let values = both (places (λ (i : ℕ). in_value line (modes.Given name i)) 0 given (λ i e. value (modes.Given name i) e)) (places (λ (i : ℕ). in_target line (modes.Yielded name i)) 0 yielding (λ i n. target (modes.Yielded name i) n)) in
-      record { each = (refl, (refl, (refl, values.each))) }
-
   -- ---- PRINT
 
   decimals_of : (e : ExpressionTree) (decimals : ℕ) → Silent (with_decimals line e decimals)
@@ -163,16 +149,9 @@ module _ (line : Line) where
   item (parenthesised e) = item e
   item e = expression false e
 
-  item_at : (pictures : List (List ℕ)) (i : ℕ) (e : ExpressionTree) → Silent (in_item_at line (fields_of_pictures pictures) i e)
-  item_at pictures i e = both (option (in_field line e) (slice_get (fields_of_pictures pictures) i) (λ field. decimals_of e field.decimals)) (item e)
-
   fit : (b : Bool) → Silent (of_fit line b)
   fit true = nothing
   fit false = record { each = (refl, tt) }
-
-  printed : (items : List ExpressionTree) (pictures : List (List ℕ)) → Silent (in_items line items (fields_of_pictures pictures))
-  printed items pictures =
-      both (fit (length items == length (fields_of_pictures pictures))) (places (in_item_at line (fields_of_pictures pictures)) 0 items (item_at pictures))
 
 -- ---- statements
 
@@ -184,13 +163,15 @@ itself : (s : StatementTree) → Silent (in_itself s)
 itself (let_statement line n e) = both (target line (expression_tree_mode e) n) (expression line false e)
 itself (add_statement line e n) = both (expression line true e) (place_named line roles.Target true n)
 itself (subtract_statement line e n) = both (expression line true e) (place_named line roles.Target true n)
-itself (call_statement line name given yielding) = called_with line name given yielding
-itself (return_statement line) = nothing
-itself (stop_statement line) = nothing
+itself (call_statement line name given yielding) =
+    let values = places (λ (i : ℕ). in_value line (modes.Given name i)) 0 given (λ i e. value line (modes.Given name i) e) in
+    let targets = places (λ (i : ℕ). in_target line (modes.Yielded name i)) 0 yielding (λ i n. target line (modes.Yielded name i) n) in
+    record { each = (refl, (refl, (refl, (both values targets).each))) }
 itself (read_statement line targets) = pieces (in_named line roles.Target false) targets (place_named line roles.Target false)
 itself (start_simulation line) = record { each = (refl, tt) }
 itself (if_statement line c first second) = condition line c
-itself (loop_statement line h body) = loop_head line h
+itself (loop_statement line (for_head h) body) = head line h
+itself (loop_statement line (guarded guards) body) = pieces (in_guard line) guards (λ (g : GuardTree). condition line g.condition)
 itself (find_statement line h) = head line h
 itself (find_if_statement line h outcome first second) = head line h
 itself (create_statement line class called) = new line Single class called
@@ -203,8 +184,12 @@ itself (schedule_new line class called given t) = both (both (new line Notice cl
 itself (schedule_statement line class called given t) = both (both (old line Notice class called) (given_to line class given)) (when line t)
 itself (cancel_statement line class called) = old line Notice class called
 itself (reset_statement line targets) = pieces (in_named line roles.Reset false) targets (place_named line roles.Reset false)
-itself (print_statement line items pictures) = printed line items pictures
+itself (print_statement line items pictures) =
+    let fields = fields_of_pictures pictures in
+    both (fit line (length items == length fields))
+    (places (in_item_at line fields) 0 items (λ i e. both (option (in_field line e) (slice_get fields i) (λ field. decimals_of line e field.decimals)) (item line e)))
 itself (skip_statement line lines) = expression line true lines
+itself _ = nothing
 
 mutual
   inner : (s : StatementTree) → Silent (in_inner s)

@@ -1,6 +1,6 @@
 -- What the names of classes mean, and N. of permanent ones.
 use Rattle.std.proofs.Common.{◌≡◌, ℕ, List, Some, None, inl, inr, refl, sym, ap, subst, ◌∙◌}
-use Rattle.ss_names_laws.proofs.Common.{at_line, attributes, class_by, class_entry, class_meaning, class_variables, classes, ClassKind, count_entry, count_meaning, count_name, CountedClass, Declaration, declarations, Declared, declares, entry_if, global_variables, Integer, Line, NameBytes, Notice, numbered, Permanent, place_in, place_of_value, ProgramTree, refusal_of_declarations, table, Temporary, value_for, variable_by}
+use Rattle.ss_names_laws.proofs.Common.{at_line, attributes, class_by, class_entry, class_meaning, class_variables, classes, ClassKind, count_entry, count_meaning, count_name, CountedClass, Declaration, declarations, Declared, declares, entry_if, global_variables, Integer, Line, NameBytes, numbered, Permanent, place_in, place_of_value, ProgramTree, refusal_of_declarations, table, value_for, variable_by}
 use Rattle.ss_names_declarations.specs.declared.declaration.Declared.TheVariants as d
 use Rattle.ss_names.specs.declared.meaning.Meaning.TheVariants as m
 use Rattle.ss_names_laws.proofs.NameTable.{declared_value, entry_here, value_declared}
@@ -14,8 +14,7 @@ class_from _ name kind a = absurd a
 
 own_variable : (kind : ClassKind) (name : NameBytes) → Among (class_variables kind name) (name, Integer)
 own_variable Permanent name = inl refl
-own_variable Temporary name = inl refl
-own_variable Notice name = inl refl
+own_variable _ name = inl refl
 
 abbrev kind_or : ClassKind → Declared → ClassKind
 kind_or other (d.Class name kind) = kind

@@ -1,10 +1,10 @@
 -- Lists, item by item, and lists that come of items with their numbers.
 use Rattle.std.proofs.Common.{◌≡◌, ℕ, zero, suc, ◌+◌, Bool, true, false, cond, List, [], ◌∷◌, ◌++◌, map, Option, Some, None, inl, inr, refl, sym, subst, ◌∙◌, arith}
-use Rattle.ss_names_laws.proofs.Common.{entry_if, first_entries, flat_map_from, NameBytes, option_to_list, slice_get, value_in_firsts}
-use Rattle.std.specs.List.{AllByRecursion as Every, filter, flat_map}
+use Rattle.ss_names_laws.proofs.Common.{entry_if, first_entries, flat_map_from, NameBytes, option_to_list, or_parts, slice_get, value_in_firsts}
+use Rattle.std.specs.List.{AllByRecursion as Every, filter, flat_map, list_any}
 use Rattle.ss_names_laws.proofs.NameTable.{value_among, value_of_entry}
-use Rattle.ss_names_laws.proofs.Items.{Among, at_item, each_item}
-use Rattle.ss_names_laws.proofs.Kept.{both_empty}
+use Rattle.ss_names_laws.proofs.Items.{Among, at_item, both_empty, each_item}
+use Rattle.ss_names_laws.proofs.Steps.{none_listed}
 
 -- ---- each item
 
@@ -50,11 +50,24 @@ pub each_empty : {A B : Type 0} (f : A → List B) (xs : List A) → flat_map f 
 each_empty f [] h = tt
 each_empty f (x ∷ xs) h = let parts = both_empty (f x) (flat_map f xs) h in (parts.0, each_empty f xs parts.1)
 
+pub each_none : {A B : Type 0} (f : A → Option B) (xs : List A) → flat_map (λ x. option_to_list (f x)) xs ≡ [] → Every (λ x. f x ≡ None) xs
+each_none f xs h = each_item (λ x. f x ≡ None) xs (λ x a. none_listed (f x) (at_item (λ y. option_to_list (f y) ≡ []) xs x (each_empty (λ y. option_to_list (f y)) xs h) a))
+
+pub none_of_any : {A : Type 0} (test : A → Bool) (xs : List A) → list_any test xs ≡ false → Every (λ x. test x ≡ false) xs
+none_of_any test [] h = tt
+none_of_any test (x ∷ xs) h = let parts = or_parts (test x) (list_any test xs) h in (parts.0, none_of_any test xs parts.1)
+
 -- ---- entries of names
 
 -- of each name the first entry is one of all
 pub every_first : {V : Type 0} (P : NameBytes × V → Type 0) (all : List (NameBytes × V)) → Every P all → Every P (first_entries all)
 every_first P all h = each_item P (first_entries all) (λ e a. at_item P all e h (value_among all e.0 e.1 (sym (value_in_firsts all e.0) ∙ value_of_entry all e.0 e.1 a)))
+
+-- what holds of names holds of the first entries of these names
+pub every_named : {V : Type 0} (P : NameBytes → Type 0) (f : NameBytes → NameBytes × V) → ((name : NameBytes) → P name → P (f name).0) → (names : List NameBytes) → Every P names → Every (λ (e : NameBytes × V). P e.0) (first_entries (map f names))
+every_named {V} P f good names h =
+    let Q = λ (e : NameBytes × V). P e.0 in
+    every_first Q (map f names) (every_image Q f names (λ name a. good name (at_item P names name h a)))
 
 pub every_if : {V : Type 0} (P : NameBytes × V → Type 0) (name : NameBytes) (o : Option V) → ((v : V) → o ≡ Some v → P (name, v)) → Every P (entry_if name o)
 every_if P name None h = tt

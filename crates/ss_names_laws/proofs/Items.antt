@@ -35,6 +35,10 @@ in_one_of [] ys x a = inr a
 in_one_of (y ∷ xs) ys x (inl same) = inl (inl same)
 in_one_of (y ∷ xs) ys x (inr later) = ⊎_elim (λ a. inl (inr a)) inr (in_one_of xs ys x later)
 
+pub both_empty : {A : Type 0} (xs ys : List A) → xs ++ ys ≡ [] → (xs ≡ []) × (ys ≡ [])
+both_empty [] ys h = (refl, h)
+both_empty (x ∷ xs) ys h = absurd cc
+
 -- ---- what items give
 
 pub in_image : {A B : Type 0} (f : A → B) (xs : List A) (x : A) → Among xs x → Among (map f xs) (f x)

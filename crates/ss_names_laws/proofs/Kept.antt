@@ -1,7 +1,7 @@
 -- What holds where a program breaks no rule on declarations.
 use Rattle.std.proofs.Common.{◌≡◌, ℕ, Bool, true, false, cond, List, [], ◌∷◌, ◌++◌, map, Option, Some, None, ◌⊎◌, inl, inr, ⊎_elim, refl, sym, ap, subst, ◌∙◌, append-nil, append_assoc}
 use Rattle.std.specs.List.{AllByRecursion as Every, IsDistinct, flat_map}
-use Rattle.ss_names_laws.proofs.Common.{both_ways, broken_by, bytes_decides, Declaration, declarations, given_by, Line, map-append, Meaning, NameBytes, not-false, Once, option_or, option_to_list, or_parts, ProgramTree, value_append, value_for, value_in_firsts}
+use Rattle.ss_names_laws.proofs.Common.{both_ways, broken_by, bytes_decides, Declaration, declarations, given_by, Line, map-append, Meaning, NameBytes, not-false, Once, option_or, option_to_list, ProgramTree, value_append, value_for, value_in_firsts}
 use Rattle.std.proofs.lemmas.Option.{none-some}
 use Rattle.ss_names.specs.Table.{declares, numbered, Table, table, Entered, clashes, clashes_after, entered_in_line, entered_by, is_another, same_of_set}
 use Rattle.ss_tables_rules.specs.Broken.{refusal_of_declarations, table_breaches, declaration_breaches, unmoded}
@@ -14,7 +14,8 @@ use Rattle.ss_tables_rules.specs.Keys.{misranked}
 use Rattle.ss_tables_rules.specs.Once.{is_among, once_of, repeats, repeats_after, repeated_breach, same_once, again, once_added}
 use Rattle.ss_tables_rules.specs.Order.{table_error_order}
 use Rattle.ss_names_laws.proofs.NameTable.{has_value}
-use Rattle.ss_names_laws.proofs.Items.{Among, in_image, in_pieces, in_right}
+use Rattle.ss_names_laws.proofs.Each.{each_none, in_parts, none_of_any}
+use Rattle.ss_names_laws.proofs.Items.{Among, both_empty, in_image, in_pieces, in_right}
 
 -- ---- nothing is found
 
@@ -32,10 +33,6 @@ nothing_found order (x ∷ es) h = absurd (still_found order x (earliest order e
 
 -- ---- empty lists
 
-pub both_empty : {A : Type 0} (xs ys : List A) → xs ++ ys ≡ [] → (xs ≡ []) × (ys ≡ [])
-both_empty [] ys h = (refl, h)
-both_empty (x ∷ xs) ys h = absurd cc
-
 five_empty : {A : Type 0} (vs ws xs ys zs : List A) → vs ++ (ws ++ (xs ++ (ys ++ zs))) ≡ [] → (vs ≡ []) × (ws ≡ []) × (xs ≡ []) × (ys ≡ []) × (zs ≡ [])
 five_empty vs ws xs ys zs h =
     let p = both_empty vs (ws ++ (xs ++ (ys ++ zs))) h in
@@ -47,16 +44,6 @@ five_empty vs ws xs ys zs h =
 no_images : {A B : Type 0} (f : A → B) (xs : List A) → map f xs ≡ [] → xs ≡ []
 no_images f [] h = refl
 no_images f (x ∷ xs) h = absurd cc
-
-none_listed : {A : Type 0} (o : Option A) → option_to_list o ≡ [] → o ≡ None
-none_listed None h = refl
-none_listed (Some x) h = absurd cc
-
-unbroken : (t : Table) (ds : List Declaration) → flat_map (declaration_breaches t) ds ≡ [] → Every (λ (x : Declaration). broken_by t x ≡ None) ds
-unbroken t [] h = tt
-unbroken t (x ∷ ds) h =
-    let parts = both_empty (declaration_breaches t x) (flat_map (declaration_breaches t) ds) h in
-    (none_listed (broken_by t x) parts.0, unbroken t ds parts.1)
 
 -- ---- a name that is declared again
 
@@ -169,24 +156,14 @@ onces t ds = flat_map (λ (x : Declaration). option_to_list (once_of t x.what)) 
 abbrev NeverAgain : List Once → List Once → Type 0
 NeverAgain said more = Every (λ (a : Once). Every (λ (b : Once). same_once a b ≡ false) said) more × IsDistinct (λ (b a : Once). same_once a b) more
 
-none_passes : (once : Once) (said : List Once) → is_among said once ≡ false → Every (λ (b : Once). same_once once b ≡ false) said
-none_passes once [] h = tt
-none_passes once (b ∷ said) h =
-    let parts = or_parts (same_once once b) (is_among said once) h in
-    (parts.0, none_passes once said parts.1)
-
 -- of what is apart from these and one more
-fewer : (a once : Once) (said : List Once) → Every (λ (b : Once). same_once a b ≡ false) (said ++ once ∷ []) → Every (λ (b : Once). same_once a b ≡ false) said × (same_once a once ≡ false)
-fewer a once [] h = (tt, h.0)
-fewer a once (b ∷ said) h = let rest = fewer a once said h.1 in ((h.0, rest.0), rest.1)
-
 all_fewer : (once : Once) (said more : List Once) → Every (λ (a : Once). Every (λ (b : Once). same_once a b ≡ false) (said ++ once ∷ [])) more →
     Every (λ (a : Once). Every (λ (b : Once). same_once a b ≡ false) said) more × Every (λ (a : Once). same_once a once ≡ false) more
 all_fewer once said [] h = (tt, tt)
 all_fewer once said (a ∷ more) h =
-    let here = fewer a once said h.0 in
+    let here = in_parts (λ (b : Once). same_once a b ≡ false) said (once ∷ []) h.0 in
     let rest = all_fewer once said more h.1 in
-    ((here.0, rest.0), (here.1, rest.1))
+    ((here.0, rest.0), (here.1.0, rest.1))
 
 said_anew : (t : Table) (said : List Once) (x : Declaration) (ds : List Declaration) (once : Once) (b : Bool) → is_among said once ≡ b →
     ((more : List Once) → repeats_after t more ds ≡ [] → NeverAgain more (onces t ds)) →
@@ -196,7 +173,7 @@ said_anew t said x ds once true is next h = absurd cc
 said_anew t said x ds once false is next h =
     let rest = next (said ++ once ∷ []) h in
     let parts = all_fewer once said (onces t ds) rest.0 in
-    ((none_passes once said is, parts.0), (parts.1, rest.1))
+    ((none_of_any (same_once once) said is, parts.0), (parts.1, rest.1))
 
 said_next : (t : Table) (said : List Once) (x : Declaration) (ds : List Declaration) (o : Option Once) →
     ((more : List Once) → repeats_after t more ds ≡ [] → NeverAgain more (onces t ds)) →
@@ -221,11 +198,8 @@ module _ (p : ProgramTree) (kept : refusal_of_declarations p ≡ None) where
   pub no_clash : clashes (declarations p) ≡ []
   no_clash = no_images errors.Twice (clashes (declarations p)) parts.0
 
-  pub no_repeats : repeats (table p) (declarations p) ≡ []
-  no_repeats = parts.1
-
   pub none_broken : Every (λ (x : Declaration). broken_by (table p) x ≡ None) (declarations p)
-  none_broken = unbroken (table p) (declarations p) parts.2
+  none_broken = each_none (broken_by (table p)) (declarations p) parts.2
 
   pub none_misranked : misranked (table p) p.preamble ≡ []
   none_misranked = parts.3
@@ -235,7 +209,7 @@ module _ (p : ProgramTree) (kept : refusal_of_declarations p ≡ None) where
 
   -- what may be said once is said once: of all such things, in the order of the text, none is the same as one before it
   pub said_once : IsDistinct (λ (b a : Once). same_once a b) (onces (table p) (declarations p))
-  said_once = (never_again (table p) [] (declarations p) no_repeats).1
+  said_once = (never_again (table p) [] (declarations p) parts.1).1
 
   -- the first that a name means is what a declaration declares it as, or both are of one set
   pub first_meant : (x : Declaration) (name : NameBytes) (meaning : Meaning) → Among (declarations p) x → Among (declares (numbered (declarations p)) x.what) (name, meaning) →

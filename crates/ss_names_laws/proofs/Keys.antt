@@ -1,7 +1,7 @@
 -- The keys of ranked sets and of ties are attributes of their classes, so each set has a discipline and each class its keys.
-use Rattle.std.proofs.Common.{◌≡◌, ℕ, ◌==◌, nat_eq, Bool, true, false, List, [], ◌∷◌, Option, Some, None, refl, sym, ap, subst, ◌∙◌}
-use Rattle.ss_names_laws.proofs.Common.{Attribute, bytes_decides, Declaration, declarations, Declared, define_sets, DefinedOrder, Discipline, discipline, disciplines, entry_of_key, eqb-true, firsts_once, keys_of, Line, NameBytes, NamedKey, not-false, or_parts, ordered, OrderTree, place_from, place_in, PreambleTree, ProgramTree, rank_key, rank_keys, ranked, ranked_by, RankedBy, RankKey, refusal_of_declarations, ruled, same_name, same_Some, Set, SetRule, slice_get, Table, table, tie_keys, tied_by, TiedBy, value_for, where_holds}
-use Rattle.std.specs.List.{AllByRecursion as Every, filter, list_any}
+use Rattle.std.proofs.Common.{◌≡◌, ℕ, ◌==◌, nat_eq, Bool, true, false, List, [], Option, Some, None, refl, sym, ap, subst, ◌∙◌}
+use Rattle.ss_names_laws.proofs.Common.{Attribute, bytes_decides, declarations, Declared, define_sets, DefinedOrder, Discipline, discipline, disciplines, entry_of_key, eqb-true, firsts_once, keys_of, Line, NameBytes, NamedKey, not-false, ordered, OrderTree, place_from, place_in, PreambleTree, ProgramTree, rank_key, rank_keys, ranked, ranked_by, RankedBy, RankKey, refusal_of_declarations, ruled, same_name, same_Some, Set, SetRule, slice_get, Table, table, tie_keys, tied_by, TiedBy, value_for, where_holds}
+use Rattle.std.specs.List.{AllByRecursion as Every, filter}
 use Rattle.ss_names.specs.Entries.{class_by, classes, given_by, set_names, set_of, order_by, rank_key_by, tie_key_by}
 use Rattle.ss_tables_rules.specs.Rules.{broken_in, is_attribute_of, is_class_of}
 use Rattle.ss_base.specs.declared.layout.Discipline.TheVariants as disciplines_of
@@ -9,14 +9,14 @@ use Rattle.ss_names_declarations.specs.declared.declaration.Declared.TheVariants
 use Rattle.ss_names_declarations.specs.declared.declaration.SetRule.TheVariants as rules
 use Rattle.ss_tables_rules.specs.declared.error.TableError.TheVariants as errors
 use Rattle.ss_tables_rules.specs.Keys.{class_of, is_foreign, is_foreign_to_any, member_named, member_of, misranked_in, misranked_key}
-use Rattle.ss_names_laws.proofs.Each.{at_place, each_empty, every_image, every_passed, every_piece}
+use Rattle.ss_names_laws.proofs.Each.{at_place, each_empty, every_image, every_passed, none_of_any}
 use Rattle.ss_names_laws.proofs.NameTable.{value_among}
 use Rattle.ss_names_laws.proofs.Items.{Among, at_item}
 use Rattle.ss_names_laws.proofs.Kept.{none_misranked}
 use Rattle.ss_names_laws.proofs.Owners.{IsOwned, all_owned}
 use Rattle.ss_names_laws.proofs.Results.{each_made, goes}
-use Rattle.ss_names_laws.proofs.Sources.{IsMade, Made, all_made}
-use Rattle.ss_names_laws.proofs.Unbroken.{every_given, fits, none_breaks}
+use Rattle.ss_names_laws.proofs.Sources.{IsMade, every_made}
+use Rattle.ss_names_laws.proofs.Unbroken.{every_given, holds_unless, none_breaks}
 
 -- ---- one key
 
@@ -39,10 +39,6 @@ own_key (Some a) class h = (a, refl, not-false (nat_eq a.class class) h)
 tied_key : (o : Option Attribute) (class : ℕ) → is_class_of o (Some class) ≡ true → (a : Attribute) × (o ≡ Some a) × (nat_eq a.class class ≡ true)
 tied_key None class h = absurd cc
 tied_key (Some a) class h = (a, refl, h)
-
-none_of_any : {A : Type 0} (test : A → Bool) (xs : List A) → list_any test xs ≡ false → Every (λ x. test x ≡ false) xs
-none_of_any test [] h = tt
-none_of_any test (x ∷ xs) h = let parts = or_parts (test x) (list_any test xs) h in (parts.0, none_of_any test xs parts.1)
 
 -- ---- where orders and keys come from
 
@@ -77,14 +73,11 @@ same_sets line other sets more order keys o e f =
     let same : define_sets line sets order ≡ define_sets other more (ranked keys) = same_Some (define_sets line sets order) (define_sets other more (ranked keys)) (sym e ∙ f) in
     cc
 
-ranked_step : (t : Table) (member : Option ℕ) (class statement : ℕ) (keys : List RankKey) → member ≡ Some class → rank_keys t class statement ≡ Some keys → ruled t member statement rules.Ranked ≡ Some (disciplines_of.Ranked keys)
-ranked_step t member class statement keys e h = rw (e, h) refl
-
 module _ (p : ProgramTree) (kept : refusal_of_declarations p ≡ None) where
   -- ---- disciplines
 
   all_ranked : Every (IsRanked p) (table p).rank_keys
-  all_ranked = every_piece (IsRanked p) (λ (x : Declaration). rank_key_by x.what) (declarations p) (λ x a. rank_key_made p x.what (at_item (Made p) (declarations p) x (all_made p) a))
+  all_ranked = every_made p (IsRanked p) rank_key_by (rank_key_made p)
 
   -- a key of the DEFINE of a set is an attribute of the class of its members
   key_owned : (name : NameBytes) (set : IsOwned p name) (o : DefinedOrder) → IsOrdered p (name, o) → (k : RankedBy) → IsRanked p k → nat_eq k.statement o.statement ≡ true → IsKeyOf (table p) set.member k.attribute
@@ -112,7 +105,7 @@ module _ (p : ProgramTree) (kept : refusal_of_declarations p ≡ None) where
   by_rule name set o made rules.Lifo = (disciplines_of.Lifo, refl)
   by_rule name set o made rules.Ranked =
       let keys = keys_there name set o made in
-      (disciplines_of.Ranked keys.0, ranked_step (table p) (set_of (classes (declarations p)) (declarations p) name).member set.member o.statement keys.0 set.filled keys.1)
+      (disciplines_of.Ranked keys.0, goes _ _ set.member (disciplines_of.Ranked keys.0) set.filled (goes _ _ keys.0 (disciplines_of.Ranked keys.0) keys.1 refl))
 
   discipline_there : (name : NameBytes) → IsOwned p name → (x : Discipline) × (discipline (table p) (set_of (classes (declarations p)) (declarations p) name) ≡ Some x) × Unit {0}
   discipline_there name set = by (value_for (given_by order_by (declarations p)) name) refl
@@ -120,7 +113,7 @@ module _ (p : ProgramTree) (kept : refusal_of_declarations p ≡ None) where
       by : (o : Option DefinedOrder) → value_for (given_by order_by (declarations p)) name ≡ o → (x : Discipline) × (ordered (table p) (set_of (classes (declarations p)) (declarations p) name).member o ≡ Some x) × Unit {0}
       by None is = (disciplines_of.Fifo, refl, tt)
       by (Some o) is =
-          let orders = every_piece (IsOrdered p) (λ (x : Declaration). order_by x.what) (declarations p) (λ x a. order_made p x.what (at_item (Made p) (declarations p) x (all_made p) a)) in
+          let orders = every_made p (IsOrdered p) order_by (order_made p) in
           let made = at_item (IsOrdered p) (given_by order_by (declarations p)) (name, o) orders (value_among (given_by order_by (declarations p)) name o is) in
           let found = by_rule name set o made o.rule in
           (found.0, found.1, tt)
@@ -136,7 +129,7 @@ module _ (p : ProgramTree) (kept : refusal_of_declarations p ≡ None) where
   -- ---- ties
 
   tie_says : (line : Line) (w : Declared) → broken_in (table p) line w ≡ None → Every (λ (k : TiedBy). is_attribute_of (table p) k.class k.attribute ≡ true) (tie_key_by w)
-  tie_says line (d.TieKey class attribute high) h = (fits (is_attribute_of (table p) class attribute) (errors.TieKey line) h, tt)
+  tie_says line (d.TieKey class attribute high) h = (holds_unless (is_attribute_of (table p) class attribute) (errors.TieKey line) h, tt)
   tie_says line _ h = tt
 
   pub ties_there : (class : ℕ) (name : NameBytes) → slice_get (keys_of (table p).classes) class ≡ Some name → (keys : List RankKey) × (tie_keys (table p) class name ≡ Some keys)

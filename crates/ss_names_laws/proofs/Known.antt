@@ -1,16 +1,16 @@
 -- What a table has of a name, by what the name means.
 use Rattle.std.proofs.Common.{◌≡◌, ℕ, ◌<◌, Bool, true, false, cond, List, length, Option, Some, None, option_map, is_some, ⊎_elim, refl, sym, ap, subst, ◌∙◌}
-use Rattle.ss_names_laws.proofs.Common.{ClassKind, count_name, Declaration, Declared, entry_if, Global, Local, Meaning, Mode, NameBytes, Permanent, place_among, place_in, same_Some, value_for, value_mode}
+use Rattle.ss_names_laws.proofs.Common.{ClassKind, count_name, Declaration, Declared, entry_if, Global, Meaning, Mode, NameBytes, Permanent, place_among, place_in, same_Some, value_for, value_mode}
 use Rattle.ss_names.specs.Table.{declares, numbered, Table, attribute_meaning, class_meaning, class_entry, count_meaning, count_entry, fold_of, meanings, set_meanings, variable_meaning}
 use Rattle.ss_names_declarations.specs.declared.declaration.Declared.TheVariants as d
 use Rattle.ss_names.specs.declared.meaning.Meaning.TheVariants as m
-use Rattle.ss_names_laws.proofs.NameTable.{entry_from, mapped, place_below, value_declared}
+use Rattle.ss_names_laws.proofs.NameTable.{entry_from, place_below, value_declared}
 use Rattle.ss_names_laws.proofs.Items.{Among, at_item, in_one_of}
+use Rattle.ss_names_laws.proofs.Steps.{mapped}
 
 -- what a table has of a name that is declared as this
 abbrev pub IsKnown : Table → NameBytes → Meaning → Type 0
 IsKnown t name (m.Variable (Global k) mode) = place_in t.variables name ≡ Some k
-IsKnown t name (m.Variable (Local k) mode) = ⊥
 IsKnown t name (m.Class class kind variable) = (place_in t.classes name ≡ Some class) × (value_for t.classes name ≡ Some kind) × (place_in t.variables name ≡ Some variable)
 IsKnown t name (m.Count count) =
     (class : NameBytes) × (count_name class ≡ name) × (place_in t.classes class ≡ Some count.class) × (value_for t.classes class ≡ Some Permanent) × (place_in t.variables name ≡ Some count.variable)
@@ -20,8 +20,7 @@ IsKnown t name (m.OfSet query set) = set < length t.set_names
 IsKnown t name (m.OfMember query set) = set < length t.set_names
 IsKnown t name (m.Statistic fold k) = (subject : NameBytes) × (place_in t.histories subject ≡ Some k)
 IsKnown t name (m.Routine k) = place_in t.routines name ≡ Some k
-IsKnown t name m.Clock = ⊥
-IsKnown t name m.NoticeTime = ⊥
+IsKnown t name _ = ⊥
 
 module _ (t : Table) (n name : NameBytes) (meaning : Meaning) where
   class_known : (a : Option ℕ) (b : Option ClassKind) (c : Option ℕ) → place_in t.classes n ≡ a → value_for t.classes n ≡ b → place_in t.variables n ≡ c → n ≡ name → class_meaning a b c ≡ Some meaning → IsKnown t name meaning

@@ -11,8 +11,8 @@ pub mod Parts
 mod Meanings
 pub mod Each
 mod Names
-mod Unbroken
-mod Sources
+pub mod Unbroken
+pub mod Sources
 mod Limits
 mod Owners
 pub mod Results
@@ -23,4 +23,4 @@ mod Typed
 mod Bodies
 mod Locals
 mod Parameters
-mod Routines
+pub mod Routines

@@ -6,9 +6,9 @@ use Rattle.std.proofs.lemmas.Bool.{cases_lt, eqb-true, leb-false, not-true}
 use Rattle.ss_tables_rules.specs.Rules.{broken_in, field_number, has_member, has_owner, is_too_many, set_by_name}
 use Rattle.ss_names_declarations.specs.declared.declaration.Declared.TheVariants as d
 use Rattle.ss_tables_rules.specs.declared.error.TableError.TheVariants as errors
-use Rattle.ss_names_laws.proofs.Each.{at_place, every_first, every_if, from_places}
-use Rattle.ss_names_laws.proofs.Names.{entry_of, every_entry, once_as_entries}
-use Rattle.ss_names_laws.proofs.Unbroken.{every_given, fits, two_fit}
+use Rattle.ss_names_laws.proofs.Each.{at_place, every_first, every_if, every_named, from_places}
+use Rattle.ss_names_laws.proofs.Names.{entry_of, once_as_entries}
+use Rattle.ss_names_laws.proofs.Unbroken.{every_given, holds_unless, two_fit}
 
 abbrev IsFew : Option ℕ → Type 0
 IsFew o = not (is_too_many o) ≡ true
@@ -32,7 +32,7 @@ few_entries {V = V} es once h = ⊎_elim
 
 module _ (t : Table) (line : Line) where
   class_few : (w : Declared) → broken_in t line w ≡ None → Every (λ (e : NameBytes × ClassKind). IsFew (place_in t.classes e.0)) (class_by w)
-  class_few (d.Class name kind) h = (fits (not (is_too_many (place_in t.classes name))) (errors.TooMany line) h, tt)
+  class_few (d.Class name kind) h = (holds_unless (not (is_too_many (place_in t.classes name))) (errors.TooMany line) h, tt)
   class_few _ h = tt
 
   set_few : (w : Declared) → broken_in t line w ≡ None → Every (λ (name : NameBytes). IsFew (place_among t.set_names name)) (set_by w)
@@ -90,7 +90,7 @@ module _ (p : ProgramTree) (kept : refusal_of_declarations p ≡ None) where
       let all = given_by set_by ds in
       let es = first_entries (map entry_of all) in
       let IsOfFew = λ (names : List NameBytes) (e : NameBytes × NameBytes). IsFew (place_among names e.0) in
-      let each = every_entry (λ (name : NameBytes). IsFew (place_among (table p).set_names name)) all (every_given p kept (λ (name : NameBytes). IsFew (place_among (table p).set_names name)) set_by (set_few (table p))) in
+      let each = every_named (λ (name : NameBytes). IsFew (place_among (table p).set_names name)) entry_of (λ name k. k) all (every_given p kept (λ (name : NameBytes). IsFew (place_among (table p).set_names name)) set_by (set_few (table p))) in
       let entries : length es ≤ 64 = few_entries es (firsts_once (map entry_of all)) (subst (λ (names : List NameBytes). Every (IsOfFew names) es) (once_as_entries all) each) in
       let names : length (set_names ds) ≡ length (keys_of es) = ap length (once_as_entries all) in
       omega (arith, entries, names, length-map (set_names ds) (set_of (classes ds) ds), length-map es (λ (e : NameBytes × NameBytes). e.0))

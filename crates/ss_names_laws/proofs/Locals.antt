@@ -2,33 +2,30 @@
 use Rattle.std.proofs.Common.{◌≡◌, ℕ, Bool, true, false, List, [], ◌++◌, length, map, Option, Some, None, option_and_then, refl, sym, ap, subst, ◌∙◌}
 use Rattle.std.specs.Prelude.{not, ◌&&◌, ◌==◌, is_none, is_some, slice_get}
 use Rattle.std.specs.List.{AllByRecursion as Every, flat_map}
-use Rattle.std.specs.Map.{lookup, values_of}
+use Rattle.std.specs.Map.{lookup}
 use Rattle.ss_names_laws.proofs.Common.{as_attribute, cond_some, Declaration, DefinitionTree, event, first_entries, firsts_once, flat_map_from, in_body, in_definition, in_kind, in_places, in_preamble_statement, in_section, in_section_head, Line, local_declaration, main, Meaning, Mode, NameBytes, option_or, parameter_declaration, place_in, ProgramTree, refusal_of_declarations, Role, routine, same_name, same_Some, SectionKindTree, SectionTree, Table, table, there, upto, Use, Used, uses, value_at, value_by_place, value_for, value_from_place}
 use Rattle.std.proofs.lemmas.Bool.{and_parts, cond-false}
 use Rattle.ss_names_scopes.specs.Locals.{locals_of, Moded, defined, is_local_place, may_be_variable, local_of, local_place, local_used, locals, moded_in}
 use Rattle.ss_tables_rules.specs.Rules.{broken_by, has_no_mode, is_real, lacks_mode, may_be_hidden, unmoded_in, unmoded_use}
 use Rattle.ss_tree.specs.declared.expression.Designator.{Designator}
 use Rattle.ss_tree.specs.declared.expression.Designator.TheVariants as designators
-use Rattle.ss_names_uses.specs.declared.used.Used.TheVariants.{Parameter, Local, Place}
+use Rattle.ss_names_uses.specs.declared.used.Used.TheVariants.{Place}
 use Rattle.ss_names_uses.specs.Uses as used
 use Rattle.ss_tables_rules.specs.declared.error.TableError.TheVariants as errors
 use Rattle.ss_names_scopes.specs.Scopes.{local_mode}
 use Rattle.ss_names_meaning.specs.Resolved.{local_modes}
 use Rattle.ss_names_laws.proofs.Bodies.{IsSilent, body_silent, declares_local, places}
-use Rattle.ss_names_laws.proofs.Each.{at_number, at_place, each_empty, every_first, every_image, every_listed, every_piece, in_parts, joined}
+use Rattle.ss_names_laws.proofs.Each.{at_number, at_place, each_empty, every_first, every_image, every_listed, every_named, every_piece, in_parts, joined}
 use Rattle.ss_names_laws.proofs.Items.{at_item, each_item, in_image, in_pieces}
 use Rattle.ss_names_laws.proofs.Kept.{none_broken, none_unmoded}
 use Rattle.ss_names_laws.proofs.Results.{each_made, upto_every}
-use Rattle.ss_names_laws.proofs.Unbroken.{fits, none_breaks, two_fit}
+use Rattle.ss_names_laws.proofs.Unbroken.{holds_unless, none_breaks, two_fit}
 
 -- ---- entries
 
 -- what holds of each name that uses name as a local variable holds of each local variable
 every_local : (t : Table) (P : NameBytes → Type 0) (us : List Use) → Every P (flat_map (local_used t) us) → Every (λ (e : NameBytes × Option Mode). P e.0) (locals t us)
-every_local t P us h =
-    let names = flat_map (local_used t) us in
-    let Q = λ (e : NameBytes × Option Mode). P e.0 in
-    every_first Q (map (moded_in t.usual (defined us)) names) (every_image Q (moded_in t.usual (defined us)) names (λ n a. at_item P names n h a))
+every_local t P us h = every_named P (moded_in t.usual (defined us)) (λ name k. k) (flat_map (local_used t) us) h
 
 some_mode : (o : Option Mode) (usual : Mode) → (mode : Mode) × (option_or o (Some usual) ≡ Some mode)
 some_mode None usual = (usual, refl)
@@ -63,12 +60,9 @@ module _ (p : ProgramTree) where
       let meant : Option Meaning = value_for (table p).meanings n in
       let found = cond_some (is_local_place (table p) role n subscripts) n name h in
       subst IsHidable found.1 (nothing_hidden meant (and_parts (may_be_variable role && (subscripts == 0)) (is_none meant) found.0).1)
-  of_place role designators.TimeV subscripts name h = absurd cc
-  of_place role designators.TimeA subscripts name h = absurd cc
+  of_place role _ subscripts name h = absurd cc
 
   of_silent : (w : Used) → declares_local w ≡ false → (name : NameBytes) → local_of (table p) w ≡ Some name → IsHidable name
-  of_silent (Parameter n) h name g = absurd cc
-  of_silent (Local n mode) h name g = absurd cc
   of_silent (Place role place subscripts is_number) h name g = of_place role place subscripts name g
   of_silent _ h name g = absurd cc
 
@@ -84,7 +78,7 @@ module _ (p : ProgramTree) (kept : refusal_of_declarations p ≡ None) where
   of_parameters : (line : Line) (k : ℕ) (names : List NameBytes) → Every Unbroken (map (parameter_declaration line k) names) → Every (Hides p) (map (used.parameter_use line) names)
   of_parameters line k names h =
       every_image (Hides p) (used.parameter_use line) names
-      (λ n a. this_one p n (fits (may_be_hidden (value_for (table p).meanings n)) (errors.Twice line) (at_item Unbroken (map (parameter_declaration line k) names) (parameter_declaration line k n) h (in_image (parameter_declaration line k) names n a))))
+      (λ n a. this_one p n (holds_unless (may_be_hidden (value_for (table p).meanings n)) (errors.Twice line) (at_item Unbroken (map (parameter_declaration line k) names) (parameter_declaration line k n) h (in_image (parameter_declaration line k) names n a))))
 
   of_head : (line : Line) (k : ℕ) (kind : SectionKindTree) → Every Unbroken (in_section_head line k kind) → Every (Hides p) (in_kind line kind)
   of_head line k main h = tt

@@ -1,21 +1,12 @@
 -- Entries of names, of which the first of each name counts, and the declarations that give them.
-use Rattle.std.proofs.Common.{◌≡◌, ℕ, ◌<◌, nat_lt, Bool, true, false, cond, List, [], ◌∷◌, length, Option, Some, None, option_map, inl, inr, refl, sym, ap, subst, ◌∙◌}
-use Rattle.std.specs.List.{position_or_len}
-use Rattle.ss_names_laws.proofs.Common.{bytes_decides, cond_some, Declaration, Declared, entry_if, first_entries, firsts_once, NameBytes, place_among, place_in, same_name, same_Some, slice_get_within, value_by_place, value_for, value_from_place, value_in_firsts}
-use Rattle.std.proofs.lemmas.Bool.{ltb-true}
+use Rattle.std.proofs.Common.{◌≡◌, ℕ, ◌<◌, Bool, true, false, cond, List, [], ◌∷◌, length, Option, Some, None, inl, inr, refl, sym, ap, ◌∙◌}
+use Rattle.ss_names_laws.proofs.Common.{bytes_decides, Declaration, Declared, entry_if, first_entries, firsts_once, NameBytes, place_among, place_in, same_name, same_Some, slice_get_within, value_by_place, value_for, value_from_place, value_in_firsts}
+use Rattle.std.proofs.lemmas.List.Quantifiers.{position-Some}
 use Rattle.ss_names.specs.Entries.{given_by, named_by}
 use Rattle.ss_names_laws.proofs.Items.{Among, among_at, from_pieces, in_pieces}
 
--- what an option holds, by what holds its image
-pub mapped : {A B : Type 0} (f : A → B) (o : Option A) (y : B) → option_map f o ≡ Some y → (x : A) × (o ≡ Some x) × (f x ≡ y)
-mapped f None y h = absurd cc
-mapped f (Some x) y h = (x, refl, same_Some (f x) y h)
-
 pub place_below : (names : List NameBytes) (name : NameBytes) (k : ℕ) → place_among names name ≡ Some k → k < length names
-place_below names name k h =
-    let n = position_or_len (same_name name) names in
-    let found = cond_some (nat_lt n (length names)) n k h in
-    subst (λ (j : ℕ). j < length names) found.1 (ltb-true n (length names) found.0)
+place_below names name k h = (position-Some (same_name name) names k [] h).0
 
 module _ {V : Type 0} where
   -- ---- single entries

@@ -1,6 +1,6 @@
 -- Each set has an owner and a class of members, which are there.
-use Rattle.std.proofs.Common.{◌≡◌, ℕ, nat_lt, not, Bool, true, false, List, [], length, get_or, Option, Some, None, option_map, is_some, refl, sym, ap, subst, ◌∙◌}
-use Rattle.ss_names_laws.proofs.Common.{bytes_decides, ClassKind, Declaration, declarations, Declared, Line, NameBytes, Owner, owns_among, place_among, place_in, ProgramTree, refusal_of_declarations, same_name, Set, slice_get, slice_get-get_or, slice_get-map, Table, table, value_for}
+use Rattle.std.proofs.Common.{◌≡◌, ℕ, nat_lt, not, Bool, true, false, List, [], length, get_or, Option, Some, None, option_map, refl, sym, ap, subst, ◌∙◌}
+use Rattle.ss_names_laws.proofs.Common.{bytes_decides, ClassKind, declarations, Declared, Line, NameBytes, Owner, owns_among, place_among, place_in, ProgramTree, refusal_of_declarations, same_name, Set, slice_get, slice_get-get_or, slice_get-map, Table, table, value_for}
 use Rattle.std.specs.List.{AllByRecursion as Every}
 use Rattle.std.proofs.lemmas.Bool.{both_ways, lt-ltb}
 use Rattle.std.proofs.lemmas.List.Quantifiers.{position-Some}
@@ -9,15 +9,11 @@ use Rattle.ss_tables_rules.specs.Rules.{broken_in, has_member, has_owner, is_too
 use Rattle.ss_base.specs.declared.layout.Owner.TheVariants as owners
 use Rattle.ss_names_declarations.specs.declared.declaration.Declared.TheVariants as d
 use Rattle.ss_tables_rules.specs.declared.error.TableError.TheVariants as errors
-use Rattle.ss_names_laws.proofs.Each.{every_if, every_piece}
-use Rattle.ss_names_laws.proofs.NameTable.{mapped, place_in_below, value_among}
-use Rattle.ss_names_laws.proofs.Items.{at_item}
+use Rattle.ss_names_laws.proofs.Each.{every_if}
+use Rattle.ss_names_laws.proofs.NameTable.{place_in_below}
 use Rattle.ss_names_laws.proofs.Names.{every_once}
-use Rattle.ss_names_laws.proofs.Unbroken.{every_given, two_fit}
-
-some_there : {A : Type 0} (o : Option A) → is_some o ≡ true → (x : A) × (o ≡ Some x)
-some_there None h = absurd cc
-some_there (Some x) h = (x, refl)
+use Rattle.ss_names_laws.proofs.Steps.{mapped, some_there}
+use Rattle.ss_names_laws.proofs.Unbroken.{every_given, given_so, two_fit}
 
 -- ---- owners and members are classes of the table
 
@@ -84,37 +80,30 @@ module _ (p : ProgramTree) (kept : refusal_of_declarations p ≡ None) where
 
   is_owned : (name : NameBytes) → has_owner (set_by_name (table p) name) ≡ true → has_member (set_by_name (table p) name) ≡ true → IsOwned p name
   is_owned name h g =
-      let ds = declarations p in
-      let cs = classes ds in
+      let cs = classes (declarations p) in
       let owner = owner_there name h in
       let member = member_there name g in
-      let owners_fit = every_piece (λ (e : NameBytes × Owner). owns_among (length cs) e.1 ≡ true) (λ (x : Declaration). owner_entry cs x.what) ds (λ x a. owner_fits cs x.what) in
-      let members_fit = every_piece (λ (e : NameBytes × ℕ). nat_lt e.1 (length cs) ≡ true) (λ (x : Declaration). member_by cs x.what) ds (λ x a. member_fits cs x.what) in
       record {
         owner = owner.0;
         member = member.0;
         known = known_set has_owner name refl h;
         owned = owner.1;
         filled = member.1;
-        owner_below = at_item (λ (e : NameBytes × Owner). owns_among (length cs) e.1 ≡ true) (given_by (owner_entry cs) ds) (name, owner.0) owners_fit (value_among (given_by (owner_entry cs) ds) name owner.0 owner.1);
-        member_below = at_item (λ (e : NameBytes × ℕ). nat_lt e.1 (length cs) ≡ true) (given_by (member_by cs) ds) (name, member.0) members_fit (value_among (given_by (member_by cs) ds) name member.0 member.1);
+        owner_below = given_so p kept (λ (e : NameBytes × Owner). owns_among (length cs) e.1 ≡ true) (owner_entry cs) (λ line w k. owner_fits cs w) name owner.0 owner.1;
+        member_below = given_so p kept (λ (e : NameBytes × ℕ). nat_lt e.1 (length cs) ≡ true) (member_by cs) (λ line w k. member_fits cs w) name member.0 member.1;
       }
 
   owner_of_filled : (name : NameBytes) → has_member (set_by_name (table p) name) ≡ true → has_owner (set_by_name (table p) name) ≡ true
   owner_of_filled name h =
-      let ds = declarations p in
-      let cs = classes ds in
+      let cs = classes (declarations p) in
       let member = member_there name h in
-      let P = λ (e : NameBytes × ℕ). has_owner (set_by_name (table p) e.0) ≡ true in
-      at_item P (given_by (member_by cs) ds) (name, member.0) (every_given p kept P (member_by cs) (member_says (table p) cs)) (value_among (given_by (member_by cs) ds) name member.0 member.1)
+      given_so p kept (λ (e : NameBytes × ℕ). has_owner (set_by_name (table p) e.0) ≡ true) (member_by cs) (member_says (table p) cs) name member.0 member.1
 
   member_of_owned : (name : NameBytes) → has_owner (set_by_name (table p) name) ≡ true → has_member (set_by_name (table p) name) ≡ true
   member_of_owned name h =
-      let ds = declarations p in
-      let cs = classes ds in
+      let cs = classes (declarations p) in
       let owner = owner_there name h in
-      let P = λ (e : NameBytes × Owner). has_member (set_by_name (table p) e.0) ≡ true in
-      at_item P (given_by (owner_entry cs) ds) (name, owner.0) (every_given p kept P (owner_entry cs) (owner_says (table p) cs)) (value_among (given_by (owner_entry cs) ds) name owner.0 owner.1)
+      given_so p kept (λ (e : NameBytes × Owner). has_member (set_by_name (table p) e.0) ≡ true) (owner_entry cs) (owner_says (table p) cs) name owner.0 owner.1
 
   owned_so : (line : Line) (w : Declared) → broken_in (table p) line w ≡ None → Every (IsOwned p) (set_by w)
   owned_so line (d.Owner set class) h =

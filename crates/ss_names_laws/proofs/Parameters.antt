@@ -6,6 +6,7 @@ use Rattle.ss_names_laws.proofs.Common.{as_attribute, at_line, Declaration, defi
 use Rattle.std.proofs.lemmas.Cmp.{nat_list_eq_equiv}
 use Rattle.std.proofs.lemmas.Grind.{flat_map-append}
 use Rattle.std.proofs.lemmas.List.Sums.{fold-append}
+use Rattle.std.proofs.Math.Seq.{take-append_seam}
 use Rattle.ss_names_declarations.specs.declared.declaration.Declared.TheVariants as d
 use Rattle.ss_names_uses.specs.Uses as used
 use Rattle.ss_tables_rules.specs.declared.once.Once.TheVariants as once
@@ -123,10 +124,6 @@ keys_moded : (usual : Option Mode) (modes : List (NameBytes × Mode)) (names : L
 keys_moded usual modes [] = refl
 keys_moded usual modes (n ∷ names) = ap (λ l. n ∷ l) (keys_moded usual modes names)
 
-take_front : {A : Type 0} (xs ys : List A) → take (length xs) (xs ++ ys) ≡ xs
-take_front [] ys = refl
-take_front (x ∷ xs) ys = ap (λ l. x ∷ l) (take_front xs ys)
-
 pub parameters_there : (p : ProgramTree) → refusal_of_declarations p ≡ None → (k : ℕ) (s : SectionTree) → slice_get p.sections k ≡ Some s →
     take (length (parameters_of s.kind)) (keys_of (locals_of (table p) s)) ≡ parameters_of s.kind
 parameters_there p kept k s at =
@@ -139,4 +136,4 @@ parameters_there p kept k s at =
     let all : keys_of (locals_of (table p) s) ≡ names ++ keys_of found.0 =
     ap (λ l. keys_of (first_entries (map moded l))) named.1 ∙ ap (λ l. keys_of (first_entries l)) (map-append moded names named.0) ∙ ap keys_of found.1
     ∙ keys_append first found.0 ∙ ap (λ l. l ++ keys_of found.0) keys in
-    ap (take (length names)) all ∙ take_front names (keys_of found.0)
+    ap (take (length names)) all ∙ take-append_seam names (keys_of found.0)

@@ -1,69 +1,46 @@
 -- The layout of a program that breaks no rule is there with all of its parts, and is well typed.
-use Rattle.std.proofs.Common.{◌≡◌, ◌≢◌, ℕ, ◌<◌, ◌==◌, Bool, false, List, [], length, get_or, Option, Some, None, option_map, option_and_then, refl, sym, ap, subst, ◌∙◌}
-use Rattle.ss_names_laws.proofs.Common.{Attribute, class_layout, classes, count_by, CountedClass, counts, declarations, declares, DefinedOrder, Discipline, discipline, disciplines, entry_of_key, eqb-true, given_by, Global, is_text, IsMeant, IsValidTable, keys_of, layout, Meaning, MemberCount, Mode, mode_of_attribute, NameBytes, numbered, OfAttribute, OfCount, OfVariable, ordered, Permanent, PlainClass, PlainLayout, ProgramTree, rank_key, rank_keys, ranked_by, RankedBy, RankKey, refusal_of_uses, resolved_layout, resolved_statistic, ResolvedLayout, ruled, same_name, same_Some, Set, set_layout, SetLayout, SetRule, slice_get, slice_get-map, slice_get_within, Statistic, statistics, Subject, subject_of, Table, table, tie_keys, tied_by, TiedBy, value_at, value_by_place, value_for, values_of}
+use Rattle.std.proofs.Common.{◌≡◌, ◌≢◌, ℕ, ◌==◌, Bool, false, List, length, Option, Some, None, option_map, option_and_then, refl, sym, ap, subst, ◌∙◌}
+use Rattle.ss_names_laws.proofs.Common.{Attribute, cond_some, count_by, CountedClass, counts, declarations, declares, DefinedOrder, Discipline, discipline, entry_of_key, eqb-true, given_by, Global, is_text, IsMeant, IsValidTable, keys_of, Meaning, MemberCount, Mode, NameBytes, numbered, OfAttribute, OfCount, OfVariable, ordered, Permanent, PlainClass, PlainLayout, ProgramTree, rank_key, rank_keys, ranked_by, RankedBy, RankKey, refusal_of_uses, resolved_statistic, ResolvedLayout, ruled, same_name, same_Some, Set, set_layout, SetLayout, SetRule, slice_get, slice_get-map, Statistic, Subject, subject_of, table, tie_keys, tied_by, TiedBy, value_for, values_of}
 use Rattle.std.specs.List.{AllZip, AllByRecursion as Every, filter}
-use Rattle.ss_base.specs.declared.layout.Mode.TheVariants.{Integer, Alpha}
-use Rattle.ss_names_meaning.specs.Answers.{each, upto, where_holds, ◌>>=◌}
+use Rattle.ss_base.specs.declared.layout.Mode.TheVariants.{Integer}
+use Rattle.ss_names_meaning.specs.Answers.{upto, where_holds}
 use Rattle.ss_base.specs.declared.layout.Discipline.TheVariants as orders_of
 use Rattle.ss_program.specs.Program.{Program}
 use Rattle.ss_program.specs.WellTyped as typed
 use Rattle.ss_names_declarations.specs.declared.declaration.SetRule.TheVariants as rules
 use Rattle.ss_names.specs.declared.meaning.Meaning.TheVariants as m
-use Rattle.ss_names_laws.specs.Laws.{HasLayout, IsWellLaid, LayoutsAreWellTyped, TablesAreThere}
-use Rattle.ss_names_laws.proofs.Attributes.{attribute_there}
+use Rattle.ss_names_laws.specs.Laws.{HasLayout, LayoutsAreWellTyped, TablesAreThere}
 use Rattle.ss_names_laws.proofs.Each.{at_place, every_piece}
-use Rattle.ss_names_laws.proofs.NameTable.{mapped, value_of_entry}
+use Rattle.ss_names_laws.proofs.NameTable.{value_of_entry}
 use Rattle.ss_names_laws.proofs.Items.{from_image}
 use Rattle.ss_names_laws.proofs.Keys.{disciplines_there, ties_there}
 use Rattle.ss_names_laws.proofs.Known.{name_known}
 use Rattle.ss_names_laws.proofs.Layouts.{layouts_are_there}
-use Rattle.ss_names_laws.proofs.Meanings.{tables_are_valid}
-use Rattle.ss_names_laws.proofs.Parts.{class_parts, laid_of, parts_of, subject_kept}
-use Rattle.ss_names_laws.proofs.Results.{each_every, each_zip, held}
+use Rattle.ss_names_laws.proofs.Meanings.{field_at, kind_at, tables_are_valid}
+use Rattle.ss_names_laws.proofs.Parts.{IsMadeOf, parts_of, set_parts, subject_kept}
+use Rattle.ss_names_laws.proofs.Results.{each_every, each_zip, goes}
 use Rattle.ss_names_laws.proofs.Statistics.{IsWatched, all_watched, statistics_there}
-use Rattle.ss_names_laws.proofs.Steps.{each_at, got, numbers_at}
+use Rattle.ss_names_laws.proofs.Steps.{got, mapped}
 
 -- ---- it is there
-
-all_there : (t : Table) (l : PlainLayout) (orders : List Discipline) (kept : List Statistic) → layout t ≡ Some l → disciplines t ≡ Some orders → statistics t ≡ Some kept → (x : ResolvedLayout) × (resolved_layout t ≡ Some x)
-all_there t l orders kept e f g =
-    let made : ResolvedLayout = record { layout = l; disciplines = orders; globals = values_of t.variables; counts = counts t; statistics = kept } in
-    (made, rw (e, f, g) refl)
 
 pub tables_are_there : TablesAreThere
 tables_are_there p kept used =
     let laid = layouts_are_there p kept in
     let orders = disciplines_there p kept in
     let stats = statistics_there p used in
-    all_there (table p) laid.0 orders.0 stats.0 laid.1 orders.1 stats.1
+    let made : ResolvedLayout = record { layout = laid.0; disciplines = orders.0; globals = values_of (table p).variables; counts = counts (table p); statistics = stats.0 } in
+    (made, goes _ _ laid.0 made laid.1 (goes _ _ orders.0 made orders.1 (goes _ _ stats.0 made stats.1 refl)))
 
 -- ---- it is well typed
 
--- the class of the members of a set that is laid out
-member_laid : (s : Set) (y : SetLayout) → set_layout s ≡ Some y → s.member ≡ Some y.member
-member_laid s y h =
-    let owner = got s.owner (λ owner. s.member >>= λ member. Some (record { owner = owner; member = member })) y h in
-    let member = got s.member (λ member. Some (record { owner = owner.0; member = member })) y owner.2 in
-    let made : SetLayout = record { owner = owner.0; member = member.0 } in
-    member.1 ∙ ap (λ (l : SetLayout). Some l.member) (same_Some made y member.2)
+module _ (p : ProgramTree) (laid : ResolvedLayout) (made : IsMadeOf (table p) laid) (r : Program) (h : HasLayout laid r) where
+  -- ---- fields
 
-module _ (p : ProgramTree) (cs : List PlainClass) (ss : List SetLayout) (orders : List Discipline) (stats : List Statistic) (are_classes : each (class_layout (table p)) (upto (length (table p).classes)) ≡ Some cs)
-    (r : Program) (h : HasLayout (laid_of (table p) cs ss orders stats) r) where
-  -- ---- classes and attributes
-
-  class_at : (class : ℕ) → class < length (table p).classes → (c : PlainClass) × (slice_get r.layout.classes class ≡ Some c) × (slice_get (values_of (table p).classes) class ≡ Some c.kind) × (each (mode_of_attribute (table p)) (get_or (table p).fields class []) ≡ Some c.fields)
-  class_at class lt =
-      let laid = numbers_at (class_layout (table p)) (length (table p).classes) cs class are_classes lt in
-      let parts = class_parts (table p) class laid.0 laid.2 in
-      (laid.0, ap (λ (l : PlainLayout). slice_get l.classes class) h.layout ∙ laid.1, parts.0, parts.1)
-
-  field_at : (name : NameBytes) (a : Attribute) → value_for (table p).attributes name ≡ Some a → typed.field_mode r a.class a.field ≡ Some a.mode
-  field_at name a is =
-      let place = attribute_there (declarations p) name a is in
-      let c = class_at a.class place.0 in
-      let mode = each_at (mode_of_attribute (table p)) (get_or (table p).fields a.class []) c.0.fields a.field name c.3 place.1 in
-      let known : mode_of_attribute (table p) name ≡ Some a.mode = ap (λ (o : Option Attribute). option_map (λ (x : Attribute). x.mode) o) is in
-      ap (λ (o : Option PlainClass). option_and_then (λ modes. slice_get modes a.field) (option_map (λ (x : PlainClass). x.fields) o)) c.1 ∙ mode.1 ∙ sym mode.2 ∙ known
+  field_good : (class field : ℕ) (mode : Mode) → IsMeant (table p) laid (m.Attribute class field mode) → typed.field_mode r class field ≡ Some mode
+  field_good class field mode i =
+      let at : slice_get r.layout.classes class ≡ Some i.0 = ap (λ (l : PlainLayout). slice_get l.classes class) h.layout ∙ i.1 in
+      ap (λ (o : Option PlainClass). option_and_then (λ modes. slice_get modes field) (option_map (λ (c : PlainClass). c.fields) o)) at ∙ i.2
 
   -- ---- keys
 
@@ -73,11 +50,12 @@ module _ (p : ProgramTree) (cs : List PlainClass) (ss : List SetLayout) (orders 
   key_good : (class : ℕ) (high : Bool) (name : NameBytes) (key : RankKey) → rank_key (table p) class high name ≡ Some key → IsField class key
   key_good class high name key e =
       let found = got (value_for (table p).attributes name) (λ (a : Attribute). where_holds (a.class == class) (record { field = a.field; high = high })) key e in
-      let made : RankKey = record { field = found.0.field; high = high } in
-      let own = held (found.0.class == class) made key found.2 in (
+      let said : RankKey = record { field = found.0.field; high = high } in
+      let own = cond_some (found.0.class == class) said key found.2 in (
         found.0.mode,
         subst (λ (c : ℕ). typed.field_mode r c key.field ≡ Some found.0.mode) (eqb-true found.0.class class own.0)
-            (subst (λ (k : RankKey). typed.field_mode r found.0.class k.field ≡ Some found.0.mode) own.1 (field_at name found.0 found.1)),
+            (subst (λ (k : RankKey). typed.field_mode r found.0.class k.field ≡ Some found.0.mode) own.1
+            (field_good found.0.class found.0.field found.0.mode (field_at p laid made name found.0 found.1))),
       )
 
   ties_good : (class : ℕ) (name : NameBytes) (keys : List RankKey) → tie_keys (table p) class name ≡ Some keys → typed.AreTypedKeys r class keys
@@ -99,52 +77,47 @@ module _ (p : ProgramTree) (cs : List PlainClass) (ss : List SetLayout) (orders 
   ordered_good y None x e = subst (typed.IsTypedDiscipline r y) (same_Some orders_of.Fifo x e) tt
   ordered_good y (Some o) x e = ruled_good y o.statement o.rule x e
 
-  disciplines_good : each set_layout (table p).sets ≡ Some ss → disciplines (table p) ≡ Some orders → AllZip (typed.IsTypedDiscipline r) r.layout.sets r.disciplines
-  disciplines_good e f =
-      let good = each_zip set_layout (discipline (table p)) (typed.IsTypedDiscipline r) (table p).sets ss orders e f
-      (λ (s : Set) y x is ordered_so. ordered_good y s.order x (subst (λ (o : Option ℕ). ordered (table p) o s.order ≡ Some x) (member_laid s y is) ordered_so)) in
+  disciplines_good : AllZip (typed.IsTypedDiscipline r) r.layout.sets r.disciplines
+  disciplines_good =
+      let good = each_zip set_layout (discipline (table p)) (typed.IsTypedDiscipline r) (table p).sets laid.layout.sets laid.disciplines made.are_sets made.are_orders
+      (λ (s : Set) y x is ordered_so. ordered_good y s.order x (subst (λ (o : Option ℕ). ordered (table p) o s.order ≡ Some x) (set_parts s y is).1 ordered_so)) in
       subst (λ (l : List SetLayout). AllZip (typed.IsTypedDiscipline r) l r.disciplines) (sym (ap (λ (l : PlainLayout). l.sets) h.layout))
-      (subst (AllZip (typed.IsTypedDiscipline r) ss) (sym h.disciplines) good)
+      (subst (AllZip (typed.IsTypedDiscipline r) laid.layout.sets) (sym h.disciplines) good)
 
   -- ---- counts and statistics
 
-  count_good : IsValidTable (table p) (laid_of (table p) cs ss orders stats) → (name : NameBytes) (meaning : Meaning) → value_for (table p).meanings name ≡ Some meaning → Every (typed.IsTypedCount r) (count_by meaning)
+  count_good : IsValidTable (table p) laid → (name : NameBytes) (meaning : Meaning) → value_for (table p).meanings name ≡ Some meaning → Every (typed.IsTypedCount r) (count_by meaning)
   count_good valid name (m.Count count) is =
       let known = name_known (declarations p) name (m.Count count) is in
-      let class = value_by_place (classes (declarations p)) known.0 count.class known.2 in
-      let c = class_at count.class (slice_get_within (classes (declarations p)) count.class (known.0, class.0) class.2) in
-      let kind : Some c.0.kind ≡ Some Permanent = sym c.2 ∙ value_at (classes (declarations p)) count.class known.0 class.0 class.2 ∙ sym class.1 ∙ known.3 in
+      let c = kind_at p laid made known.0 count.class Permanent known.2 known.3 in
+      let at : slice_get r.layout.classes count.class ≡ Some c.0 = ap (λ (l : PlainLayout). slice_get l.classes count.class) h.layout ∙ c.1 in
       let whole = (valid.meanings name (m.Count count) is).1 in
-      ((ap (option_map (λ (x : PlainClass). x.kind)) c.1 ∙ kind, ap (λ (modes : List Mode). slice_get modes count.variable) h.globals ∙ whole), tt)
+      ((ap (option_map (λ (x : PlainClass). x.kind)) at ∙ ap Some c.2, ap (λ (modes : List Mode). slice_get modes count.variable) h.globals ∙ whole), tt)
   count_good valid name _ is = tt
 
-  counts_good : IsValidTable (table p) (laid_of (table p) cs ss orders stats) → Every (typed.IsTypedCount r) r.counts
+  counts_good : IsValidTable (table p) laid → Every (typed.IsTypedCount r) r.counts
   counts_good valid =
       let ms = (table p).meanings in
       let ds = declarations p in
-      subst (Every (typed.IsTypedCount r)) (sym h.counts) (every_piece (typed.IsTypedCount r) count_by (values_of ms) (λ meaning a.
+      subst (Every (typed.IsTypedCount r)) (sym (h.counts ∙ made.are_counts)) (every_piece (typed.IsTypedCount r) count_by (values_of ms) (λ meaning a.
       let e = from_image (λ (x : NameBytes × Meaning). x.1) ms meaning a in
       count_good valid e.0.0 meaning (value_of_entry (given_by (declares (numbered ds)) ds) e.0.0 e.0.1 e.1 ∙ ap Some e.2)))
 
-  subject_good : (meaning : Meaning) (subject : Subject) → IsMeant (table p) (laid_of (table p) cs ss orders stats) meaning → is_text (Some meaning) ≡ false → subject_of (Some meaning) ≡ Some subject → typed.IsTypedSubject r subject
+  subject_good : (meaning : Meaning) (subject : Subject) → IsMeant (table p) laid meaning → is_text (Some meaning) ≡ false → subject_of (Some meaning) ≡ Some subject → typed.IsTypedSubject r subject
   subject_good (m.Variable (Global k) Integer) subject known whole e =
       let plain = subst (Every (λ (c : CountedClass). c.variable ≢ k)) (sym h.counts) known.1 in
       subst (typed.IsTypedSubject r) (same_Some (OfVariable k) subject e) (ap (λ (modes : List Mode). slice_get modes k) h.globals ∙ known.0, plain)
-  subject_good (m.Variable (Global k) Alpha) subject known whole e = absurd cc
   subject_good (m.Attribute class field Integer) subject known whole e =
-      let at : slice_get r.layout.classes class ≡ Some known.0 = ap (λ (l : PlainLayout). slice_get l.classes class) h.layout ∙ known.1 in
-      subst (typed.IsTypedSubject r) (same_Some (OfAttribute class field) subject e)
-      (ap (λ (o : Option PlainClass). option_and_then (λ modes. slice_get modes field) (option_map (λ (x : PlainClass). x.fields) o)) at ∙ known.2)
-  subject_good (m.Attribute class field Alpha) subject known whole e = absurd cc
+      subst (typed.IsTypedSubject r) (same_Some (OfAttribute class field) subject e) (field_good class field Integer known)
   subject_good (m.OfSet MemberCount set) subject known whole e =
       subst (typed.IsTypedSubject r) (same_Some (OfCount set) subject e) (known.laid, ap (λ (l : PlainLayout). slice_get l.sets set) h.layout ∙ known.laid_there)
   subject_good _ subject known whole e = absurd cc
 
-  statistics_good : refusal_of_uses p ≡ None → IsValidTable (table p) (laid_of (table p) cs ss orders stats) → statistics (table p) ≡ Some stats → Every (λ (s : Statistic). typed.IsTypedSubject r s.subject) r.statistics
-  statistics_good used valid e =
+  statistics_good : refusal_of_uses p ≡ None → IsValidTable (table p) laid → Every (λ (s : Statistic). typed.IsTypedSubject r s.subject) r.statistics
+  statistics_good used valid =
       let t = table p in
       let of_name : NameBytes → Option Subject = λ n. subject_of (value_for t.meanings n) in
-      let good = each_every (resolved_statistic t) (λ (s : Statistic). typed.IsTypedSubject r s.subject) (upto (length t.histories)) stats e (λ n s kept.
+      let good = each_every (resolved_statistic t) (λ (s : Statistic). typed.IsTypedSubject r s.subject) (upto (length t.histories)) laid.statistics made.are_statistics (λ n s kept.
       let named = mapped of_name (slice_get (keys_of t.histories) n) (Some s.subject) (sym (slice_get-map of_name (keys_of t.histories) n) ∙ subject_kept t n s kept) in
       let entry = entry_of_key t.histories n named.0 named.1 in
       let whole = at_place (IsWatched p used) t.histories n (named.0, entry.0) (all_watched p used) entry.1 in
@@ -152,17 +125,14 @@ module _ (p : ProgramTree) (cs : List PlainClass) (ss : List SetLayout) (orders 
       subst (Every (λ (s : Statistic). typed.IsTypedSubject r s.subject)) (sym h.statistics) good
 
 pub layouts_are_well_typed : LayoutsAreWellTyped
-layouts_are_well_typed p x r kept used laid =
-    let t = table p in
-    let made = parts_of t x laid in
-    let same = made.8 in
-    let valid = subst (IsValidTable t) (sym same) (tables_are_valid p x kept laid) in
-    subst (λ (y : ResolvedLayout). HasLayout y r → IsWellLaid p r) same (λ (h : HasLayout (laid_of t made.0 made.1 made.2 made.3) r).
+layouts_are_well_typed p x r kept used laid h =
+    let made = parts_of (table p) x laid in
+    let valid = tables_are_valid p x kept laid in
     record {
-      disciplines = disciplines_good p made.0 made.1 made.2 made.3 made.4 r h made.5 made.6;
-      counts = counts_good p made.0 made.1 made.2 made.3 made.4 r h valid;
-      statistics = statistics_good p made.0 made.1 made.2 made.3 made.4 r h used valid made.7;
+      disciplines = disciplines_good p x made r h;
+      counts = counts_good p x made r h valid;
+      statistics = statistics_good p x made r h used valid;
       ties = λ class name at.
           let keys = ties_there p kept class name at in
-          (keys.0, keys.1, ties_good p made.0 made.1 made.2 made.3 made.4 r h class name keys.0 keys.1);
-    })
+          (keys.0, keys.1, ties_good p x made r h class name keys.0 keys.1);
+    }

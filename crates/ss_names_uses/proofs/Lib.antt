@@ -1,1 +1,2 @@
+mod Common
 mod Rows

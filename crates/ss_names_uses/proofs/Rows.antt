@@ -1,10 +1,9 @@
 -- The uses of rows of the tree, by rows as lists, and lists that a loop builds.
-use Rattle.std.proofs.Common.{◌≡◌, append_assoc, Bool, true, false, ℕ, suc, ◌+◌, ◌<◌, List, [], ◌∷◌, ◌++◌, length, get_or, take, map, refl, sym, ap, ◌∙◌, arith}
-use Rattle.std.proofs.lemmas.List.{append-nil, take_more, map-append, flat_map_more, length-map, length-take-le}
-use Rattle.std.specs.List.{flat_map}
+use Rattle.std.proofs.Common.{◌≡◌, append_assoc, Bool, true, false, ℕ, suc, ◌+◌, List, [], ◌∷◌, ◌++◌, length, map, refl, sym, ap, ◌∙◌, arith}
+use Rattle.ss_names_uses.proofs.Common.{count, expression_row, ExpressionTree, flat_map, in_body, in_expression, in_inner, in_item, in_named, in_numbers, in_places, in_row, in_statement, in_terms, place_use, row_length, Sign, statement_row, StatementTree, term_row, view_expression_tree, view_named, view_statement_tree, view_term}
+use Rattle.std.proofs.lemmas.List.{append-nil}
 use Rattle.std.specs.Global.{Vec, Box}
 use Rattle.ss_base.specs.declared.line.Line.{Line}
-use Rattle.ss_base.specs.declared.words.Sign.{Sign}
 use Rattle.ss_tree.specs.declared.expression.Function.{Function}
 use Rattle.ss_tree.specs.declared.expression.Named.{Named}
 use Rattle.ss_tree.specs.declared.expression.Term.{Term}
@@ -16,14 +15,11 @@ use Rattle.ss_tree.specs.declared.head.LoopHead.{LoopHead}
 use Rattle.ss_tree.specs.declared.statement.FindOutcome.{FindOutcome}
 use Rattle.ss_tree.specs.declared.statement.Statement.{Statement}
 use Rattle.ss_tree.specs.declared.statement.Statement.TheVariants as statements
-use Rattle.ss_tree.specs.Tree.{ExpressionTree, StatementTree, expression_row, term_row, statement_row}
-use Rattle.ss_tree.specs.View.{view_expression_tree, view_named, view_statement_tree, view_term}
 use Rattle.ss_tree.specs.Views.{view_named_made, view_call_made, view_product_made, view_sum_made, view_if_tree_made, view_loop_tree_made, view_find_if_made}
 use Rattle.ss_names_uses.specs.declared.used.Role.{Role}
 use Rattle.ss_names_uses.specs.declared.used.Role.TheVariants as roles
 use Rattle.ss_names_uses.specs.declared.used.CountNeed.TheVariants as counts
 use Rattle.ss_names_uses.specs.declared.used.Use.{Use}
-use Rattle.ss_names_uses.specs.Uses.{row_length, place_use, count, in_expression, in_numbers, in_terms, in_named, in_item, in_places, in_itself, in_inner, in_row, in_statement, in_body}
 
 -- ---- rows
 
@@ -75,25 +71,9 @@ in_sum_made line b e v =
 pub item_named : (line : Line) (n : Named) → in_item line (view_expression_tree (variants.Named n)) ≡ in_named line roles.Item false (view_named n)
 item_named line n = ap (in_item line) (view_named_made n)
 
--- ---- the next of a list
-
-next_taken : {X Y : Type 0} (f : X → Y) (xs : List X) (i : ℕ) (x : X) → i < length xs → x ≡ get_or xs i x → map f (take (i + 1) xs) ≡ map f (take i xs) ++ f x ∷ []
-next_taken f xs i x lt e =
-    ap (map f) (take_more xs i x lt) ∙ map-append f (take i xs) (get_or xs i x ∷ []) ∙ ap (λ y. map f (take i xs) ++ f y ∷ []) (sym e)
-
--- the one use of one more of a list comes last
-pub next_one : {X A : Type 0} (f : X → A) (xs : List X) (i : ℕ) (x : X) (old now new : List A) → i < length xs → x ≡ get_or xs i x → now ≡ old ++ map f (take i xs) → new ≡ now ++ f x ∷ [] → new ≡ old ++ map f (take (i + 1) xs)
-next_one f xs i x old now new lt is h e =
-    e ∙ ap (λ us. us ++ f x ∷ []) h ∙ append_assoc old (map f (take i xs)) (f x ∷ []) ∙ ap (λ l. old ++ l) (sym (next_taken f xs i x lt is))
-
--- the uses of one more of a list come last
-pub next_noted : {X Y A : Type 0} (f : Y → List A) (v : X → Y) (xs : List X) (i : ℕ) (x : X) (old now new : List A) → i < length xs → x ≡ get_or xs i x → now ≡ old ++ flat_map f (map v (take i xs)) → new ≡ now ++ f (v x) → new ≡ old ++ flat_map f (map v (take (i + 1) xs))
-next_noted f v xs i x old now new lt is h e =
-    e ∙ ap (λ us. us ++ f (v x)) h ∙ flat_map_more f old (map v (take i xs)) (v x) ∙ ap (λ l. old ++ flat_map f l) (sym (next_taken v xs i x lt is))
-
 -- ---- places
 
-places_more : {Y : Type 0} (f : ℕ → Y → List Use) (k : ℕ) (ys : List Y) (y : Y) → in_places f k (ys ++ y ∷ []) ≡ in_places f k ys ++ f (k + length ys) y
+pub places_more : {Y : Type 0} (f : ℕ → Y → List Use) (k : ℕ) (ys : List Y) (y : Y) → in_places f k (ys ++ y ∷ []) ≡ in_places f k ys ++ f (k + length ys) y
 places_more f k [] y =
     let here : k + 0 ≡ k = omega arith in
     append-nil (f k y) ∙ ap (λ (n : ℕ). f n y) (sym here)
@@ -101,49 +81,22 @@ places_more f k (x ∷ ys) y =
     let there : (k + 1) + length ys ≡ k + suc (length ys) = omega arith in
     ap (λ l. f k x ++ l) (places_more f (k + 1) ys y ∙ ap (λ (n : ℕ). in_places f (k + 1) ys ++ f n y) there) ∙ sym (append_assoc (f k x) (in_places f (k + 1) ys) (f (k + suc (length ys)) y))
 
-plus_zero : (n : ℕ) → 0 + n ≡ n
-plus_zero n = omega arith
-
-place_added : {Y : Type 0} (f : ℕ → Y → List Use) (ys : List Y) (y : Y) (i : ℕ) (old now new : List Use) → length ys ≡ i → now ≡ old ++ in_places f 0 ys → new ≡ now ++ f i y → new ≡ old ++ in_places f 0 (ys ++ y ∷ [])
-place_added f ys y i old now new counted h e =
-    e ∙ ap (λ l. l ++ f i y) h ∙ append_assoc old (in_places f 0 ys) (f i y) ∙
-    ap (λ l. old ++ l) (ap (λ (n : ℕ). in_places f 0 ys ++ f n y) (sym (plus_zero (length ys) ∙ counted)) ∙ sym (places_more f 0 ys y))
-
--- the uses of the next in its place come last
-pub next_place : {X Y : Type 0} (f : ℕ → Y → List Use) (v : X → Y) (xs : List X) (i : ℕ) (x : X) (old now new : List Use) → i < length xs → x ≡ get_or xs i x → now ≡ old ++ in_places f 0 (map v (take i xs)) → new ≡ now ++ f i (v x) → new ≡ old ++ in_places f 0 (map v (take (i + 1) xs))
-next_place f v xs i x old now new lt is h e =
-    place_added f (map v (take i xs)) (v x) i old now new (length-map (take i xs) v ∙ length-take-le i xs (omega arith)) h e ∙
-    ap (λ l. old ++ in_places f 0 l) (sym (next_taken v xs i x lt is))
-
-pub next_place_plain : {X : Type 0} (f : ℕ → X → List Use) (xs : List X) (i : ℕ) (x : X) (old now new : List Use) → i < length xs → x ≡ get_or xs i x → now ≡ old ++ in_places f 0 (take i xs) → new ≡ now ++ f i x → new ≡ old ++ in_places f 0 (take (i + 1) xs)
-next_place_plain f xs i x old now new lt is h e =
-    place_added f (take i xs) x i old now new (length-take-le i xs (omega arith)) h e ∙
-    ap (λ l. old ++ in_places f 0 l) (sym (take_more xs i x lt ∙ ap (λ y. take i xs ++ y ∷ []) (sym is)))
-
 -- ---- the statements in a statement
 
 in_statement_row : (ts : List StatementTree) → in_row (statement_row ts) ≡ in_body ts
 in_statement_row [] = refl
 in_statement_row (t ∷ ts) = ap (λ us. in_statement t ++ us) (in_statement_row ts)
 
+in_two_rows : (ts es : List StatementTree) → in_row (statement_row ts) ++ in_row (statement_row es) ≡ in_body ts ++ in_body es
+in_two_rows ts es = λ i. in_statement_row ts i ++ in_statement_row es i
+
 pub inner_if : (l : Line) (c : Condition) (t e : Vec Statement) → in_inner (view_statement_tree (statements.If l c t e)) ≡ in_body (map view_statement_tree t.items) ++ in_body (map view_statement_tree e.items)
 inner_if l c t e =
-    ap in_inner (view_if_tree_made l c t e) ∙
-    ap (λ us. us ++ in_row (statement_row (map view_statement_tree e.items))) (in_statement_row (map view_statement_tree t.items)) ∙
-    ap (λ us. in_body (map view_statement_tree t.items) ++ us) (in_statement_row (map view_statement_tree e.items))
+    ap in_inner (view_if_tree_made l c t e) ∙ in_two_rows (map view_statement_tree t.items) (map view_statement_tree e.items)
 
 pub inner_find_if : (l : Line) (h : Head) (o : FindOutcome) (t e : Vec Statement) → in_inner (view_statement_tree (statements.FindIf l h o t e)) ≡ in_body (map view_statement_tree t.items) ++ in_body (map view_statement_tree e.items)
 inner_find_if l h o t e =
-    ap in_inner (view_find_if_made l h o t e) ∙
-    ap (λ us. us ++ in_row (statement_row (map view_statement_tree e.items))) (in_statement_row (map view_statement_tree t.items)) ∙
-    ap (λ us. in_body (map view_statement_tree t.items) ++ us) (in_statement_row (map view_statement_tree e.items))
+    ap in_inner (view_find_if_made l h o t e) ∙ in_two_rows (map view_statement_tree t.items) (map view_statement_tree e.items)
 
 pub inner_loop : (l : Line) (h : LoopHead) (b : Vec Statement) → in_inner (view_statement_tree (statements.Loop l h b)) ≡ in_body (map view_statement_tree b.items)
 inner_loop l h b = ap in_inner (view_loop_tree_made l h b) ∙ in_statement_row (map view_statement_tree b.items)
-
--- the uses of one more statement of a body come last: its own, and then those of the statements in it
-pub next_walked : (xs : List Statement) (i : ℕ) (x : Statement) (old now noted new : List Use) → i < length xs → x ≡ get_or xs i x → now ≡ old ++ in_body (map view_statement_tree (take i xs)) → noted ≡ now ++ in_itself (view_statement_tree x) → new ≡ noted ++ in_inner (view_statement_tree x) → new ≡ old ++ in_body (map view_statement_tree (take (i + 1) xs))
-next_walked xs i x old now noted new lt is h n e =
-    let s = view_statement_tree x in
-    let whole : new ≡ now ++ in_statement s = e ∙ ap (λ l. l ++ in_inner s) n ∙ append_assoc now (in_itself s) (in_inner s) in
-    next_noted in_statement view_statement_tree xs i x old now new lt is h whole

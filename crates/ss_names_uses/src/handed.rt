@@ -38,6 +38,7 @@ pub(crate) fn add_target(
 }
 
 // Adds the uses of values for the attributes of a class.
+#[tactic(auto, using(crate::proofs::Rows::places_more, std::proofs::lemmas::Grind::common_steps))]
 pub(crate) fn add_for_attributes(
     into: &mut Vec<Use>,
     line: Line,
@@ -57,6 +58,7 @@ pub(crate) fn add_for_attributes(
 }
 
 // Adds the uses of values that a routine is given.
+#[tactic(auto, using(crate::proofs::Rows::places_more, std::proofs::lemmas::Grind::common_steps))]
 pub(crate) fn add_for_given(
     into: &mut Vec<Use>,
     line: Line,
@@ -76,6 +78,7 @@ pub(crate) fn add_for_given(
 }
 
 // Adds the uses of targets of what a routine yields.
+#[tactic(auto, using(crate::proofs::Rows::places_more, std::proofs::lemmas::Grind::common_steps))]
 pub(crate) fn add_for_yielded(
     into: &mut Vec<Use>,
     line: Line,
@@ -95,6 +98,7 @@ pub(crate) fn add_for_yielded(
 }
 
 // Adds the uses of the parameters of an EVENT section as attributes of its class.
+#[tactic(auto, using(crate::proofs::Rows::places_more, std::proofs::lemmas::Grind::common_steps))]
 pub(crate) fn add_as_attributes(
     into: &mut Vec<Use>,
     line: Line,

@@ -100,7 +100,7 @@ fn add_field_at(
 }
 
 // Adds the uses of an item: a place named alone, in any parentheses, may be a MEAN.
-#[tactic(auto, unfolding(ss_tree::specs::View::view_expression_tree))]
+#[tactic(auto, unfolding(ss_tree::specs::View::view_expression_tree), using(crate::proofs::Rows::item_named))]
 fn add_item(into: &mut Vec<Use>, line: Line, item: &Expression) -> Result<(), AllocError>
     ensures { IfOk result (λ _. into.new.items ≡ into.old.items ++ in_item line (view_expression_tree item.now)) }
 {
@@ -131,6 +131,7 @@ fn add_item_at(
 }
 
 // Adds the uses of items, each with the field in its place.
+#[tactic(auto, using(crate::proofs::Rows::places_more, std::proofs::lemmas::Grind::common_steps))]
 fn add_placed_items(
     into: &mut Vec<Use>,
     line: Line,

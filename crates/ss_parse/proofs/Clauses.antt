@@ -7,8 +7,8 @@ use Rattle.ss_lex.specs.declared.token.TokenKind.TheVariants as kinds
 use Rattle.ss_tree.specs.Tree.{ClauseTree, has, owns, belongs_to}
 use Rattle.ss_parse_expressions.specs.declared.classes.WordClass.TheVariants as alike
 use Rattle.ss_parse_expressions.specs.Shapes.{Shape, ◌▷◌, either_shape, separator, Word_is, separated_list}
-use Rattle.ss_parse_expressions.specs.Reading.{word, is, begins, expect, after_dropped, apply, comma, skip_separator, begins_more, list_of}
-use Rattle.ss_parse_expressions.specs.ReadWords.{among, begins_item, items}
+use Rattle.ss_parse_expressions.specs.Reading.{word, is, begins, comma, skip_separator, begins_more, list_of}
+use Rattle.ss_parse_expressions.specs.ReadWords.{among, begins_item}
 use Rattle.ss_parse_expressions.proofs.Marks.{starts_otherwise}
 use Rattle.ss_parse_expressions.proofs.Rows as rows_laws
 use Rattle.ss_parse.specs.SpelledPreambles.{Clause_is, Clauses_are}
@@ -34,9 +34,6 @@ module _ (k : ℕ) where
   abbrev Belongs_parts : List (List ℕ) → Shape
   Belongs_parts ns = Word_is words.May ▷ Word_is words.Belong ▷ Word_is words.To ▷ separated_list Item_is ns
 
-  belongs_reads : Reads k (apply belongs_to (after_dropped (expect (word words.May)) (after_dropped (expect (word words.Belong)) (after_dropped (expect (word words.To)) items)))) (apply belongs_to (after_dropped (expect (word words.May)) (after_dropped (expect (word words.Belong)) (after_dropped (expect (word words.To)) items)))) (Made belongs_to Belongs_parts) continues_items
-  belongs_reads = made_reads (marked_reads (word words.May) (marked_reads (word words.Belong) (marked_reads (word words.To) (items_reads k)))) belongs_to
-
   abbrev Owns_or_belongs : ClauseTree → Shape
   Owns_or_belongs x = either_shape (Made owns (λ ns. Word_is words.Owns ▷ separated_list Item_is ns) x) (Made belongs_to Belongs_parts x)
 
@@ -44,7 +41,7 @@ module _ (k : ℕ) where
   unfolding clause
   clause_reads =
       reshaped_reads (either_reads (item_made (word words.Has) (items_reads k) has)
-      (either_reads (item_made (word words.Owns) (items_reads k) owns) belongs_reads continues_items (λ ts stop. (stop, stop)) (λ x ts rest s stop. ap (begins (word words.Owns)) s.2.1.2))
+      (either_reads (item_made (word words.Owns) (items_reads k) owns) (made_reads (marked_reads (word words.May) (marked_reads (word words.Belong) (marked_reads (word words.To) (items_reads k)))) belongs_to) continues_items (λ ts stop. (stop, stop)) (λ x ts rest s stop. ap (begins (word words.Owns)) s.2.1.2))
       continues_items (λ ts stop. (stop, stop)) late) Clause_is to from
     where
       late : (x : ClauseTree) (ts rest : List Token) → Owns_or_belongs x ts rest → continues_items rest ≡ false → begins (word words.Has) ts ≡ false
@@ -78,15 +75,12 @@ module _ (k : ℕ) where
     where
       go : separator ts a → ((w : Word) × (m : List Token) × (clause_word w ≡ true) × Word_is w a m) → continues_items ts ≡ false
       go (inl (span, line, e)) (w, m, held, (span', line', f)) =
-          let p : has_word alike.Article w ≡ false = (clause_no_item w held).0 in
-          let q : is (word words.And) (kinds.Word w) ≡ false = (clause_no_item w held).1 in
-          rw (e, f, q, p) refl
+          let no = clause_no_item w held in
+          rw (e, f, no.1, no.0) refl
       go (inr (inl (span, line, e))) (w, m, held, (span', line', f)) =
-          let p : has_word alike.Article w ≡ false = (clause_no_item w held).0 in
-          rw (e, f, p) refl
+          rw (e, f, (clause_no_item w held).0) refl
       go (inr (inr (b, (span, line, e), (span'', line'', g)))) (w, m, held, (span', line', f)) =
-          let p : has_word alike.Article w ≡ false = (clause_no_item w held).0 in
-          rw (e, g, f, p) refl
+          rw (e, g, f, (clause_no_item w held).0) refl
 
   clause_list_reads : Reads k (list_of begins_clause clause) (list_of begins_clause clause) (separated_list Clause_is) (λ ts. begins_more begins_clause ts || (continues_items ts || continues_items ts))
   clause_list_reads = first_and_reads clause_reads (separated_item clause_reads begins_clause clause_begins clause_no_and) (λ ts x rest s. let no = clause_stops ts x rest s in (no, no)) clause_less
@@ -113,22 +107,14 @@ module _ (k : ℕ) where
       no_clause [] stop = refl
       no_clause (t ∷ ts) stop = go t.kind (or_false (is comma t.kind) (among preamble_more t.kind) stop).1
         where
-          go_word : (w : Word) → preamble_more w ≡ false → clause_word w ≡ false
-          go_word words.Has e = absurd cc
-          go_word words.Owns e = absurd cc
-          go_word words.May e = absurd cc
-          go_word _ e = refl
-
           go : (kind : TokenKind) → among preamble_more kind ≡ false → among clause_word kind ≡ false
-          go (kinds.Word w) e = go_word w e
+          go (kinds.Word words.Has) e = absurd cc
+          go (kinds.Word words.Owns) e = absurd cc
+          go (kinds.Word words.May) e = absurd cc
           go _ e = refl
 
       stops : (ts : List Token) → continues_preamble ts ≡ false → (begins_clause ts || (begins_more begins_clause ts || (continues_items ts || continues_items ts))) ≡ false
-      stops ts stop =
-          let a : begins_clause ts ≡ false = no_clause ts stop in
-          let b : begins comma ts ≡ false = no_comma ts stop in
-          let c : begins (word words.And) ts ≡ false = over words.And refl ts stop in
-          rw (a, b, c) refl
+      stops ts stop = rw (no_clause ts stop, no_comma ts stop, over words.And refl ts stop) refl
 
 -- ---- the loop over clauses
 

@@ -1,13 +1,14 @@
 -- Statements of a preamble after their first word: what is read is spelled, and what is spelled is read.
 use Rattle.std.proofs.Common.{◌≡◌, ℕ, true, false, ◌||◌, List, Option, Some, None, refl, ap, subst, ◌∙◌, arith, inl, inr}
 use Rattle.ss_parse.proofs.Common.{begins_class, begins_item, begins_name, ClassKind, either_reads, fail_reads, has_word, Item_is, items_reads, Line, mode_of_word, ModeWord, name_reads, NamedKey, NamedStatistic, names_reads, noisy, noisy_mark_reads, optional_class_reads, perhaps_listed, perhaps_listed_reads, Token, Weighting, Word, word_in_reads}
+use Rattle.std.proofs.lemmas.Option.{same_Some}
 use Rattle.ss_lex.specs.declared.word.Word.TheVariants as words
 use Rattle.ss_lex.specs.declared.token.TokenKind.TheVariants as kinds
 use Rattle.ss_base.specs.declared.words.Weighting.TheVariants as weightings
 use Rattle.ss_tree.specs.Tree.{ClauseTree, PreambleTree, permanent_entities, temporary_entities, event_notices, every, normally, system_owns, define_variables, define_sets, priority_order, break_ties, statistics}
 use Rattle.ss_parse_expressions.specs.declared.classes.WordClass.TheVariants as alike
 use Rattle.ss_parse_expressions.specs.Shapes.{Shape, ◌▷◌, never, either_shape, Word_is, Name_is, Word_for, separated_list}
-use Rattle.ss_parse_expressions.specs.Reading.{word, begins, begins_by, expect, in_table, taken, closed, apply, begins_more}
+use Rattle.ss_parse_expressions.specs.Reading.{word, begins_by, expect, in_table, taken, closed, apply, begins_more}
 use Rattle.ss_parse_expressions.specs.ReadWords.{fail}
 use Rattle.ss_parse_expressions.proofs.Marks.{token_less, begins_table}
 use Rattle.ss_parse_statements.proofs.Beginnings.{both_false}
@@ -27,9 +28,6 @@ mode_no_article words.Integer mode e = refl
 mode_no_article words.Alpha mode e = refl
 mode_no_article words.Real mode e = refl
 mode_no_article _ mode e = absurd cc
-
-some_same : (a b : ClassKind) → Some a ≡ Some b → a ≡ b
-some_same a b e = cc
 
 -- a statement of this line and this first word, in a group of this kind, after the first word
 abbrev pub Pre_is : Option ClassKind → Line → Word → PreambleTree → Shape
@@ -91,7 +89,7 @@ parts_of group (permanent_entities l) ts rest s = (tt, refl, s)
 parts_of group (temporary_entities l) ts rest s = (tt, refl, s)
 parts_of group (event_notices l included) ts rest s = (included, refl, s)
 parts_of None (every l kind class cs) ts rest s = let no = s.0 in absurd cc
-parts_of (Some kind) (every l kind' class cs) ts rest (is, s) = ((class, cs), ap (λ (c : ClassKind). every l c class cs) (some_same kind kind' is), s)
+parts_of (Some kind) (every l kind' class cs) ts rest (is, s) = ((class, cs), ap (λ (c : ClassKind). every l c class cs) (same_Some kind kind' is), s)
 parts_of group (normally l mode) ts rest s = (mode, refl, s)
 parts_of group (system_owns l sets) ts rest s = (sets, refl, s)
 parts_of group (define_variables l ns mode) ts rest (b, s, (a, v, (c, art, t))) = (ns, (a, (b, s, v), (c, art, inl (mode, refl, t))))
@@ -109,12 +107,6 @@ parts_from group line w x ts rest s =
 -- ---- the readers
 
 module _ (k : ℕ) where
-  notices_reads : (line : Line) → Reads k (notices_at line) (notices_at line) (Parts None line words.Event) continues_preamble
-  unfolding notices_at
-  notices_reads line =
-      fewer_reads (made_reads (marked_reads (word words.Notices) (perhaps_listed_reads (item_marked (word words.Include) (names_reads k)))) (event_notices line))
-      continues_preamble (λ ts stop. let a : begins (word words.Include) ts ≡ false = over words.Include refl ts stop in let b : (begins_more begins_name ts || (continues_never ts || continues_never ts)) ≡ false = over_list begins_name ts stop in both_false _ _ a b)
-
   none_reads : Reads k fail fail (λ (x : PreambleTree). never) continues_preamble
   none_reads = fewer_reads (fail_reads k) continues_preamble (λ ts stop. refl)
 
@@ -136,10 +128,6 @@ module _ (k : ℕ) where
   end_no_article line ns x ts rest (inl (mode, is, (a, (w, means, (span, l, e)), s))) = ap (begins_class alike.Article) e ∙ mode_no_article w mode means
   end_no_article line ns x ts rest (inr (o, is, s)) = (order_no_mode k o ts rest s).1
 
-  define_reads : (line : Line) → Reads k (define_at line) (define_at line) (Define_parts line) continues_preamble
-  unfolding define_at
-  define_reads line = bind_reads (closed_reads (names_reads k) (expect_reads k (word words.As)) (λ ts rest s stop. ap (λ (r : List Token). begins_more begins_name r || (continues_never r || continues_never r)) s.2)) (λ ns. optional_class_reads (end_reads line ns) alike.Article (end_no_article line ns)) (λ ns x ts rest s stop. refl)
-
   statistics_reads : (line : Line) (weighting : Weighting) → Reads k (statistics_at line weighting) (statistics_at line weighting) (Made (λ p. statistics line weighting p.0 p.1) Statistics_parts) continues_preamble
   unfolding statistics_at
   statistics_reads line weighting =
@@ -147,14 +135,16 @@ module _ (k : ℕ) where
       continues_preamble (λ ts stop. refl)
 
   parts_reads : (group : Option ClassKind) (line : Line) (w : Word) → Reads k (preamble_at group line w) (preamble_at group line w) (Parts group line w) continues_preamble
-  unfolding preamble_at permanent_at temporary_at normally_at system_at priority_at break_at
+  unfolding preamble_at permanent_at temporary_at normally_at system_at priority_at break_at notices_at define_at
   parts_reads group line words.Permanent = fewer_reads (made_reads (expect_reads k (word words.Entities)) (λ u. permanent_entities line)) continues_preamble (λ ts stop. refl)
   parts_reads group line words.Temporary = fewer_reads (made_reads (expect_reads k (word words.Entities)) (λ u. temporary_entities line)) continues_preamble (λ ts stop. refl)
-  parts_reads group line words.Event = notices_reads line
+  parts_reads group line words.Event =
+      fewer_reads (made_reads (marked_reads (word words.Notices) (perhaps_listed_reads (item_marked (word words.Include) (names_reads k)))) (event_notices line))
+      continues_preamble (λ ts stop. both_false _ _ (over words.Include refl ts stop) (over_list begins_name ts stop))
   parts_reads group line words.Every = every_reads group line
   parts_reads group line words.Normally = fewer_reads (made_reads (following_reads (noisy_mark_reads k (word words.Mode) refl) (marked_reads (word words.Is) (word_in_reads k mode_of_word)) (λ x ts rest s stop. refl)) (normally line)) continues_preamble (λ ts stop. refl)
   parts_reads group line words.The = fewer_reads (made_reads (marked_reads (word words.System) (marked_reads (word words.Owns) (items_reads k))) (system_owns line)) continues_preamble (λ ts stop. over_list begins_item ts stop)
-  parts_reads group line words.Define = define_reads line
+  parts_reads group line words.Define = bind_reads (closed_reads (names_reads k) (expect_reads k (word words.As)) (λ ts rest s stop. ap (λ (r : List Token). begins_more begins_name r || (continues_never r || continues_never r)) s.2)) (λ ns. optional_class_reads (end_reads line ns) alike.Article (end_no_article line ns)) (λ ns x ts rest s stop. refl)
   parts_reads group line words.Priority = fewer_reads (made_reads (marked_reads (word words.Order) (marked_reads (word words.Is) (names_reads k))) (priority_order line)) continues_preamble (λ ts stop. over_list begins_name ts stop)
   parts_reads group line words.Break = made_reads (seq_reads (name_reads k) (marked_reads (word words.Ties) (marked_reads (word words.By) (keys_reads k))) (λ p ts rest s stop. refl)) (λ p. break_ties line p.0 p.1)
   parts_reads group line words.Tally = statistics_reads line weightings.Tally

@@ -35,17 +35,12 @@ pub over : (w : Word) → preamble_more w ≡ true → (ts : List Token) → con
 over w held ts stop = no_word preamble_more w held ts (or_false (begins comma ts) (begins_among preamble_more ts) stop).1
 
 pub over_list : (starts : List Token → Bool) (ts : List Token) → continues_preamble ts ≡ false → (begins_more starts ts || (continues_never ts || continues_never ts)) ≡ false
-over_list starts ts stop =
-    let a : begins comma ts ≡ false = no_comma ts stop in
-    let b : begins (word words.And) ts ≡ false = over words.And refl ts stop in
-    rw (a, b) refl
+over_list starts ts stop = rw (no_comma ts stop, over words.And refl ts stop) refl
 
 over_keys : (ts : List Token) → continues_preamble ts ≡ false → (begins_noisy (word words.Then) ts || (continues_never ts || continues_never ts)) ≡ false
 over_keys ts stop =
-    let same = no_skip comma ts (no_comma ts stop) in
-    let a : begins (word words.Then) ts ≡ false = over words.Then refl ts stop in
-    let b : begins_noisy (word words.Then) ts ≡ false = ap (begins (word words.Then)) same ∙ a in
-    rw b refl
+    let none : begins_noisy (word words.Then) ts ≡ false = ap (begins (word words.Then)) (no_skip comma ts (no_comma ts stop)) ∙ over words.Then refl ts stop in
+    rw none refl
 
 module _ (k : ℕ) where
   -- ---- keys
@@ -125,8 +120,7 @@ module _ (k : ℕ) where
   pub order_no_mode : (x : OrderTree) (ts rest : List Token) → Order_is x ts rest → (begins_by (in_table mode_of_word) ts ≡ false) × (begins_class alike.Article ts ≡ false)
   order_no_mode fifo ts rest (a, inl e, (span, line, f)) = (ap (begins_by (in_table mode_of_word)) (e ∙ f), ap (begins_class alike.Article) (e ∙ f))
   order_no_mode fifo ts rest (a, inr (span, line, f), s) = (ap (begins_by (in_table mode_of_word)) f, ap (begins_class alike.Article) f)
-  order_no_mode lifo ts rest (a, (span, line, f), s) = (ap (begins_by (in_table mode_of_word)) f, ap (begins_class alike.Article) f)
-  order_no_mode (ranked ks) ts rest (a, (span, line, f), s) = (ap (begins_by (in_table mode_of_word)) f, ap (begins_class alike.Article) f)
+  order_no_mode _ ts rest s = (ap (begins_by (in_table mode_of_word)) s.1.2, ap (begins_class alike.Article) s.1.2)
 
 -- ---- the loop over keys
 

@@ -10,7 +10,7 @@ use Rattle.ss_parse_expressions.specs.Shapes.{Shape, ◌▷◌, nothing, optiona
 use Rattle.ss_parse_expressions.specs.Words.{One_of, perhaps_listed}
 use Rattle.ss_parse_expressions.specs.Reading.{word, is, begins, expect, after_dropped, maybe_list, rows, begins_more}
 use Rattle.ss_parse_expressions.specs.ReadWords.{fail, begins_class, begins_among, begins_name, names}
-use Rattle.ss_parse_expressions.proofs.Marks.{token, mark_begins, token_less}
+use Rattle.ss_parse_expressions.proofs.Marks.{token, mark_begins, token_less, starts_otherwise}
 use Rattle.ss_parse_expressions.proofs.ReaderLaws.{Reads, Item, continues_never, Made, made_reads, reshaped_reads, seq_reads, marked_reads, closed_reads, before_mark_reads, optional_reads, apply_reads, fewer_reads, lined_reads, item_of, item_marked, flag_reads, expect_reads}
 use Rattle.ss_parse_expressions.proofs.Rows.{rows_reads, Loop, loop_of}
 use Rattle.ss_parse.specs.SpelledPreambles.{Variables_are}
@@ -26,8 +26,7 @@ use Rattle.ss_parse_statements.proofs.Levels.{In_statement, all_statements_reads
 
 section_known : (kind : SectionKindTree) → section_words (section_word kind) ≡ true
 section_known main = refl
-section_known (routine name given yielding) = refl
-section_known (event name given saves) = refl
+section_known _ = refl
 
 -- words that continue the header of a section
 abbrev kind_more : Word → Bool
@@ -48,9 +47,7 @@ kind_word w held ts stop = no_word kind_more w held ts (or_false (begins_among k
 
 kind_names : (w : Word) → kind_more w ≡ true → (ts : List Token) → continues_kind ts ≡ false → continues_listed w ts ≡ false
 kind_names w held ts stop =
-    let a : begins (word w) ts ≡ false = kind_word w held ts stop in
-    let b : begins_more begins_name ts ≡ false = (or_false (begins_among kind_more ts) (begins_more begins_name ts) stop).1 in
-    rw (a, b) refl
+    rw (kind_word w held ts stop, (or_false (begins_among kind_more ts) (begins_more begins_name ts) stop).1) refl
 
 module _ (k : ℕ) where
   names_after : (w : Word) → Reads k (maybe_list (begins (word w)) (after_dropped (expect (word w)) names)) (maybe_list (begins (word w)) (after_dropped (expect (word w)) names)) (perhaps_listed (Word_is w) Name_is) (continues_listed w)
@@ -112,12 +109,9 @@ module _ (k : ℕ) where
   unfolding variables
   variables_reads = seq_reads (names_reads k) (marked_reads (word words.As) (optional_class_reads (closed_reads (word_in_reads k mode_of_word) (expect_reads k (word words.Variable)) (λ ts rest s stop. refl)) classes.Article (λ mode ts rest s. ap (begins_class classes.Article) s.1.2.2 ∙ mode_no_article s.1.0 mode s.1.1))) (λ mode ts rest s stop. ap (λ (r : List Token). begins_more begins_name r || (continues_never r || continues_never r)) s.1.2)
 
-  definition_at_reads : (line : Line) → Reads k (definition_at line) (definition_at line) (Made (definition_tree line) (λ p. Word_is words.Define ▷ Variables_are p)) continues_never
-  unfolding definition_at
-  definition_at_reads line = made_reads (marked_reads (word words.Define) variables_reads) (definition_tree line)
-
   definition_reads : Reads k definition definition Definition_is continues_never
-  definition_reads = lined_reads definition_at_reads Definition_is (λ x ts rest s. subst (λ x. Definition_is x ts rest) s.1 (refl, s.2)) (λ x ts rest s. ((x.names, x.mode), (λ i. record { line = s.0 i; names = x.names; mode = x.mode }), s.1))
+  unfolding definition_at
+  definition_reads = lined_reads (λ line. made_reads (marked_reads (word words.Define) variables_reads) (definition_tree line)) Definition_is (λ x ts rest s. subst (λ x. Definition_is x ts rest) s.1 (refl, s.2)) (λ x ts rest s. ((x.names, x.mode), (λ i. record { line = s.0 i; names = x.names; mode = x.mode }), s.1))
 
   definition_item : Item k (begins (word words.Define)) definition definition Definition_is continues_never
   definition_item = item_of (begins (word words.Define)) definition_reads (λ ts x rest s. mark_begins (word words.Define) ts s.1.0 s.1.1) (λ ts x rest s. omega (arith, token_less (kinds.Word words.Define) ts s.1.0 s.1.1, variables_reads.shorter s.1.0 (x.names, x.mode) rest s.1.2))
@@ -138,16 +132,13 @@ word_no_define words.Yielding e = absurd cc
 word_no_define words.Saving e = absurd cc
 word_no_define _ e = (refl, refl, refl)
 
+false_at_any_statement : (n : ℕ) (c : List Token → Bool) → ((span span' : Span) (line line' : Line) (w : Word) (ts : List Token) → form_word w ≡ true → c (token (kinds.Symbol Comma) span line ∷ token (kinds.Word w) span' line' ∷ ts) ≡ false) → ((w : Word) (span : Span) (line : Line) (ts : List Token) → form_word w ≡ true → c (token (kinds.Word w) span line ∷ ts) ≡ false) → (x : StatementTree) (ts rest : List Token) → (noise ▷ In_statement n x) ts rest → c ts ≡ false
+false_at_any_statement zero c on_comma on_word x ts rest (a, m, s) = absurd s
+false_at_any_statement (suc l) c on_comma on_word x ts rest s = false_past_comma c on_comma on_word l x ts rest s
+
 module _ (n : ℕ) where
   abbrev Room_statement : StatementTree → Shape
   Room_statement x = noise ▷ In_statement n x
-
-  false_at_any_statement : (c : List Token → Bool) → ((span span' : Span) (line line' : Line) (w : Word) (ts : List Token) → form_word w ≡ true → c (token (kinds.Symbol Comma) span line ∷ token (kinds.Word w) span' line' ∷ ts) ≡ false) → ((w : Word) (span : Span) (line : Line) (ts : List Token) → form_word w ≡ true → c (token (kinds.Word w) span line ∷ ts) ≡ false) → (x : StatementTree) (ts rest : List Token) → Room_statement x ts rest → c ts ≡ false
-  false_at_any_statement = go n
-    where
-      go : (n : ℕ) (c : List Token → Bool) → ((span span' : Span) (line line' : Line) (w : Word) (ts : List Token) → form_word w ≡ true → c (token (kinds.Symbol Comma) span line ∷ token (kinds.Word w) span' line' ∷ ts) ≡ false) → ((w : Word) (span : Span) (line : Line) (ts : List Token) → form_word w ≡ true → c (token (kinds.Word w) span line ∷ ts) ≡ false) → (x : StatementTree) (ts rest : List Token) → (noise ▷ In_statement n x) ts rest → c ts ≡ false
-      go zero c on_comma on_word x ts rest (a, m, s) = absurd s
-      go (suc l) c on_comma on_word x ts rest s = false_past_comma c on_comma on_word l x ts rest s
 
   -- the statements of a section, and END
   abbrev Statements_end : List StatementTree → Shape
@@ -155,7 +146,7 @@ module _ (n : ℕ) where
 
   false_at_end : (c : List Token → Bool) → ((span span' : Span) (line line' : Line) (w : Word) (ts : List Token) → form_word w ≡ true → c (token (kinds.Symbol Comma) span line ∷ token (kinds.Word w) span' line' ∷ ts) ≡ false) → ((w : Word) (span : Span) (line : Line) (ts : List Token) → form_word w ≡ true → c (token (kinds.Word w) span line ∷ ts) ≡ false) → ((span : Span) (line : Line) (ts : List Token) → c (token (kinds.Word words.End) span line ∷ ts) ≡ false) → (xs : List StatementTree) (ts rest : List Token) → Statements_end xs ts rest → c ts ≡ false
   false_at_end c on_comma on_word on_end [] ts rest (a, e, (span, line, f)) = ap c (e ∙ f) ∙ on_end span line rest
-  false_at_end c on_comma on_word on_end (x ∷ xs) ts rest (a, (b, one, more), s) = false_at_any_statement c on_comma on_word x ts b one
+  false_at_end c on_comma on_word on_end (x ∷ xs) ts rest (a, (b, one, more), s) = false_at_any_statement n c on_comma on_word x ts b one
 
   no_define : (xs : List StatementTree) (ts rest : List Token) → Statements_end xs ts rest → begins (word words.Define) ts ≡ false
   no_define xs ts rest s = false_at_end (begins (word words.Define)) (λ span span' line line' w r e. refl) (λ w span line r e. (word_no_define w e).0) (λ span line ts. refl) xs ts rest s
@@ -214,17 +205,11 @@ module _ (n m : ℕ) (le : n ≤ m) where
   sections_reads : Reads (suc n) (rows begins_section (section_in (suc n))) (rows begins_section (section_in (suc m))) (each_in_turn (Section_is n)) continues_program
   sections_reads = fewer_reads (rows_reads section_item (λ ts x rest s. refl)) continues_program (λ ts stop. let none = (or_false (begins (word words.Preamble) ts) (begins_section ts) stop).1 in rw none refl)
 
-  section_no_preamble : (x : SectionTree) (ts rest : List Token) → Section_is n x ts rest → (begins (word words.Preamble) ts || continues_never ts) ≡ false
-  section_no_preamble x ts rest (at, (m, (span, line, e), s)) = go x.kind e
-    where
-      go : (kind : SectionKindTree) → ts ≡ token (kinds.Word (section_word kind)) span line ∷ m → (begins (word words.Preamble) ts || continues_never ts) ≡ false
-      go main e = rw e refl
-      go (routine name given yielding) e = rw e refl
-      go (event name given saving) e = rw e refl
-
   sections_stop : (xs : List SectionTree) (ts rest : List Token) → each_in_turn (Section_is n) xs ts rest → continues_program rest ≡ false → (begins (word words.Preamble) ts || continues_never ts) ≡ false
   sections_stop [] ts rest e stop = let none = (or_false (begins (word words.Preamble) rest) (begins_section rest) stop).0 in rw (e, none) refl
-  sections_stop (x ∷ xs) ts rest (a, one, more) stop = section_no_preamble x ts a one
+  sections_stop (x ∷ xs) ts rest (a, one, more) stop =
+      let none = starts_otherwise (word words.Preamble) begins_section (λ span line ts. refl) ts (section_item.begins ts x a one) in
+      rw none refl
 
   pub program_reads : Reads (suc n) (program_in (suc n)) (program_in (suc m)) (Program_is n) continues_program
   unfolding program_in

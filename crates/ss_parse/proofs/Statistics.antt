@@ -16,12 +16,8 @@ weighting_known weightings.Tally = refl
 weighting_known weightings.Accumulate = refl
 
 rank_reads_word : (w : Word) (mode : StatisticKind) → statistic_of w ≡ Some mode → is (word words.The) (kinds.Word w) ≡ false
-rank_reads_word words.Number mode e = refl
-rank_reads_word words.Sum mode e = refl
-rank_reads_word words.Maximum mode e = refl
-rank_reads_word words.Minimum mode e = refl
-rank_reads_word words.Mean mode e = refl
-rank_reads_word _ mode e = absurd cc
+rank_reads_word words.The mode e = absurd cc
+rank_reads_word _ mode e = refl
 
 module _ (k : ℕ) where
   statistic_reads : Reads k statistic statistic Statistic_is continues_never

@@ -45,19 +45,15 @@ none_at_all limit ts h levels p s =
     elim (program_upto limit (max limit levels) ts (omega arith)) [ inl e ↦ absurd cc | inr e ↦ absurd cc ]
 
 deep : (r : Result (ProgramTree × List Token) ParseFault) (k n : ℕ) → Bounded k n r → (r >>= none_left) ≡ Err TooDeep → k ≤ n
-deep (Ok (p, [])) k n h e = absurd cc
-deep (Ok (p, x ∷ rest)) k n h e = absurd cc
-deep (Err Syntax) k n h e = absurd cc
 deep (Err TooDeep) k n h e = h
+deep (Ok (p, [])) k n h e = absurd cc
+deep _ k n h e = absurd cc
 
 pub none_within : (limit : ℕ) (ts : List Token) → program_of limit ts ≡ Err TooDeep → Has_no_tree ts limit × (limit < openers ts)
 unfolding program_of
 none_within limit ts h = (λ p s. let read = program_complete limit ts p s in absurd cc, deep (program_in (suc limit) ts) (suc limit) (openers ts) ((program_reads limit limit (omega arith)).opening ts) h)
 
 -- no tokens at all are a program
-pub some_tokens : (limit : ℕ) (f : ParseFault) → program_of limit [] ≡ Err f → ⊥
-some_tokens limit f h = let read = program_complete limit [] (record { preamble = []; sections = [] }) ([], inl refl, refl) in absurd cc
-
 pub tokens_there : (limit : ℕ) (ts : List Token) (f : ParseFault) → program_of limit ts ≡ Err f → 0 < length ts
-tokens_there limit [] f h = absurd (some_tokens limit f h)
+tokens_there limit [] f h = let read = program_complete limit [] (record { preamble = []; sections = [] }) ([], inl refl, refl) in absurd cc
 tokens_there limit (t ∷ ts) f h = omega arith

@@ -1,5 +1,5 @@
 -- Whole preambles: what is read is spelled, and what is spelled is read.
-use Rattle.std.proofs.Common.{◌≡◌, ℕ, ◌<◌, true, false, ◌||◌, List, [], ◌∷◌, ◌++◌, length, map, Option, None, Result, Ok, Err, refl, sym, ap, subst, ◌∙◌, arith, inl, inr, ◌⊎◌}
+use Rattle.std.proofs.Common.{◌≡◌, ℕ, ◌<◌, true, false, ◌||◌, ◌&&◌, List, [], ◌∷◌, ◌++◌, length, map, Option, None, Result, Ok, Err, refl, sym, ap, subst, ◌∙◌, arith, inl, inr, ◌⊎◌}
 use Rattle.std.proofs.lemmas.List.{append-nil, map_push}
 use Rattle.ss_parse.proofs.Common.{by_word_reads, ClassKind, closed_reads, continues_never, expect_reads, first_less, Form, Item, item_marked, item_of, Line, maybe_list_reads, ParseFailure, ParseFault, plain_form, PreambleTree, Reads, Token, Word}
 use Rattle.ss_lex.specs.declared.word.Word.TheVariants as words
@@ -28,18 +28,12 @@ module _ (k : ℕ) where
   preamble_begins : (group : Option ClassKind) (ts : List Token) (x : PreambleTree) (rest : List Token) → Preamble_from group x ts rest → begins_preamble ts ≡ true
   preamble_begins group ts x rest (at, (m, (span, line, e), s)) = ap begins_preamble e ∙ preamble_known x
 
-  word_stops : (w : Word) → preamble_word w ≡ true → preamble_more w ≡ false
-  word_stops words.And e = absurd cc
-  word_stops words.Has e = absurd cc
-  word_stops words.Owns e = absurd cc
-  word_stops words.May e = absurd cc
-  word_stops words.Include e = absurd cc
-  word_stops words.Ranked e = absurd cc
-  word_stops words.Then e = absurd cc
-  word_stops _ e = refl
+  word_stops : (w : Word) → (preamble_word w && preamble_more w) ≡ false
+  word_stops words.And = refl
+  word_stops _ = refl
 
   preamble_stops : (group : Option ClassKind) (ts : List Token) (x : PreambleTree) (rest : List Token) → Preamble_from group x ts rest → continues_preamble ts ≡ false
-  preamble_stops group ts x rest (at, (m, (span, line, e), s)) = ap continues_preamble e ∙ word_stops (preamble_first x) (preamble_known x)
+  preamble_stops group ts x rest (at, (m, (span, line, e), s)) = ap continues_preamble e ∙ subst (λ b. (b && preamble_more (preamble_first x)) ≡ false) (preamble_known x) (word_stops (preamble_first x))
 
   -- ---- the statements of a preamble
 

@@ -1,15 +1,40 @@
--- What expressions begin with, and what continues them.
-use Rattle.std.proofs.Common.{◌≡◌, ℕ, zero, suc, Bool, true, false, ◌||◌, List, refl, ap, ◌∙◌, inl, inr, ◌⊎◌}
-use Rattle.ss_parse_expressions.proofs.Common.{and_expression, and_term, begins, begins_sign, begins_sum, call, Designated, Designator, designator_of_word, ExpressionRow, ExpressionTree, factor_place, first_place, Function, function_of, Further_factors, Further_terms, is_some, named, no_expression, no_term, number, opening, parenthesised, product, Sign, Sign_is, signed, Spelled, star, sum, sum_place, term_place, TermRow, text, Token, word}
+-- What expressions are made of, what they begin with, and what continues them.
+use Rattle.std.proofs.Common.{◌≡◌, ℕ, zero, suc, Bool, true, false, ◌||◌, List, [], ◌∷◌, refl, ap, ◌∙◌, inl, inr, ◌⊎◌}
+use Rattle.std.proofs.lemmas.Bool.{or_right}
+use Rattle.ss_parse_expressions.proofs.Common.{and_expression, and_term, begins, begins_sign, begins_sum, call, Designated, Designator, designator_of_word, expression_row, ExpressionRow, ExpressionTree, factor_place, first_place, Function, function_of, Further_factors, Further_terms, is_some, named, no_expression, no_term, number, opening, parenthesised, product, product_of, Sign, Sign_is, signed, Spelled, star, Star, sum, sum_of_terms, sum_place, term_place, term_row, TermRow, text, Token, word}
 use Rattle.ss_lex.specs.declared.word.Word.TheVariants as words
 use Rattle.ss_base.specs.declared.words.Sign.TheVariants as signs
 use Rattle.ss_tree.specs.declared.expression.Designator.TheVariants as designators
-use Rattle.ss_parse_expressions.specs.Shapes.{Shape, ◌▷◌, Word_for, nested_shape}
+use Rattle.ss_parse_expressions.specs.Shapes.{Shape, ◌▷◌, Symbol_is, Word_for, each_in_turn, nested_shape}
 use Rattle.ss_parse_expressions.proofs.Marks.{starts_otherwise}
 
-or_right : (a b : Bool) → b ≡ true → (a || b) ≡ true
-or_right true b e = refl
-or_right false b e = e
+-- ---- rows of factors and of terms as lists
+
+pub further_factors : (levels : ℕ) (xs : List ExpressionTree) (ts rest : List Token) → each_in_turn (λ e. Symbol_is Star ▷ Spelled e factor_place levels) xs ts rest → Further_factors (expression_row xs) levels ts rest
+further_factors levels [] ts rest e = e
+further_factors levels (x ∷ xs) ts rest (m, (n, separated, one), more) = (n, separated, (m, one, further_factors levels xs m rest more))
+
+factors_listed : (levels : ℕ) (es : ExpressionRow) (ts rest : List Token) → Further_factors es levels ts rest → (xs : List ExpressionTree) × (expression_row xs ≡ es) × each_in_turn (λ e. Symbol_is Star ▷ Spelled e factor_place levels) xs ts rest
+factors_listed levels no_expression ts rest e = ([], refl, e)
+factors_listed levels (and_expression x es) ts rest (n, separated, (m, one, more)) =
+    let found = factors_listed levels es m rest more in
+    (x ∷ found.0, ap (and_expression x) found.1, (m, (n, separated, one), found.2))
+
+-- a further term of a sum
+abbrev pub Term_is : ℕ → Sign × ExpressionTree → Shape
+Term_is levels t = Sign_is t.0 ▷ Spelled t.1 term_place levels
+
+pub further_terms : (levels : ℕ) (xs : List (Sign × ExpressionTree)) (ts rest : List Token) → each_in_turn (Term_is levels) xs ts rest → Further_terms (term_row xs) levels ts rest
+further_terms levels [] ts rest e = e
+further_terms levels (x ∷ xs) ts rest (m, (n, sign, one), more) = (n, sign, (m, one, further_terms levels xs m rest more))
+
+terms_listed : (levels : ℕ) (es : TermRow) (ts rest : List Token) → Further_terms es levels ts rest → (xs : List (Sign × ExpressionTree)) × (term_row xs ≡ es) × each_in_turn (Term_is levels) xs ts rest
+terms_listed levels no_term ts rest e = ([], refl, e)
+terms_listed levels (and_term sign x es) ts rest (n, signs_is, (m, one, more)) =
+    let found = terms_listed levels es m rest more in
+    ((sign, x) ∷ found.0, ap (and_term sign x) found.1, (m, (n, signs_is, one), found.2))
+
+-- ---- what expressions begin with
 
 pub designated_begins : (d : Designator) (ts rest : List Token) → Designated d ts rest → (begins_sum ts ≡ true) × (begins_sign ts ≡ false)
 designated_begins (designators.Name n) ts rest (span, line, e) = (rw e refl, rw e refl)
@@ -40,21 +65,19 @@ factor_begins (signed sign e) levels ts rest s = absurd s.0
 factor_begins (sum e no_term) levels ts rest s = absurd s
 factor_begins (sum e (and_term sign f fs)) levels ts rest s = absurd s.0
 
--- A term is a product or a factor.
-pub term_cases : (e : ExpressionTree) (levels : ℕ) (ts rest : List Token) → Spelled e term_place levels ts rest → ((f : ExpressionTree) × (fs : ExpressionRow) × (e ≡ product f fs) × ((fs ≡ no_expression → ⊥) × (Spelled f factor_place levels ▷ Further_factors fs levels) ts rest)) ⊎ Spelled e factor_place levels ts rest
-term_cases (named d no_expression) levels ts rest s = inr s
-term_cases (call f no_expression) levels ts rest s = absurd s
-term_cases (product e (and_expression f fs)) levels ts rest (u, s) = inl (e, and_expression f fs, refl, (λ no. absurd cc, s))
-term_cases (signed sign e) levels ts rest s = absurd s.0
-term_cases (sum e (and_term sign f fs)) levels ts rest s = absurd s.0
-term_cases _ levels ts rest s = inr s
+-- A term is a factor and further ones, of which there may be none.
+pub term_parts : (e : ExpressionTree) (levels : ℕ) (ts rest : List Token) → Spelled e term_place levels ts rest → (p : ExpressionTree × List ExpressionTree) × (product_of p.0 p.1 ≡ e) × (Spelled p.0 factor_place levels ▷ each_in_turn (λ e. Symbol_is Star ▷ Spelled e factor_place levels) p.1) ts rest
+term_parts (named d no_expression) levels ts rest s = ((named d no_expression, []), refl, (rest, s, refl))
+term_parts (call f no_expression) levels ts rest s = absurd s
+term_parts (product e (and_expression f fs)) levels ts rest (u, (m, one, (a, star_is, (b, next, more)))) =
+    let found = factors_listed levels fs b rest more in
+    ((e, f ∷ found.0), ap (λ (r : ExpressionRow). product e (and_expression f r)) found.1, (m, one, (b, (a, star_is, next), found.2)))
+term_parts (signed sign e) levels ts rest s = absurd s.0
+term_parts (sum e (and_term sign f fs)) levels ts rest s = absurd s.0
+term_parts e levels ts rest s = ((e, []), refl, (rest, s, refl))
 
 pub term_begins : (e : ExpressionTree) (levels : ℕ) (ts rest : List Token) → Spelled e term_place levels ts rest → (begins_sum ts ≡ true) × (begins_sign ts ≡ false)
-term_begins e levels ts rest s =
-    elim (term_cases e levels ts rest s) [
-      | inl p ↦ factor_begins p.0 levels ts p.3.1.0 p.3.1.1
-      | inr f ↦ factor_begins e levels ts rest f
-    ]
+term_begins e levels ts rest s = let p = term_parts e levels ts rest s in factor_begins p.0.0 levels ts p.2.0 p.2.1
 
 -- The first term of a sum has a sign, or it is a term.
 pub first_cases : (e : ExpressionTree) (levels : ℕ) (ts rest : List Token) → Spelled e first_place levels ts rest → ((sign : Sign) × (t : ExpressionTree) × (e ≡ signed sign t) × (Sign_is sign ▷ Spelled t term_place levels) ts rest) ⊎ Spelled e term_place levels ts rest
@@ -72,21 +95,18 @@ first_begins e levels ts rest s =
       | inr t ↦ (term_begins e levels ts rest t).0
     ]
 
--- An expression is a sum or the first term of one.
-pub sum_cases : (e : ExpressionTree) (levels : ℕ) (ts rest : List Token) → Spelled e sum_place levels ts rest → ((f : ExpressionTree) × (fs : TermRow) × (e ≡ sum f fs) × ((fs ≡ no_term → ⊥) × (Spelled f first_place levels ▷ Further_terms fs levels) ts rest)) ⊎ Spelled e first_place levels ts rest
-sum_cases (named d no_expression) levels ts rest s = inr s
-sum_cases (call f no_expression) levels ts rest s = absurd s
-sum_cases (product e no_expression) levels ts rest s = absurd s
-sum_cases (sum e (and_term sign f fs)) levels ts rest (u, (m, first, (n, sign_is, (o, one, more)))) =
-    inl (e, and_term sign f fs, refl, (λ no. absurd cc, (m, first, (n, sign_is, (o, one, more)))))
-sum_cases _ levels ts rest s = inr s
+-- An expression is a first term and further ones, of which there may be none.
+pub sum_parts : (e : ExpressionTree) (levels : ℕ) (ts rest : List Token) → Spelled e sum_place levels ts rest → (p : ExpressionTree × List (Sign × ExpressionTree)) × (sum_of_terms p.0 p.1 ≡ e) × (Spelled p.0 first_place levels ▷ each_in_turn (Term_is levels) p.1) ts rest
+sum_parts (named d no_expression) levels ts rest s = ((named d no_expression, []), refl, (rest, s, refl))
+sum_parts (call f no_expression) levels ts rest s = absurd s
+sum_parts (product e no_expression) levels ts rest s = absurd s
+sum_parts (sum e (and_term sign f fs)) levels ts rest (u, (m, one, (a, sign_is, (b, next, more)))) =
+    let found = terms_listed levels fs b rest more in
+    ((e, (sign, f) ∷ found.0), ap (λ (r : TermRow). sum e (and_term sign f r)) found.1, (m, one, (b, (a, sign_is, next), found.2)))
+sum_parts e levels ts rest s = ((e, []), refl, (rest, s, refl))
 
 pub sum_begins : (e : ExpressionTree) (levels : ℕ) (ts rest : List Token) → Spelled e sum_place levels ts rest → begins_sum ts ≡ true
-sum_begins e levels ts rest s =
-    elim (sum_cases e levels ts rest s) [
-      | inl p ↦ first_begins p.0 levels ts p.3.1.0 p.3.1.1
-      | inr f ↦ first_begins e levels ts rest f
-    ]
+sum_begins e levels ts rest s = let p = sum_parts e levels ts rest s in first_begins p.0.0 levels ts p.2.0 p.2.1
 
 -- an expression within one level more
 abbrev pub In : ℕ → ExpressionTree → Shape

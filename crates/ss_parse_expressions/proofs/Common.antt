@@ -14,8 +14,8 @@ unfoldable pub use Rattle.ss_parse_expressions.specs.ReadExpressions.{sum_in}
 pub use Rattle.ss_parse_expressions.specs.ReadHeads.{begins_phrase, phrases_in}
 unfoldable pub use Rattle.ss_parse_expressions.specs.ReadHeads.{guard_in, phrase_in}
 pub use Rattle.ss_parse_expressions.specs.ReadPlaces.{begins_target, reference_in, target_in, targets_in}
-pub use Rattle.ss_parse_expressions.specs.ReadWords.{articled_name, begins_among, begins_class, begins_item, begins_name, done, if_present, items, names, skip_class}
-pub use Rattle.ss_parse_expressions.specs.Reading.{HasFailedReading, Mark, Reader, after_dropped, apply, begins, begins_by, begins_more, choose_reader, closed, comma, expect, in_table, is, is_some, kind_of_mark, maybe, maybe_list, name_in_token, seq, skip, skip_comma, skip_separator, symbol, taken, word}
+pub use Rattle.ss_parse_expressions.specs.ReadWords.{begins_among, begins_class, begins_name, done, if_present, past_article}
+pub use Rattle.ss_parse_expressions.specs.Reading.{HasFailedReading, Mark, Reader, after_dropped, apply, begins, begins_by, begins_more, choose_reader, closed, comma, expect, in_table, is, is_some, kind_of_mark, list_of, maybe, maybe_list, name_in_token, seq, skip, skip_comma, skip_separator, symbol, taken, word}
 unfoldable pub use Rattle.ss_parse_expressions.specs.Reading.{rows}
 pub use Rattle.ss_parse_expressions.specs.Shapes.{Shape, Token_is}
 pub use Rattle.ss_parse_expressions.specs.SpelledExpressions.{Designated, Further_factors, Further_terms, Plain_name, Reference_is, Sign_is, Spelled, Subscript, Sum_is, factor_place, first_place, sum_place, term_place}
@@ -28,4 +28,3 @@ unfoldable pub use Rattle.ss_tree.specs.View.{view_expression_tree}
 pub use Rattle.ss_tree.specs.Views.{view_named_made}
 pub use Rattle.ss_tree.specs.declared.expression.Designator.{Designator}
 pub use Rattle.ss_tree.specs.declared.expression.Function.{Function}
-pub use Rattle.std.proofs.lemmas.Result.{err_from_is_err_and}

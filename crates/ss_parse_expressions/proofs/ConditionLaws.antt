@@ -1,6 +1,7 @@
 -- Conditions: what is read is spelled, and what is spelled is read.
 use Rattle.std.proofs.Common.{◌≡◌, ℕ, zero, suc, ◌<◌, ◌≤◌, Bool, true, false, cond, ◌||◌, List, [], ◌∷◌, length, Option, Some, None, refl, sym, ap, subst, ◌∙◌, arith, inl, inr, ◌⊎◌}
-use Rattle.ss_parse_expressions.proofs.Common.{begins, begins_by, begins_sign, begins_sum, choose_reader, closed, Designator, Equals, if_present, in_table, is, opening, Plain_name, reference_in, Reference_is, seq, skip, Spelled, star, Subscript, sum_in, Sum_is, sum_place, taken, the, Token, TokenKind, Word, word}
+use Rattle.std.proofs.lemmas.Bool.{or_from}
+use Rattle.ss_parse_expressions.proofs.Common.{begins, begins_by, begins_sign, begins_sum, choose_reader, closed, Designator, Equals, if_present, in_table, opening, Plain_name, reference_in, Reference_is, seq, skip, Spelled, star, Subscript, sum_in, Sum_is, sum_place, taken, the, Token, TokenKind, Word, word}
 use Rattle.ss_lex.specs.declared.word.Word.TheVariants as words
 use Rattle.ss_lex.specs.declared.token.TokenKind.TheVariants as kinds
 use Rattle.ss_base.specs.declared.words.Relation.{Relation}
@@ -11,7 +12,7 @@ use Rattle.ss_parse_expressions.specs.declared.conditions.Verb.{Verb}
 use Rattle.ss_parse_expressions.specs.declared.conditions.Verb.TheVariants as verbs
 use Rattle.ss_parse_expressions.specs.declared.conditions.TestWord.{TestWord}
 use Rattle.ss_parse_expressions.specs.declared.conditions.TestWord.TheVariants as test_words
-use Rattle.ss_parse_expressions.specs.Shapes.{Shape, ◌▷◌, nothing, never, optional, provided, Token_is, Word_is, Name_is, Word_for, flagged, nested_shape}
+use Rattle.ss_parse_expressions.specs.Shapes.{Shape, ◌▷◌, nothing, never, provided, Token_is, Word_is, Name_is, Word_for, flagged, nested_shape}
 use Rattle.ss_parse_expressions.specs.SpelledConditions.{In_words, Relation_is, Test_is, joined_by_word}
 use Rattle.ss_parse_expressions.specs.WordTables.{relation_of}
 use Rattle.ss_parse_expressions.specs.ReadConditions.{relation_symbol, test_word_of, verb_end, worded_verb, verb, reference_of, empty_of, data_test, test_end, sum_test, test_in, conjunction_in, condition_in}
@@ -19,10 +20,11 @@ use Rattle.ss_parse_expressions.proofs.Tools.{or_false}
 use Rattle.ss_parse_expressions.proofs.Marks.{token_less, starts_otherwise, In_table, begins_table}
 use Rattle.ss_parse_expressions.proofs.ReaderLaws.{Reads, Item, continues_never, Made, item_of, item_marked, item_skipped, expect_reads, taken_reads, seq_reads, bind_reads, made_reads, marked_reads, closed_reads, reshaped_reads, fewer_reads, optional_reads, too_deep_reads, done_reads, either_reads}
 use Rattle.ss_parse_expressions.proofs.Rows.{first_and_reads, first_less, Loop, loop_of}
-use Rattle.ss_parse_expressions.proofs.WordLaws.{word_in_reads, present_reads, fail_reads}
+use Rattle.ss_parse_expressions.proofs.WordLaws.{optionally, word_in_reads, present_reads, fail_reads}
 use Rattle.ss_parse_expressions.proofs.Beginnings.{in_begins, continues_sum}
 use Rattle.ss_parse_expressions.proofs.Sums.{in_less, sum_in_reads}
-use Rattle.ss_parse_expressions.proofs.PlaceLaws.{reference_in_reads, continues_place}
+use Rattle.ss_parse_expressions.specs.ReadPlaces.{plain_of}
+use Rattle.ss_parse_expressions.proofs.PlaceLaws.{plain_from, reference_in_reads, continues_place}
 
 -- ---- words
 
@@ -34,34 +36,18 @@ word_of test_words.Less = words.Less
 word_of test_words.Greater = words.Greater
 
 only_test_word : (w : Word) (t : TestWord) → test_word_of w ≡ Some t → w ≡ word_of t
-only_test_word words.Empty t e = let same : test_words.Empty ≡ t = cc in subst (λ t. words.Empty ≡ word_of t) same refl
-only_test_word words.In t e = let same : test_words.In ≡ t = cc in subst (λ t. words.In ≡ word_of t) same refl
-only_test_word words.Equal t e = let same : test_words.Equal ≡ t = cc in subst (λ t. words.Equal ≡ word_of t) same refl
-only_test_word words.Less t e = let same : test_words.Less ≡ t = cc in subst (λ t. words.Less ≡ word_of t) same refl
-only_test_word words.Greater t e = let same : test_words.Greater ≡ t = cc in subst (λ t. words.Greater ≡ word_of t) same refl
-only_test_word _ t e = absurd cc
+only_test_word w t e = grind arith
 
--- none of them is IS, NOT or a relation
-test_word_other : (t : TestWord) → (is (word words.Is) (kinds.Word (word_of t)) ≡ false) × (is (word words.Not) (kinds.Word (word_of t)) ≡ false) × (relation_of (word_of t) ≡ None)
-test_word_other test_words.Empty = (refl, refl, refl)
-test_word_other test_words.In = (refl, refl, refl)
-test_word_other test_words.Equal = (refl, refl, refl)
-test_word_other test_words.Less = (refl, refl, refl)
-test_word_other test_words.Greater = (refl, refl, refl)
+-- none of them is a relation
+no_relation : (t : TestWord) → relation_of (word_of t) ≡ None
+no_relation t = grind arith
 
--- the word that says what is tested
-abbrev Test_word_is : TestWord → Shape
-Test_word_is t = Word_is (word_of t)
+test_word_is : (t : TestWord) (ts rest : List Token) → Word_for test_word_of t ts rest → Word_is (word_of t) ts rest
+test_word_is t ts rest (w, means, at) = subst (λ w. Word_is w ts rest) (only_test_word w t means) at
 
-test_word_to : (t : TestWord) (ts rest : List Token) → Word_for test_word_of t ts rest → Test_word_is t ts rest
-test_word_to t ts rest (w, means, at) = subst (λ w. Word_is w ts rest) (only_test_word w t means) at
-
-test_word_from : (t : TestWord) (ts rest : List Token) → Test_word_is t ts rest → Word_for test_word_of t ts rest
-test_word_from test_words.Empty ts rest at = (words.Empty, refl, at)
-test_word_from test_words.In ts rest at = (words.In, refl, at)
-test_word_from test_words.Equal ts rest at = (words.Equal, refl, at)
-test_word_from test_words.Less ts rest at = (words.Less, refl, at)
-test_word_from test_words.Greater ts rest at = (words.Greater, refl, at)
+-- what begins with such a word doesn't begin with another one
+test_word_first : (w : Word) → test_word_of w ≡ None → (t : TestWord) (ts rest : List Token) → Word_for test_word_of t ts rest → begins (word w) ts ≡ false
+test_word_first w other t ts rest (v, means, at) = starts_otherwise (word w) (begins_by (in_table test_word_of)) (λ span line ts. rw other refl) ts (begins_table (in_table test_word_of) ts rest t (kinds.Word v, means, at))
 
 -- ---- the verb of a test, after its first expression
 
@@ -71,17 +57,14 @@ Verb_is (verbs.IsEmpty negated) = Word_is words.Is ▷ flagged (Word_is words.No
 Verb_is (verbs.IsIn negated) = Word_is words.Is ▷ flagged (Word_is words.Not) negated ▷ Word_is words.In
 
 abbrev Verb_words : Bool × (Bool × TestWord) → Shape
-Verb_words p = flagged (Word_is words.Is) p.0 ▷ flagged (Word_is words.Not) p.1.0 ▷ Test_word_is p.1.1
+Verb_words p = flagged (Word_is words.Is) p.0 ▷ flagged (Word_is words.Not) p.1.0 ▷ Word_for test_word_of p.1.1
 
 verb_words_reads : (k : ℕ) → Reads k (seq (if_present (word words.Is)) (seq (if_present (word words.Not)) (taken (in_table test_word_of)))) (seq (if_present (word words.Is)) (seq (if_present (word words.Not)) (taken (in_table test_word_of)))) Verb_words continues_never
-verb_words_reads k = seq_reads (present_reads k (word words.Is)) (seq_reads (present_reads k (word words.Not)) (reshaped_reads (word_in_reads k test_word_of) Test_word_is test_word_to test_word_from) no_not) no_is
+verb_words_reads k = seq_reads (present_reads k (word words.Is)) (seq_reads (present_reads k (word words.Not)) (word_in_reads k test_word_of) (λ t ts rest s stop. test_word_first words.Not refl t ts rest s)) no_is
   where
-    no_not : (t : TestWord) (ts rest : List Token) → Test_word_is t ts rest → continues_never rest ≡ false → begins (word words.Not) ts ≡ false
-    no_not t ts rest (span, line, e) stop = ap (begins (word words.Not)) e ∙ (test_word_other t).1
-
-    no_is : (p : Bool × TestWord) (ts rest : List Token) → (flagged (Word_is words.Not) p.0 ▷ Test_word_is p.1) ts rest → continues_never rest ≡ false → begins (word words.Is) ts ≡ false
+    no_is : (p : Bool × TestWord) (ts rest : List Token) → (flagged (Word_is words.Not) p.0 ▷ Word_for test_word_of p.1) ts rest → continues_never rest ≡ false → begins (word words.Is) ts ≡ false
     no_is (true, t) ts rest (a, (span, line, e), s) stop = ap (begins (word words.Is)) e
-    no_is (false, t) ts rest (a, e, (span, line, f)) stop = ap (begins (word words.Is)) (e ∙ f) ∙ (test_word_other t).0
+    no_is (false, t) ts rest (a, e, s) stop = ap (begins (word words.Is)) e ∙ test_word_first words.Is refl t a rest s
 
 abbrev Verb_end : TestWord → Bool → Bool → Verb → Shape
 Verb_end test_words.Empty true negated v = provided (verbs.IsEmpty negated ≡ v) nothing
@@ -112,18 +95,15 @@ worded_reads k = bind_reads (verb_words_reads k) (λ p. verb_end_reads k p.1.1 p
 worded_first : (v : Verb) (ts rest : List Token) → Worded v ts rest → (begins_by relation_symbol ts ≡ false) × (continues_sum ts ≡ false)
 worded_first v ts rest ((true, (negated, t)), (m, (a, (span, line, e), s), end)) = (ap (begins_by relation_symbol) e, ap continues_sum e)
 worded_first v ts rest ((false, (true, t)), (m, (a, e, (b, (span, line, f), s)), end)) = (ap (begins_by relation_symbol) (e ∙ f), ap continues_sum (e ∙ f))
-worded_first v ts rest ((false, (false, t)), (m, (a, e, (b, f, (span, line, g))), end)) =
-    let no : relation_of (word_of t) ≡ None = (test_word_other t).2 in
-    (rw (e, f, g, no) refl, ap continues_sum (e ∙ f ∙ g))
-
-optionally : (i : Bool) (P : Shape) (ts rest : List Token) → flagged P i ts rest → optional P ts rest
-optionally true P ts rest s = inr s
-optionally false P ts rest s = inl s
+worded_first v ts rest ((false, (false, t)), (m, (a, e, (b, f, at)), end)) =
+    let word = test_word_is t b m at in
+    let no : relation_of (word_of t) ≡ None = no_relation t in
+    (ap (begins_by relation_symbol) (e ∙ f ∙ word.2) ∙ rw no refl, ap continues_sum (e ∙ f ∙ word.2))
 
 worded_to : (v : Verb) (ts rest : List Token) → Worded v ts rest → Verb_is v ts rest
-worded_to v ts rest ((i, (negated, t)), (m, (a, s, (b, neg, at)), end)) = go t i negated a b m s neg at end
+worded_to v ts rest ((i, (negated, t)), (m, (a, s, (b, neg, at)), end)) = go t i negated a b m s neg (test_word_is t b m at) end
   where
-    go : (t : TestWord) (i negated : Bool) (a b m : List Token) → flagged (Word_is words.Is) i ts a → flagged (Word_is words.Not) negated a b → Test_word_is t b m → Verb_end t i negated v m rest → Verb_is v ts rest
+    go : (t : TestWord) (i negated : Bool) (a b m : List Token) → flagged (Word_is words.Is) i ts a → flagged (Word_is words.Not) negated a b → Word_is (word_of t) b m → Verb_end t i negated v m rest → Verb_is v ts rest
     go test_words.Empty true negated a b m s neg at end = subst (λ v. Verb_is v ts rest) end.0 (a, s, (b, neg, subst (λ r. Word_is words.Empty b r) end.1 at))
     go test_words.Empty false negated a b m s neg at end = absurd end
     go test_words.In true negated a b m s neg at end = subst (λ v. Verb_is v ts rest) end.0 (a, s, (b, neg, subst (λ r. Word_is words.In b r) end.1 at))
@@ -136,32 +116,29 @@ worded_to v ts rest ((i, (negated, t)), (m, (a, s, (b, neg, at)), end)) = go t i
     go test_words.Greater i false a b m s neg at (u, makes, end) = subst (λ v. Verb_is v ts rest) makes (inr (inr (a, optionally i (Word_is words.Is) ts a s, (m, subst (λ r. Word_is words.Greater r m) (sym neg) at, end))))
 
 words_from : (i : Bool) (r : Relation) (ts a rest : List Token) → flagged (Word_is words.Is) i ts a → In_words r a rest → Worded (verbs.Compares r) ts rest
-words_from i relations.Equal ts a rest s (m, at, end) = ((i, (false, test_words.Equal)), (m, (a, s, (a, refl, at)), (tt, refl, end)))
-words_from i relations.NotEqual ts a rest s (b, neg, (m, at, end)) = ((i, (true, test_words.Equal)), (m, (a, s, (b, neg, at)), (tt, refl, end)))
-words_from i relations.Less ts a rest s (m, at, end) = ((i, (false, test_words.Less)), (m, (a, s, (a, refl, at)), (tt, refl, end)))
-words_from i relations.Greater ts a rest s (m, at, end) = ((i, (false, test_words.Greater)), (m, (a, s, (a, refl, at)), (tt, refl, end)))
-words_from i relations.LessOrEqual ts a rest s (b, neg, (m, at, end)) = ((i, (true, test_words.Greater)), (m, (a, s, (b, neg, at)), (tt, refl, end)))
-words_from i relations.GreaterOrEqual ts a rest s (b, neg, (m, at, end)) = ((i, (true, test_words.Less)), (m, (a, s, (b, neg, at)), (tt, refl, end)))
+words_from i relations.Equal ts a rest s (m, at, end) = ((i, (false, test_words.Equal)), (m, (a, s, (a, refl, (words.Equal, refl, at))), (tt, refl, end)))
+words_from i relations.NotEqual ts a rest s (b, neg, (m, at, end)) = ((i, (true, test_words.Equal)), (m, (a, s, (b, neg, (words.Equal, refl, at))), (tt, refl, end)))
+words_from i relations.Less ts a rest s (m, at, end) = ((i, (false, test_words.Less)), (m, (a, s, (a, refl, (words.Less, refl, at))), (tt, refl, end)))
+words_from i relations.Greater ts a rest s (m, at, end) = ((i, (false, test_words.Greater)), (m, (a, s, (a, refl, (words.Greater, refl, at))), (tt, refl, end)))
+words_from i relations.LessOrEqual ts a rest s (b, neg, (m, at, end)) = ((i, (true, test_words.Greater)), (m, (a, s, (b, neg, (words.Greater, refl, at))), (tt, refl, end)))
+words_from i relations.GreaterOrEqual ts a rest s (b, neg, (m, at, end)) = ((i, (true, test_words.Less)), (m, (a, s, (b, neg, (words.Less, refl, at))), (tt, refl, end)))
 
 -- a relation that is one token
 abbrev Verb_symbol : Verb → Shape
 Verb_symbol = Made verbs.Compares (In_table relation_symbol)
 
 symbol_to : (v : Verb) (ts rest : List Token) → Verb_symbol v ts rest → Verb_is v ts rest
-symbol_to v ts rest (r, makes, (k, takes, at)) = subst (λ v. Verb_is v ts rest) makes (go k takes at)
-  where
-    go : (k : TokenKind) → relation_symbol k ≡ Some r → Token_is k ts rest → Relation_is r ts rest
-    go (kinds.Symbol Equals) e at = let same : r ≡ relations.Equal = cc in inl (same, at)
-    go (kinds.Word w) e at = inr (inl (w, e, at))
-    go _ e at = absurd cc
+symbol_to v ts rest (r, makes, (kinds.Symbol Equals, e, at)) = let same : r ≡ relations.Equal = cc in subst (λ v. Verb_is v ts rest) makes (inl (same, at))
+symbol_to v ts rest (r, makes, (kinds.Word w, e, at)) = subst (λ v. Verb_is v ts rest) makes (inr (inl (w, e, at)))
+symbol_to v ts rest (r, makes, (_, e, at)) = absurd cc
 
 verb_from : (v : Verb) (ts rest : List Token) → Verb_is v ts rest → Verb_symbol v ts rest ⊎ Worded v ts rest
 verb_from (verbs.Compares r) ts rest (inl (same, at)) = inl (r, refl, (kinds.Symbol Equals, ap Some (sym same), at))
 verb_from (verbs.Compares r) ts rest (inr (inl (w, e, at))) = inl (r, refl, (kinds.Word w, e, at))
 verb_from (verbs.Compares r) ts rest (inr (inr (a, inl e, s))) = inr (words_from false r ts a rest e s)
 verb_from (verbs.Compares r) ts rest (inr (inr (a, inr w, s))) = inr (words_from true r ts a rest w s)
-verb_from (verbs.IsEmpty negated) ts rest (a, s, (b, neg, at)) = inr ((true, (negated, test_words.Empty)), (rest, (a, s, (b, neg, at)), (refl, refl)))
-verb_from (verbs.IsIn negated) ts rest (a, s, (b, neg, at)) = inr ((true, (negated, test_words.In)), (rest, (a, s, (b, neg, at)), (refl, refl)))
+verb_from (verbs.IsEmpty negated) ts rest (a, s, (b, neg, at)) = inr ((true, (negated, test_words.Empty)), (rest, (a, s, (b, neg, (words.Empty, refl, at))), (refl, refl)))
+verb_from (verbs.IsIn negated) ts rest (a, s, (b, neg, at)) = inr ((true, (negated, test_words.In)), (rest, (a, s, (b, neg, (words.In, refl, at))), (refl, refl)))
 
 pub verb_reads : (k : ℕ) → Reads k verb verb Verb_is continues_never
 unfolding verb
@@ -192,9 +169,6 @@ reference_to zero (named (designators.Name v) (and_expression x no_expression)) 
 reference_to (suc n) (named (designators.Name v) (and_expression x no_expression)) set ts rest e (a, at, (b, opened, (c, inner, closed))) =
     let same : record { designator = designators.Name v; subscripts = and_expression x no_expression } ≡ set = cc in
     subst (λ set. Reference_is (suc n) set ts rest) same (a, at, (b, opened, (c, subst (λ r. Spelled x sum_place n b r) inner.2 inner.1, closed)))
-reference_to n (named (designators.Name v) (and_expression x (and_expression y ys))) set ts rest e s = absurd cc
-reference_to n (named designators.TimeV row) set ts rest e s = absurd cc
-reference_to n (named designators.TimeA row) set ts rest e s = absurd cc
 reference_to n _ set ts rest e s = absurd cc
 
 -- the expression that names the set
@@ -206,25 +180,17 @@ reference_from n (designators.Name v) no_expression ts a rest at e = (subst (λ 
 reference_from zero (designators.Name v) (and_expression x no_expression) ts a rest at (b, opened, (c, inner, closed)) = absurd inner
 reference_from (suc n) (designators.Name v) (and_expression x no_expression) ts a rest at (b, opened, (c, inner, closed)) = ((a, at, (b, opened, (c, (c, inner, refl), closed))), refl)
 reference_from n (designators.Name v) (and_expression x (and_expression y ys)) ts a rest at s = absurd s
-reference_from n designators.TimeV row ts a rest at s = absurd at
-reference_from n designators.TimeA row ts a rest at s = absurd at
+reference_from n _ row ts a rest at s = absurd at
 
 -- ---- tests
 
 no_the : (n : ℕ) (set : NamedTree) (ts rest : List Token) → Reference_is n set ts rest → begins (word words.The) ts ≡ false
-no_the n set ts rest (a, at, s) = go set.designator at
-  where
-    go : (d : Designator) → Plain_name d ts a → begins (word words.The) ts ≡ false
-    go (designators.Name v) (span, line, e) = ap (begins (word words.The)) e
-    go designators.TimeV at = absurd at
-    go designators.TimeA at = absurd at
+no_the n set ts rest (a, at, s) = starts_otherwise (word words.The) (begins_by plain_of) (λ span line ts. refl) ts (begins_table plain_of ts a set.designator (plain_from set.designator ts a at))
 
 pub stops_place : (ts : List Token) → continues_sum ts ≡ false → continues_place ts ≡ false
 stops_place ts stop =
     let a = or_false (begins_sign ts) (begins star ts || begins opening ts) stop in
-    let b = or_false (begins star ts) (begins opening ts) a.1 in
-    let none : begins opening ts ≡ false = b.1 in
-    rw none refl
+    or_from (begins opening ts) (continues_never ts) (or_false (begins star ts) (begins opening ts) a.1).1 refl
 
 sum_no_data : (ts : List Token) → begins_sum ts ≡ true → begins (word words.Data) ts ≡ false
 sum_no_data = starts_otherwise (word words.Data) begins_sum (λ span line ts. refl)

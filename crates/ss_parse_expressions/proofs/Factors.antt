@@ -1,17 +1,17 @@
 -- Factors: what is read is spelled, and what is spelled is read.
-use Rattle.std.proofs.Common.{◌≡◌, ℕ, zero, suc, ◌+◌, ◌<◌, false, ◌||◌, List, [], ◌∷◌, length, Option, Some, None, Ok, refl, ap, subst, arith, inl, inr, ◌⊎◌}
-use Rattle.ss_parse_expressions.proofs.Common.{and_expression, and_term, begins, begins_more, call, CloseParenthesis, Designator, expression_row, ExpressionRow, ExpressionTree, Function, function_of, Line, named, no_expression, no_term, number, openers, OpenParenthesis, opens, parenthesised, product, signed, Span, sum, text, Token, TokenKind, Word}
+use Rattle.std.proofs.Common.{◌≡◌, ℕ, zero, suc, ◌+◌, ◌<◌, ◌||◌, List, [], ◌∷◌, length, Option, Some, None, Ok, refl, ap, subst, ◌∙◌, arith, inl, inr, ◌⊎◌}
+use Rattle.ss_parse_expressions.proofs.Common.{and_expression, and_term, begins, begins_more, call, CloseParenthesis, Designator, expression_row, ExpressionRow, ExpressionTree, Function, function_of, named, no_expression, no_term, number, openers, OpenParenthesis, opens, parenthesised, product, signed, sum, text, Token, Token_is, TokenKind, Word}
 use Rattle.ss_lex.specs.declared.word.Word.TheVariants as words
 use Rattle.ss_lex.specs.declared.token.TokenKind.TheVariants as kinds
 use Rattle.ss_tree.specs.declared.expression.Designator.TheVariants as designators
-use Rattle.ss_parse_expressions.specs.Shapes.{Shape, ◌▷◌, nothing, never, Symbol_is, Word_for, separator, each_in_turn, separated_list, nested_shape}
+use Rattle.ss_parse_expressions.specs.Shapes.{Shape, ◌▷◌, nothing, never, provided, Symbol_is, Word_for, Word_is, separator, each_in_turn, separated_list, nested_shape}
 use Rattle.ss_parse_expressions.specs.SpelledExpressions.{ExpressionPlace, sum_place, factor_place, Designated, Spelled, Further_arguments}
-use Rattle.ss_parse_expressions.specs.ReadExpressions.{opening, closing, designator_of_word, begins_sum, arguments_with, enclosed_with, subscripts_with, named_with, call_with, parenthesised_with, factor_in_words, factor_at, factor_with, sum_in}
-use Rattle.ss_parse_expressions.proofs.Tools.{bind_ok, carry}
-use Rattle.ss_parse_expressions.proofs.Marks.{token, mark_begins, token_less}
-use Rattle.ss_parse_expressions.proofs.Depth.{Upto, upto_same, upto_bind, Bounded, bounded_more, bounded_bind, bounded_opened}
-use Rattle.ss_parse_expressions.proofs.ReaderLaws.{Reads, Item, continues_never, item_of, before_mark_reads, opened_reads, apply_reads, maybe_list_reads}
+use Rattle.ss_parse_expressions.specs.ReadExpressions.{opening, closing, designator_of_word, begins_sum, arguments_with, enclosed_with, subscripts_with, parenthesised_with, factor_in_words, factor_at, factor_with, sum_in}
+use Rattle.ss_parse_expressions.proofs.Marks.{token_less}
+use Rattle.ss_parse_expressions.proofs.Depth.{Upto, upto_same, Bounded, bounded_more, bounded_opened}
+use Rattle.ss_parse_expressions.proofs.ReaderLaws.{Reads, Item, Made, continues_never, done_reads, reshaped_reads, fewer_reads, made_reads, before_mark_reads, opened_reads, opened_item, maybe_list_reads}
 use Rattle.ss_parse_expressions.proofs.Rows.{list_reads}
+use Rattle.ss_parse_expressions.proofs.WordLaws.{fail_reads}
 use Rattle.ss_parse_expressions.proofs.Beginnings.{In, in_begins, sum_no_and, continues_factor, continues_sum}
 
 -- ---- rows of arguments as lists
@@ -85,24 +85,15 @@ call_from f n (and_expression e es) place ts rest (a, at, s) =
     let found = enclosed_from n (and_expression e es) a rest s in
     (found.0, found.1, (a, at, found.2))
 
--- ---- what is spelled takes tokens
-
-pub designated_less : (d : Designator) (ts rest : List Token) → Designated d ts rest → length rest < length ts
-designated_less (designators.Name n) ts rest s = omega (arith, token_less (kinds.Name n) ts rest s)
-designated_less designators.TimeV ts rest s = omega (arith, token_less (kinds.Word words.TimeV) ts rest s)
-designated_less designators.TimeA ts rest s = omega (arith, token_less (kinds.Word words.TimeA) ts rest s)
-
 -- ---- words in factors
 
-pub word_designates : (w : Word) (d : Designator) (span : Span) (line : Line) (ts : List Token) → designator_of_word w ≡ Some d → Designated d (token (kinds.Word w) span line ∷ ts) ts
-word_designates words.TimeV d span line ts e = let is_v : designators.TimeV ≡ d = cc in subst (λ d. Designated d (token (kinds.Word words.TimeV) span line ∷ ts) ts) is_v (span, line, refl)
-word_designates words.TimeA d span line ts e = let is_a : designators.TimeA ≡ d = cc in subst (λ d. Designated d (token (kinds.Word words.TimeA) span line ∷ ts) ts) is_a (span, line, refl)
-word_designates _ d span line ts e = absurd cc
+pub word_designates : (w : Word) (d : Designator) (ts rest : List Token) → designator_of_word w ≡ Some d → Word_is w ts rest → Designated d ts rest
+word_designates words.TimeV d ts rest e at = let is_v : designators.TimeV ≡ d = cc in subst (λ d. Designated d ts rest) is_v at
+word_designates words.TimeA d ts rest e at = let is_a : designators.TimeA ≡ d = cc in subst (λ d. Designated d ts rest) is_a at
+word_designates _ d ts rest e at = absurd cc
 
 function_no_designator : (w : Word) (f : Function) → function_of w ≡ Some f → designator_of_word w ≡ None
-function_no_designator words.TimeV f e = absurd cc
-function_no_designator words.TimeA f e = absurd cc
-function_no_designator _ f e = refl
+function_no_designator w f e = grind arith
 
 -- ---- the laws of an expression, given those of what is in its parentheses
 
@@ -115,150 +106,125 @@ module _ (n m : ℕ) (inner : Reads n (sum_in n) (sum_in m) (In n) continues_sum
   enclosed_reads = opened_reads opening refl (before_mark_reads closing arguments_reads (λ span line ts. refl))
 
   enclosed_item : Item (suc n) (begins opening) (enclosed_with (sum_in n)) (enclosed_with (sum_in m)) (Enclosed n) continues_never
-  enclosed_item =
-      item_of (begins opening) enclosed_reads (λ ts xs rest s. mark_begins opening ts s.0 s.1)
-      (λ ts xs rest s. omega (arith, token_less (kinds.Symbol OpenParenthesis) ts s.0 s.1, arguments_reads.shorter s.0 xs s.2.0 s.2.1, token_less (kinds.Symbol CloseParenthesis) s.2.0 rest s.2.2))
+  unfolding enclosed_with
+  enclosed_item = opened_item opening refl (before_mark_reads closing arguments_reads (λ span line ts. refl))
 
   subscripts_reads : Reads (suc n) (subscripts_with (sum_in n)) (subscripts_with (sum_in m)) (Subscripts n) (λ ts. begins opening ts || continues_never ts)
   unfolding subscripts_with
   subscripts_reads = maybe_list_reads enclosed_item (subscripts_to n) (subscripts_from n) (λ ts. refl)
 
-  parenthesised_reads : Reads n (parenthesised_with (sum_in n)) (parenthesised_with (sum_in m)) (λ x ts rest. (e : ExpressionTree) × (parenthesised e ≡ x) × (In n e ▷ Symbol_is CloseParenthesis) ts rest) continues_never
+  parenthesised_reads : Reads n (parenthesised_with (sum_in n)) (parenthesised_with (sum_in m)) (Made parenthesised (λ (e : ExpressionTree). In n e ▷ Symbol_is CloseParenthesis)) continues_never
   unfolding parenthesised_with
-  parenthesised_reads =
-      apply_reads (before_mark_reads closing inner (λ span line ts. refl)) parenthesised
-      (λ x ts rest. (e : ExpressionTree) × (parenthesised e ≡ x) × (In n e ▷ Symbol_is CloseParenthesis) ts rest)
-      (λ e ts rest s. (e, refl, s)) (λ x ts rest s. s)
+  parenthesised_reads = made_reads (before_mark_reads closing inner (λ span line ts. refl)) parenthesised
 
   -- ---- factors
 
-  named_sound : (d : Designator) (ts a : List Token) (x : ExpressionTree) (rest : List Token) → Designated d ts a → named_with (sum_in n) d a ≡ Ok (x, rest) → Spelled x factor_place n ts rest
-  named_sound d ts a x rest at e =
-      let xs = bind_ok (subscripts_with (sum_in n) a) _ _ e in
-      carry (λ (x : ExpressionTree) (r : List Token). Spelled x factor_place n ts r) (named d (expression_row xs.0.0)) x xs.0.1 rest xs.2
-      (named_to d n xs.0.0 factor_place ts a xs.0.1 at (subscripts_reads.sound a xs.0.0 xs.0.1 xs.1))
+  -- what is spelled after a word, by what the word designates or else which function it names
+  abbrev After_word : Option Designator → Option Function → ExpressionTree → Shape
+  After_word (Some d) f x = Made (λ (xs : List ExpressionTree). named d (expression_row xs)) (Subscripts n) x
+  After_word None (Some f) x = Made (λ (xs : List ExpressionTree). call f (expression_row xs)) (Enclosed n) x
+  After_word None None x = never
 
-  call_sound : (f : Function) (ts a : List Token) (x : ExpressionTree) (rest : List Token) → Word_for function_of f ts a → call_with (sum_in n) f a ≡ Ok (x, rest) → Spelled x factor_place n ts rest
-  call_sound f ts a x rest at e =
-      let xs = bind_ok (enclosed_with (sum_in n) a) _ _ e in
-      carry (λ (x : ExpressionTree) (r : List Token). Spelled x factor_place n ts r) (call f (expression_row xs.0.0)) x xs.0.1 rest xs.2
-      (call_to f n xs.0.0 factor_place ts a xs.0.1 at (enclosed_reads.sound a xs.0.0 xs.0.1 xs.1))
+  -- what is spelled after the first token of a factor
+  abbrev After_token : TokenKind → ExpressionTree → Shape
+  After_token (kinds.Number v) x = provided (number v ≡ x) nothing
+  After_token (kinds.Text t) x = provided (text t ≡ x) nothing
+  After_token (kinds.Name v) x = After_word (Some (designators.Name v)) None x
+  After_token (kinds.Word w) x = After_word (designator_of_word w) (function_of w) x
+  After_token (kinds.Symbol OpenParenthesis) x = Made parenthesised (λ (e : ExpressionTree). In n e ▷ Symbol_is CloseParenthesis) x
+  After_token _ x = never
 
-  words_sound : (w : Word) (d : Option Designator) (f : Option Function) (span : Span) (line : Line) (ts : List Token) (x : ExpressionTree) (rest : List Token) → designator_of_word w ≡ d → function_of w ≡ f → factor_in_words (sum_in n) d f ts ≡ Ok (x, rest) → Spelled x factor_place n (token (kinds.Word w) span line ∷ ts) rest
-  words_sound w (Some d) f span line ts x rest designates means e = named_sound d (token (kinds.Word w) span line ∷ ts) ts x rest (word_designates w d span line ts designates) e
-  words_sound w None (Some f) span line ts x rest designates means e = call_sound f (token (kinds.Word w) span line ∷ ts) ts x rest (w, means, (span, line, refl)) e
-  words_sound w None None span line ts x rest designates means e = absurd cc
+  -- how many levels may be opened after it
+  abbrev room_after : TokenKind → ℕ
+  room_after (kinds.Symbol OpenParenthesis) = n
+  room_after _ = suc n
 
-  factor_at_sound : (k : TokenKind) (span : Span) (line : Line) (ts : List Token) (x : ExpressionTree) (rest : List Token) → factor_at (sum_in n) k ts ≡ Ok (x, rest) → Spelled x factor_place n (token k span line ∷ ts) rest
+  after_word_reads : (d : Option Designator) (f : Option Function) → Reads (suc n) (factor_in_words (sum_in n) d f) (factor_in_words (sum_in m) d f) (After_word d f) continues_factor
+  after_word_reads (Some d) f = fewer_reads (made_reads subscripts_reads (λ xs. named d (expression_row xs))) continues_factor (λ ts stop. rw stop refl)
+  after_word_reads None (Some f) = fewer_reads (made_reads enclosed_reads (λ xs. call f (expression_row xs))) continues_factor (λ ts stop. refl)
+  after_word_reads None None = fewer_reads (fail_reads (suc n)) continues_factor (λ ts stop. refl)
+
+  after_token_reads : (k : TokenKind) → Reads (room_after k) (factor_at (sum_in n) k) (factor_at (sum_in m) k) (After_token k) continues_factor
   unfolding factor_at
-  factor_at_sound (kinds.Number v) span line ts x rest e = carry (λ (x : ExpressionTree) (r : List Token). Spelled x factor_place n (token (kinds.Number v) span line ∷ ts) r) (number v) x ts rest e (span, line, refl)
-  factor_at_sound (kinds.Text t) span line ts x rest e = carry (λ (x : ExpressionTree) (r : List Token). Spelled x factor_place n (token (kinds.Text t) span line ∷ ts) r) (text t) x ts rest e (span, line, refl)
-  factor_at_sound (kinds.Name v) span line ts x rest e = named_sound (designators.Name v) (token (kinds.Name v) span line ∷ ts) ts x rest (span, line, refl) e
-  factor_at_sound (kinds.Word w) span line ts x rest e = words_sound w (designator_of_word w) (function_of w) span line ts x rest refl refl e
-  factor_at_sound (kinds.Symbol OpenParenthesis) span line ts x rest e =
-      let s = parenthesised_reads.sound ts x rest e in
-      subst (λ (x : ExpressionTree). Spelled x factor_place n (token (kinds.Symbol OpenParenthesis) span line ∷ ts) rest) s.1 (ts, (span, line, refl), s.2)
-  factor_at_sound _ span line ts x rest e = absurd cc
+  after_token_reads (kinds.Number v) = fewer_reads (done_reads (suc n) (number v)) continues_factor (λ ts stop. refl)
+  after_token_reads (kinds.Text t) = fewer_reads (done_reads (suc n) (text t)) continues_factor (λ ts stop. refl)
+  after_token_reads (kinds.Name v) = after_word_reads (Some (designators.Name v)) None
+  after_token_reads (kinds.Word w) = after_word_reads (designator_of_word w) (function_of w)
+  after_token_reads (kinds.Symbol OpenParenthesis) = fewer_reads parenthesised_reads continues_factor (λ ts stop. refl)
+  after_token_reads _ = fewer_reads (fail_reads (suc n)) continues_factor (λ ts stop. refl)
 
-  factor_sound : (ts : List Token) (x : ExpressionTree) (rest : List Token) → factor_with (sum_in n) ts ≡ Ok (x, rest) → Spelled x factor_place n ts rest
-  factor_sound [] x rest e = absurd cc
-  factor_sound (t ∷ ts) x rest e = factor_at_sound t.kind t.span t.line ts x rest e
+  after_token_opening : (k : TokenKind) (ts : List Token) → Bounded (suc n) (opens k + openers ts) (factor_at (sum_in n) k ts)
+  after_token_opening (kinds.Symbol OpenParenthesis) ts = bounded_opened n (openers ts) (1 + openers ts) _ (omega arith) ((after_token_reads (kinds.Symbol OpenParenthesis)).opening ts)
+  after_token_opening k ts = bounded_more (suc n) (openers ts) (opens k + openers ts) _ (omega arith) ((after_token_reads k).opening ts)
 
-  named_complete : (d : Designator) (es : ExpressionRow) (xs : List ExpressionTree) (ts a rest : List Token) → expression_row xs ≡ es → Designated d ts a → Subscripts n xs a rest → continues_factor rest ≡ false → factor_with (sum_in n) ts ≡ Ok (named d es, rest)
-  unfolding factor_at
-  named_complete (designators.Name v) es xs ts a rest is (span, line, e) subs stop =
-      let read : subscripts_with (sum_in n) a ≡ Ok (xs, rest) = subscripts_reads.complete a xs rest subs (rw stop refl) in
-      rw (e, read) (ap (λ (r : ExpressionRow). Ok (named (designators.Name v) r, rest)) is)
-  named_complete designators.TimeV es xs ts a rest is (span, line, e) subs stop =
-      let read : subscripts_with (sum_in n) a ≡ Ok (xs, rest) = subscripts_reads.complete a xs rest subs (rw stop refl) in
-      rw (e, read) (ap (λ (r : ExpressionRow). Ok (named designators.TimeV r, rest)) is)
-  named_complete designators.TimeA es xs ts a rest is (span, line, e) subs stop =
-      let read : subscripts_with (sum_in n) a ≡ Ok (xs, rest) = subscripts_reads.complete a xs rest subs (rw stop refl) in
-      rw (e, read) (ap (λ (r : ExpressionRow). Ok (named designators.TimeA r, rest)) is)
+  -- a factor's first token, and what follows it
+  abbrev Factor_parts : ExpressionTree → Shape
+  Factor_parts x ts rest = (k : TokenKind) × (Token_is k ▷ After_token k x) ts rest
 
-  factor_complete : (ts : List Token) (x : ExpressionTree) (rest : List Token) → Spelled x factor_place n ts rest → continues_factor rest ≡ false → factor_with (sum_in n) ts ≡ Ok (x, rest)
-  unfolding factor_at
-  factor_complete ts (number v) rest (span, line, e) stop = rw e refl
-  factor_complete ts (text t) rest (span, line, e) stop = rw e refl
-  factor_complete ts (named d es) rest s stop =
-      let found = named_from d n es factor_place ts rest s in
-      named_complete d es found.0 ts found.2.0 rest found.1 found.2.1 found.2.2 stop
-  factor_complete ts (call f es) rest s stop =
-      let found = call_from f n es factor_place ts rest s in
-      go found.0 found.1 found.2
+  factor_parts_read : Reads (suc n) (factor_with (sum_in n)) (factor_with (sum_in m)) Factor_parts continues_factor
+  factor_parts_read = record {
+    sound = sound;
+    complete = λ ts x rest s stop. ap (factor_with (sum_in n)) s.1.1.2 ∙ (after_token_reads s.0).complete s.1.0 x rest s.1.2 stop;
+    shorter = λ ts x rest s. omega (arith, token_less s.0 ts s.1.0 s.1.1, (after_token_reads s.0).shorter s.1.0 x rest s.1.2);
+    under = under;
+    opening = opening;
+  }
     where
-      go : (xs : List ExpressionTree) → expression_row xs ≡ es → (Word_for function_of f ▷ Enclosed n xs) ts rest → factor_with (sum_in n) ts ≡ Ok (call f es, rest)
-      go xs is (a, (w, means, (span, line, e)), s) =
-          let no = function_no_designator w f means in
-          let read : enclosed_with (sum_in n) a ≡ Ok (xs, rest) = enclosed_reads.complete a xs rest s refl in
-          rw (e, no, means, read) (ap (λ (r : ExpressionRow). Ok (call f r, rest)) is)
-  factor_complete ts (parenthesised x) rest (a, (span, line, e), s) stop =
-      let read : parenthesised_with (sum_in n) a ≡ Ok (parenthesised x, rest) = parenthesised_reads.complete a (parenthesised x) rest (x, refl, s) refl in
-      rw (e, read) refl
-  factor_complete ts (product x no_expression) rest s stop = absurd s
-  factor_complete ts (product x (and_expression f fs)) rest s stop = absurd s.0
-  factor_complete ts (signed sign x) rest s stop = absurd s.0
-  factor_complete ts (sum x no_term) rest s stop = absurd s
-  factor_complete ts (sum x (and_term sign f fs)) rest s stop = absurd s.0
+      sound : (ts : List Token) (x : ExpressionTree) (rest : List Token) → factor_with (sum_in n) ts ≡ Ok (x, rest) → Factor_parts x ts rest
+      sound [] x rest e = absurd cc
+      sound (t ∷ ts) x rest e = (t.kind, (ts, (t.span, t.line, refl), (after_token_reads t.kind).sound ts x rest e))
 
-  pub factor_less : (ts : List Token) (x : ExpressionTree) (rest : List Token) → Spelled x factor_place n ts rest → length rest < length ts
-  factor_less ts (number v) rest s = omega (arith, token_less (kinds.Number v) ts rest s)
-  factor_less ts (text t) rest s = omega (arith, token_less (kinds.Text t) ts rest s)
-  factor_less ts (named d es) rest s =
+      under : (ts : List Token) → Upto (factor_with (sum_in n) ts) (factor_with (sum_in m) ts)
+      under [] = upto_same _
+      under (t ∷ ts) = (after_token_reads t.kind).under ts
+
+      opening : (ts : List Token) → Bounded (suc n) (openers ts) (factor_with (sum_in n) ts)
+      opening [] = tt
+      opening (t ∷ ts) = after_token_opening t.kind ts
+
+  after_word_to : (w : Word) (d : Option Designator) (f : Option Function) (x : ExpressionTree) (ts a rest : List Token) → designator_of_word w ≡ d → function_of w ≡ f → Word_is w ts a → After_word d f x a rest → Spelled x factor_place n ts rest
+  after_word_to w (Some d) f x ts a rest designates means at (xs, is, s) = subst (λ (x : ExpressionTree). Spelled x factor_place n ts rest) is (named_to d n xs factor_place ts a rest (word_designates w d ts a designates at) s)
+  after_word_to w None (Some f) x ts a rest designates means at (xs, is, s) = subst (λ (x : ExpressionTree). Spelled x factor_place n ts rest) is (call_to f n xs factor_place ts a rest (w, means, at) s)
+  after_word_to w None None x ts a rest designates means at s = absurd s
+
+  factor_to : (x : ExpressionTree) (ts rest : List Token) → Factor_parts x ts rest → Spelled x factor_place n ts rest
+  factor_to x ts rest (kinds.Number v, (a, at, (is, e))) = subst (λ (x : ExpressionTree). Spelled x factor_place n ts rest) is (subst (λ (r : List Token). Token_is (kinds.Number v) ts r) e at)
+  factor_to x ts rest (kinds.Text t, (a, at, (is, e))) = subst (λ (x : ExpressionTree). Spelled x factor_place n ts rest) is (subst (λ (r : List Token). Token_is (kinds.Text t) ts r) e at)
+  factor_to x ts rest (kinds.Name v, (a, at, (xs, is, s))) = subst (λ (x : ExpressionTree). Spelled x factor_place n ts rest) is (named_to (designators.Name v) n xs factor_place ts a rest at s)
+  factor_to x ts rest (kinds.Word w, (a, at, s)) = after_word_to w (designator_of_word w) (function_of w) x ts a rest refl refl at s
+  factor_to x ts rest (kinds.Symbol OpenParenthesis, (a, at, (e, is, s))) = subst (λ (x : ExpressionTree). Spelled x factor_place n ts rest) is (a, at, s)
+  factor_to x ts rest (_, (a, at, s)) = absurd s
+
+  named_parts : (d : Designator) (x : ExpressionTree) (ts a rest : List Token) → Designated d ts a → After_word (Some d) None x a rest → Factor_parts x ts rest
+  named_parts (designators.Name v) x ts a rest at s = (kinds.Name v, (a, at, s))
+  named_parts designators.TimeV x ts a rest at s = (kinds.Word words.TimeV, (a, at, s))
+  named_parts designators.TimeA x ts a rest at s = (kinds.Word words.TimeA, (a, at, s))
+
+  call_parts : (f : Function) (x : ExpressionTree) (ts a rest : List Token) → Word_for function_of f ts a → After_word None (Some f) x a rest → Factor_parts x ts rest
+  call_parts f x ts a rest (w, means, at) s =
+      let no = function_no_designator w f means in
+      (kinds.Word w, (a, at, rw (no, means) s))
+
+  factor_from : (x : ExpressionTree) (ts rest : List Token) → Spelled x factor_place n ts rest → Factor_parts x ts rest
+  factor_from (number v) ts rest at = (kinds.Number v, (rest, at, (refl, refl)))
+  factor_from (text t) ts rest at = (kinds.Text t, (rest, at, (refl, refl)))
+  factor_from (named d es) ts rest s =
       let found = named_from d n es factor_place ts rest s in
-      omega (arith, designated_less d ts found.2.0 found.2.1, subscripts_reads.shorter found.2.0 found.0 rest found.2.2)
-  factor_less ts (call f es) rest s =
+      named_parts d (named d es) ts found.2.0 rest found.2.1 (found.0, ap (named d) found.1, found.2.2)
+  factor_from (call f es) ts rest s =
       let found = call_from f n es factor_place ts rest s in
-      omega (arith, token_less (kinds.Word found.2.1.0) ts found.2.0 found.2.1.2, enclosed_reads.shorter found.2.0 found.0 rest found.2.2)
-  factor_less ts (parenthesised x) rest (a, opened, (b, one, close)) =
-      omega (arith, token_less (kinds.Symbol OpenParenthesis) ts a opened, inner_less a x b one, token_less (kinds.Symbol CloseParenthesis) b rest close)
-  factor_less ts (product x no_expression) rest s = absurd s
-  factor_less ts (product x (and_expression f fs)) rest s = absurd s.0
-  factor_less ts (signed sign x) rest s = absurd s.0
-  factor_less ts (sum x no_term) rest s = absurd s
-  factor_less ts (sum x (and_term sign f fs)) rest s = absurd s.0
-
-  words_under : (d : Option Designator) (f : Option Function) (ts : List Token) → Upto (factor_in_words (sum_in n) d f ts) (factor_in_words (sum_in m) d f ts)
-  words_under (Some d) f ts = upto_bind _ _ _ _ (subscripts_reads.under ts) (λ xs. upto_same _)
-  words_under None (Some f) ts = upto_bind _ _ _ _ (enclosed_reads.under ts) (λ xs. upto_same _)
-  words_under None None ts = upto_same _
-
-  factor_at_under : (k : TokenKind) (ts : List Token) → Upto (factor_at (sum_in n) k ts) (factor_at (sum_in m) k ts)
-  unfolding factor_at
-  factor_at_under (kinds.Number v) ts = upto_same _
-  factor_at_under (kinds.Text t) ts = upto_same _
-  factor_at_under (kinds.Name v) ts = upto_bind _ _ _ _ (subscripts_reads.under ts) (λ xs. upto_same _)
-  factor_at_under (kinds.Word w) ts = words_under (designator_of_word w) (function_of w) ts
-  factor_at_under (kinds.Symbol OpenParenthesis) ts = parenthesised_reads.under ts
-  factor_at_under _ ts = upto_same _
-
-  factor_under : (ts : List Token) → Upto (factor_with (sum_in n) ts) (factor_with (sum_in m) ts)
-  factor_under [] = upto_same _
-  factor_under (t ∷ ts) = factor_at_under t.kind ts
-
-  words_opening : (d : Option Designator) (f : Option Function) (ts : List Token) → Bounded (suc n) (openers ts) (factor_in_words (sum_in n) d f ts)
-  words_opening (Some d) f ts = bounded_bind (suc n) (openers ts) (subscripts_with (sum_in n) ts) _ (subscripts_reads.opening ts) (λ xs. omega arith)
-  words_opening None (Some f) ts = bounded_bind (suc n) (openers ts) (enclosed_with (sum_in n) ts) _ (enclosed_reads.opening ts) (λ xs. omega arith)
-  words_opening None None ts = tt
-
-  factor_at_opening : (k : TokenKind) (ts : List Token) → Bounded (suc n) (opens k + openers ts) (factor_at (sum_in n) k ts)
-  unfolding factor_at
-  factor_at_opening (kinds.Number v) ts = omega arith
-  factor_at_opening (kinds.Text t) ts = omega arith
-  factor_at_opening (kinds.Name v) ts = bounded_bind (suc n) (0 + openers ts) (subscripts_with (sum_in n) ts) _ (bounded_more (suc n) (openers ts) (0 + openers ts) _ (omega arith) (subscripts_reads.opening ts)) (λ xs. omega arith)
-  factor_at_opening (kinds.Word w) ts = bounded_more (suc n) (openers ts) (opens (kinds.Word w) + openers ts) _ (omega arith) (words_opening (designator_of_word w) (function_of w) ts)
-  factor_at_opening (kinds.Symbol OpenParenthesis) ts = bounded_opened n (openers ts) (1 + openers ts) _ (omega arith) (parenthesised_reads.opening ts)
-  factor_at_opening _ ts = tt
-
-  factor_opening : (ts : List Token) → Bounded (suc n) (openers ts) (factor_with (sum_in n) ts)
-  factor_opening [] = tt
-  factor_opening (t ∷ ts) = factor_at_opening t.kind ts
+      call_parts f (call f es) ts found.2.0 rest found.2.1 (found.0, ap (call f) found.1, found.2.2)
+  factor_from (parenthesised x) ts rest (a, at, s) = (kinds.Symbol OpenParenthesis, (a, at, (x, refl, s)))
+  factor_from (product x no_expression) ts rest s = absurd s
+  factor_from (product x (and_expression f fs)) ts rest s = absurd s.0
+  factor_from (signed sign x) ts rest s = absurd s.0
+  factor_from (sum x no_term) ts rest s = absurd s
+  factor_from (sum x (and_term sign f fs)) ts rest s = absurd s.0
 
   pub factor_reads : Reads (suc n) (factor_with (sum_in n)) (factor_with (sum_in m)) (λ e. Spelled e factor_place n) continues_factor
-  factor_reads = record {
-    sound = factor_sound;
-    complete = factor_complete;
-    shorter = λ ts x rest s. omega (arith, factor_less ts x rest s);
-    under = factor_under;
-    opening = factor_opening;
-  }
+  factor_reads = reshaped_reads factor_parts_read (λ e. Spelled e factor_place n) factor_to factor_from
+
+  pub factor_less : (ts : List Token) (x : ExpressionTree) (rest : List Token) → Spelled x factor_place n ts rest → length rest < length ts
+  factor_less ts x rest s =
+      let p = factor_from x ts rest s in
+      omega (arith, token_less p.0 ts p.1.0 p.1.1, (after_token_reads p.0).shorter p.1.0 x rest p.1.2)

@@ -1,9 +1,9 @@
 -- The heads of loops: what is read is spelled, and what is spelled is read.
 use Rattle.std.proofs.Common.{◌≡◌, ℕ, suc, ◌≤◌, Bool, true, false, ◌||◌, List, ◌∷◌, Option, Some, None, refl, ap, subst, ◌∙◌, arith, inl, inr}
-use Rattle.ss_parse_expressions.proofs.Common.{after_dropped, apply, begins, begins_among, begins_class, choose_reader, comma, done, Equals, expect, in_table, is, One_of, Reference_is, skip_comma, sum_in, Sum_is, symbol, the, Token, Word, word}
+use Rattle.std.proofs.lemmas.Bool.{or_from}
+use Rattle.ss_parse_expressions.proofs.Common.{after_dropped, apply, begins, begins_among, begins_by, begins_class, choose_reader, comma, done, Equals, expect, in_table, is, One_of, Reader, Reference_is, rows, skip_comma, sum_in, Sum_is, symbol, the, Token, Word, word}
 use Rattle.ss_lex.specs.declared.word.Word.TheVariants as words
 use Rattle.ss_lex.specs.declared.token.TokenKind.TheVariants as kinds
-use Rattle.ss_base.specs.declared.words.PhraseKind.{PhraseKind}
 use Rattle.ss_base.specs.declared.words.GuardKind.{GuardKind}
 use Rattle.ss_tree.specs.Tree.{ExpressionTree, NamedTree, ConditionTree, PhraseTree, GuardTree, StartTree, from_end, from_member, after_member, HeadTree, over_range, over_members, over_class, LoopHeadTree, guarded}
 use Rattle.ss_parse_expressions.specs.declared.classes.WordClass.TheVariants as classes
@@ -13,7 +13,7 @@ use Rattle.ss_parse_expressions.specs.WordTables.{phrase_of, guard_of}
 use Rattle.ss_parse_expressions.specs.ReadHeads.{phrase_tree, guard_tree, begins_phrase, begins_guard, phrase_in, guard_in, phrases_in, guards_in, step_in, range_tree, range_in, start_in, reverse, members_tree, members_in, class_tree, class_in, each_named, each_in, for_in, guarded_in}
 use Rattle.ss_parse_expressions.proofs.Tools.{or_false}
 use Rattle.ss_parse_expressions.proofs.Marks.{token_less, starts_otherwise, begins_table}
-use Rattle.ss_parse_expressions.proofs.ReaderLaws.{Reads, Item, continues_never, Made, item_of, item_marked, noisy_item, expect_reads, seq_reads, following_reads, bind_reads, apply_reads, made_reads, marked_reads, reshaped_reads, fewer_reads, maybe_reads, flag_reads, done_reads, either_reads}
+use Rattle.ss_parse_expressions.proofs.ReaderLaws.{Reads, Item, continues_never, Made, item_of, item_marked, noisy_item, expect_reads, seq_reads, following_reads, bind_reads, apply_reads, made_reads, marked_reads, reshaped_reads, fewer_reads, maybe_reads, flag_reads, item_or_none, either_reads}
 use Rattle.ss_parse_expressions.proofs.Rows.{rows_reads, each_first, Loop, loop_of}
 use Rattle.ss_parse_expressions.proofs.WordLaws.{word_in_reads, expect_class_reads, name_reads, item_made, one_begins, one_less, no_word}
 use Rattle.ss_parse_expressions.proofs.Beginnings.{continues_sum}
@@ -34,8 +34,13 @@ head_more _ = false
 abbrev pub continues_head : List Token → Bool
 continues_head ts = begins_among head_more ts || continues_condition ts
 
-no_more : (ts : List Token) → continues_head ts ≡ false → begins_among head_more ts ≡ false
-no_more ts stop = (or_false (begins_among head_more ts) (continues_condition ts) stop).0
+-- none of the words that may continue a part of a head
+no_head_word : (w : Word) → head_more w ≡ true → (ts : List Token) → continues_head ts ≡ false → begins (word w) ts ≡ false
+no_head_word w more ts stop = no_word head_more w more ts (or_false (begins_among head_more ts) (continues_condition ts) stop).0
+
+-- the same, for a part that only this word continues
+not_continued : (w : Word) → head_more w ≡ true → (ts : List Token) → continues_head ts ≡ false → (begins (word w) ts || continues_never ts) ≡ false
+not_continued w more ts stop = or_from (begins (word w) ts) (continues_never ts) (no_head_word w more ts stop) refl
 
 no_condition : (ts : List Token) → continues_head ts ≡ false → continues_condition ts ≡ false
 no_condition ts stop = (or_false (begins_among head_more ts) (continues_condition ts) stop).1
@@ -52,79 +57,68 @@ no_sum ts stop = condition_no_sum ts (no_condition ts stop)
 
 -- ---- what begins with a word of a table, with a comma before it or not
 
-table_stops : {K : Type 0} (table : Word → Option K) → ((w : Word) (kind : K) → table w ≡ Some kind → (is (word words.Or) (kinds.Word w) ≡ false) × (is (word words.And) (kinds.Word w) ≡ false) × (head_more w ≡ false)) → (kind : K) (P : Shape) (ts rest : List Token) → (noise ▷ Word_for table kind ▷ P) ts rest → continues_head ts ≡ false
-table_stops table others kind P ts rest (a, inr (span, line, e), s) = ap continues_head e
-table_stops table others kind P ts rest (a, inl e, (b, (w, means, (span, line, f)), s)) =
-    let no = others w kind means in
-    let no_or : is (word words.Or) (kinds.Word w) ≡ false = no.0 in
-    let no_and : is (word words.And) (kinds.Word w) ≡ false = no.1 in
-    let no_more : head_more w ≡ false = no.2 in
-    rw (e, f, no_or, no_and, no_more) refl
+-- these words are neither OR nor AND, and continue no part of a head
+abbrev Continue_no_head : {K : Type 0} → (Word → Option K) → Type 0
+Continue_no_head {K = K} table = (w : Word) (kind : K) → table w ≡ Some kind → (is (word words.Or) (kinds.Word w) ≡ false) × (is (word words.And) (kinds.Word w) ≡ false) × (head_more w ≡ false)
+
+module _ {K X : Type 0} (table : Word → Option K) (others : Continue_no_head table) (kind : X → K) (condition : X → ConditionTree) where
+  -- such a word and a condition
+  abbrev Headed : ℕ → X → Shape
+  Headed n x = Word_for table (kind x) ▷ In_condition n (condition x)
+
+  abbrev begins_headed : List Token → Bool
+  begins_headed ts = begins_by (in_table table) (skip_comma ts)
+
+  headed_stops : (n : ℕ) (ts : List Token) (x : X) (rest : List Token) → (noise ▷ Headed n x) ts rest → continues_head ts ≡ false
+  headed_stops n ts x rest (a, inr (span, line, e), s) = ap continues_head e
+  headed_stops n ts x rest (a, inl e, (b, (w, means, (span, line, f)), s)) =
+      let no = others w (kind x) means in
+      let no_or : is (word words.Or) (kinds.Word w) ≡ false = no.0 in
+      let no_and : is (word words.And) (kinds.Word w) ≡ false = no.1 in
+      let no_more : head_more w ≡ false = no.2 in
+      rw (e, f, no_or, no_and, no_more) refl
+
+  headed_item : {n : ℕ} {r r' : Reader X} → Reads n r r' (Headed n) continues_condition → Item n begins_headed (λ ts. r (skip_comma ts)) (λ ts. r' (skip_comma ts)) (λ x. noise ▷ Headed n x) continues_condition
+  headed_item {n = n} law = noisy_item law (begins_by (in_table table)) (λ ts x rest s. begins_table (in_table table) ts s.0 (kind x) (kinds.Word s.1.0, s.1.1, s.1.2)) (starts_otherwise comma (begins_by (in_table table)) (λ span line ts. refl)) (λ ts x rest s. omega (arith, token_less (kinds.Word s.1.0) ts s.0 s.1.2, condition_less n n (omega arith) s.0 (condition x) rest s.2))
+
+  headed_rows : {n : ℕ} {r r' : Reader X} → Reads n r r' (Headed n) continues_condition → Reads n (rows begins_headed (λ ts. r (skip_comma ts))) (rows begins_headed (λ ts. r' (skip_comma ts))) (each_in_turn (λ x. noise ▷ Headed n x)) (λ ts. begins_headed ts || continues_head ts)
+  headed_rows {n = n} law =
+      fewer_reads (rows_reads (headed_item law) (λ ts x rest s. no_condition ts (headed_stops n ts x rest s))) (λ ts. begins_headed ts || continues_head ts)
+      (λ ts stop. let both = or_false (begins_headed ts) (continues_head ts) stop in or_from (begins_headed ts) (continues_condition ts) both.0 (no_condition ts both.1))
+
+  -- a token that can't continue a head and begins none of these doesn't begin a row of them
+  headed_first : (n : ℕ) (xs : List X) (ts rest : List Token) → each_in_turn (λ x. noise ▷ Headed n x) xs ts rest → (begins_headed rest || continues_head rest) ≡ false → continues_head ts ≡ false
+  headed_first n xs ts rest s stop = each_first continues_head (headed_stops n) xs ts rest s (or_false (begins_headed rest) (continues_head rest) stop).1
 
 -- ---- phrases
 
-phrase_no_more : (w : Word) (kind : PhraseKind) → phrase_of w ≡ Some kind → (is (word words.Or) (kinds.Word w) ≡ false) × (is (word words.And) (kinds.Word w) ≡ false) × (head_more w ≡ false)
-phrase_no_more words.With kind e = (refl, refl, refl)
-phrase_no_more words.When kind e = (refl, refl, refl)
-phrase_no_more words.Unless kind e = (refl, refl, refl)
-phrase_no_more words.While kind e = (refl, refl, refl)
-phrase_no_more words.Until kind e = (refl, refl, refl)
-phrase_no_more _ kind e = absurd cc
+phrase_no_head : Continue_no_head phrase_of
+phrase_no_head w kind e = (grind arith, grind arith, grind arith)
 
 abbrev pub Bare_phrase : ℕ → PhraseTree → Shape
 Bare_phrase n x = Word_for phrase_of x.kind ▷ In_condition n x.condition
 
-phrase_stops : (n : ℕ) (ts : List Token) (x : PhraseTree) (rest : List Token) → (noise ▷ Bare_phrase n x) ts rest → continues_head ts ≡ false
-phrase_stops n ts x rest s = table_stops phrase_of phrase_no_more x.kind (In_condition n x.condition) ts rest s
-
-module _ (n m : ℕ) (le : n ≤ m) where
-  phrase_reads : Reads n (phrase_in n) (phrase_in m) (Bare_phrase n) continues_condition
-  unfolding phrase_in
-  phrase_reads = apply_reads (seq_reads (word_in_reads n phrase_of) (condition_in_reads n m le) (λ c ts rest s stop. refl)) phrase_tree (Bare_phrase n) (λ p ts rest s. s) (λ x ts rest s. ((x.kind, x.condition), refl, s))
-
-  phrase_item : Item n (λ ts. begins_phrase (skip_comma ts)) (λ r. phrase_in n (skip_comma r)) (λ r. phrase_in m (skip_comma r)) (λ x. noise ▷ Bare_phrase n x) continues_condition
-  phrase_item = noisy_item phrase_reads begins_phrase (λ ts x rest s. begins_table (in_table phrase_of) ts s.0 x.kind (kinds.Word s.1.0, s.1.1, s.1.2)) (starts_otherwise comma begins_phrase (λ span line ts. refl)) (λ ts x rest s. omega (arith, token_less (kinds.Word s.1.0) ts s.0 s.1.2, condition_less n m le s.0 x.condition rest s.2))
-
-  pub phrases_reads : Reads n (phrases_in n) (phrases_in m) (each_in_turn (λ x. noise ▷ Bare_phrase n x)) (λ ts. begins_phrase (skip_comma ts) || continues_condition ts)
-  phrases_reads = rows_reads phrase_item (λ ts x rest s. no_condition ts (phrase_stops n ts x rest s))
-
-  -- a token that can't continue a head and begins no phrase doesn't begin phrases
-  pub phrases_stop : (xs : List PhraseTree) (ts rest : List Token) → each_in_turn (λ x. noise ▷ Bare_phrase n x) xs ts rest → continues_head rest ≡ false → continues_head ts ≡ false
-  phrases_stop xs ts rest s stop = each_first continues_head (phrase_stops n) xs ts rest s stop
+phrase_reads : (n m : ℕ) → n ≤ m → Reads n (phrase_in n) (phrase_in m) (Bare_phrase n) continues_condition
+unfolding phrase_in
+phrase_reads n m le = apply_reads (seq_reads (word_in_reads n phrase_of) (condition_in_reads n m le) (λ c ts rest s stop. refl)) phrase_tree (Bare_phrase n) (λ p ts rest s. s) (λ x ts rest s. ((x.kind, x.condition), refl, s))
 
 pub phrases_loop : (n : ℕ) → Loop (λ ts. begins_phrase (skip_comma ts)) (λ r. phrase_in n (skip_comma r))
-phrases_loop n = loop_of (phrase_item n n (omega arith)) refl
+phrases_loop n = loop_of (headed_item phrase_of phrase_no_head (λ (x : PhraseTree). x.kind) (λ (x : PhraseTree). x.condition) (phrase_reads n n (omega arith))) refl
 
 -- ---- the conditions of a loop that begins with WHILE or UNTIL
 
-guard_no_more : (w : Word) (kind : GuardKind) → guard_of w ≡ Some kind → (is (word words.Or) (kinds.Word w) ≡ false) × (is (word words.And) (kinds.Word w) ≡ false) × (head_more w ≡ false)
-guard_no_more words.While kind e = (refl, refl, refl)
-guard_no_more words.Until kind e = (refl, refl, refl)
-guard_no_more _ kind e = absurd cc
+guard_no_head : Continue_no_head guard_of
+guard_no_head w kind e = (grind arith, grind arith, grind arith)
 
 abbrev pub Bare_guard : ℕ → GuardTree → Shape
 Bare_guard n x = Word_for guard_of x.kind ▷ In_condition n x.condition
 
-guard_stops : (n : ℕ) (ts : List Token) (x : GuardTree) (rest : List Token) → (noise ▷ Bare_guard n x) ts rest → continues_head ts ≡ false
-guard_stops n ts x rest s = table_stops guard_of guard_no_more x.kind (In_condition n x.condition) ts rest s
-
-module _ (n m : ℕ) (le : n ≤ m) where
-  guard_reads : Reads n (guard_in n) (guard_in m) (Bare_guard n) continues_condition
-  unfolding guard_in
-  guard_reads = apply_reads (seq_reads (word_in_reads n guard_of) (condition_in_reads n m le) (λ c ts rest s stop. refl)) guard_tree (Bare_guard n) (λ p ts rest s. s) (λ x ts rest s. ((x.kind, x.condition), refl, s))
-
-  guard_item : Item n (λ ts. begins_guard (skip_comma ts)) (λ r. guard_in n (skip_comma r)) (λ r. guard_in m (skip_comma r)) (λ x. noise ▷ Bare_guard n x) continues_condition
-  guard_item = noisy_item guard_reads begins_guard (λ ts x rest s. begins_table (in_table guard_of) ts s.0 x.kind (kinds.Word s.1.0, s.1.1, s.1.2)) (starts_otherwise comma begins_guard (λ span line ts. refl)) (λ ts x rest s. omega (arith, token_less (kinds.Word s.1.0) ts s.0 s.1.2, condition_less n m le s.0 x.condition rest s.2))
-
-  pub guards_reads : Reads n (guards_in n) (guards_in m) (each_in_turn (λ x. noise ▷ Bare_guard n x)) (λ ts. begins_guard (skip_comma ts) || continues_condition ts)
-  guards_reads = rows_reads guard_item (λ ts x rest s. no_condition ts (guard_stops n ts x rest s))
-
-  -- a token that can't continue a head and begins no guard doesn't begin guards
-  pub guards_stop : (xs : List GuardTree) (ts rest : List Token) → each_in_turn (λ x. noise ▷ Bare_guard n x) xs ts rest → continues_head rest ≡ false → continues_head ts ≡ false
-  guards_stop xs ts rest s stop = each_first continues_head (guard_stops n) xs ts rest s stop
+guard_reads : (n m : ℕ) → n ≤ m → Reads n (guard_in n) (guard_in m) (Bare_guard n) continues_condition
+unfolding guard_in
+guard_reads n m le = apply_reads (seq_reads (word_in_reads n guard_of) (condition_in_reads n m le) (λ c ts rest s stop. refl)) guard_tree (Bare_guard n) (λ p ts rest s. s) (λ x ts rest s. ((x.kind, x.condition), refl, s))
 
 pub guards_loop : (n : ℕ) → Loop (λ ts. begins_guard (skip_comma ts)) (λ r. guard_in n (skip_comma r))
-guards_loop n = loop_of (guard_item n n (omega arith)) refl
+guards_loop n = loop_of (headed_item guard_of guard_no_head (λ (x : GuardTree). x.kind) (λ (x : GuardTree). x.condition) (guard_reads n n (omega arith))) refl
 
 -- ---- FOR
 
@@ -140,24 +134,17 @@ module _ (n m : ℕ) (le : n ≤ m) where
   room_sum = sum_in_reads (suc n) (suc m) (omega arith)
 
   room_phrases : Reads (suc n) (phrases_in (suc n)) (phrases_in (suc m)) (each_in_turn (Noisy_phrase (suc n))) continues_for
-  room_phrases = fewer_reads (phrases_reads (suc n) (suc m) (omega arith)) continues_for (λ ts stop.
-      let both = or_false (begins_phrase (skip_comma ts)) (continues_head ts) stop in
-      let a : begins_phrase (skip_comma ts) ≡ false = both.0 in
-      let b : continues_condition ts ≡ false = no_condition ts both.1 in
-      rw (a, b) refl)
+  room_phrases = headed_rows phrase_of phrase_no_head (λ (x : PhraseTree). x.kind) (λ (x : PhraseTree). x.condition) (phrase_reads (suc n) (suc m) (omega arith))
 
   -- what can't continue a part of a head is no phrase
   by_phrases : (xs : List PhraseTree) (ts rest : List Token) → each_in_turn (Noisy_phrase (suc n)) xs ts rest → continues_for rest ≡ false → continues_head ts ≡ false
-  by_phrases xs ts rest s stop = phrases_stop (suc n) (suc n) (omega arith) xs ts rest s (or_false (begins_phrase (skip_comma rest)) (continues_head rest) stop).1
+  by_phrases xs ts rest s stop = headed_first phrase_of phrase_no_head (λ (x : PhraseTree). x.kind) (λ (x : PhraseTree). x.condition) (suc n) xs ts rest s stop
 
   step_reads : Reads (suc n) (step_in (suc n)) (step_in (suc m)) (perhaps (λ e. Word_is words.By ▷ Sum_is n e)) (λ ts. begins (word words.By) ts || continues_sum ts)
   step_reads = maybe_reads (item_marked (word words.By) room_sum)
 
   stops_step : (ts : List Token) → continues_head ts ≡ false → (begins (word words.By) ts || continues_sum ts) ≡ false
-  stops_step ts stop =
-      let a : begins (word words.By) ts ≡ false = no_word head_more words.By refl ts (no_more ts stop) in
-      let b : continues_sum ts ≡ false = no_sum ts stop in
-      rw (a, b) refl
+  stops_step ts stop = or_from (begins (word words.By) ts) (continues_sum ts) (no_head_word words.By refl ts stop) (no_sum ts stop)
 
   step_stops : (p : Option ExpressionTree × List PhraseTree) (ts rest : List Token) → (perhaps (λ e. Word_is words.By ▷ Sum_is n e) p.0 ▷ each_in_turn (Noisy_phrase (suc n)) p.1) ts rest → continues_for rest ≡ false → continues_sum ts ≡ false
   step_stops (None, ps) ts rest (a, e, s) stop = ap continues_sum e ∙ no_sum a (by_phrases ps a rest s stop)
@@ -179,16 +166,11 @@ module _ (n m : ℕ) (le : n ≤ m) where
 
   stops_start : (ts : List Token) → continues_head ts ≡ false → continues_start ts ≡ false
   stops_start ts stop =
-      let a : begins (word words.From) ts ≡ false = no_word head_more words.From refl ts (no_more ts stop) in
-      let b : begins (word words.After) ts ≡ false = no_word head_more words.After refl ts (no_more ts stop) in
-      let c : continues_sum ts ≡ false = no_sum ts stop in
-      rw (a, b, c) refl
+      or_from (begins (word words.From) ts) (begins (word words.After) ts || continues_sum ts) (no_head_word words.From refl ts stop)
+      (or_from (begins (word words.After) ts) (continues_sum ts) (no_head_word words.After refl ts stop) (no_sum ts stop))
 
   after_reads : Reads (suc n) (choose_reader (begins (word words.After)) (apply after_member (after_dropped (expect (word words.After)) (sum_in (suc n)))) (done from_end)) (choose_reader (begins (word words.After)) (apply after_member (after_dropped (expect (word words.After)) (sum_in (suc m)))) (done from_end)) (λ x. either_shape (Made after_member (λ e. Word_is words.After ▷ Sum_is n e) x) (provided (from_end ≡ x) nothing)) (λ ts. begins (word words.After) ts || continues_sum ts)
-  after_reads =
-      either_reads (item_made (word words.After) room_sum after_member) (done_reads (suc n) from_end) (λ ts. begins (word words.After) ts || continues_sum ts)
-      (λ ts stop. ((or_false (begins (word words.After) ts) (continues_sum ts) stop).1, refl))
-      (λ x ts rest s stop. ap (begins (word words.After)) s.1 ∙ (or_false (begins (word words.After) rest) (continues_sum rest) stop).0)
+  after_reads = item_or_none (item_made (word words.After) room_sum after_member) from_end
 
   after_late : (x : StartTree) (ts rest : List Token) → either_shape (Made after_member (λ e. Word_is words.After ▷ Sum_is n e) x) (provided (from_end ≡ x) nothing) ts rest → continues_start rest ≡ false → begins (word words.From) ts ≡ false
   after_late x ts rest (inl (e, is, (a, (span, line, f), s))) stop = ap (begins (word words.From)) f
@@ -218,11 +200,6 @@ module _ (n m : ℕ) (le : n ≤ m) where
   unfolding reverse
   reverse_reads = flag_reads (item_marked (word words.In) (marked_reads (word words.Reverse) (expect_reads (suc n) (word words.Order))))
 
-  stops_reverse : (ts : List Token) → continues_head ts ≡ false → (begins (word words.In) ts || continues_never ts) ≡ false
-  stops_reverse ts stop =
-      let a : begins (word words.In) ts ≡ false = no_word head_more words.In refl ts (no_more ts stop) in
-      rw a refl
-
   reverse_stops : (p : Bool × List PhraseTree) (ts rest : List Token) → (flagged Reverse_words p.0 ▷ each_in_turn (Noisy_phrase (suc n)) p.1) ts rest → continues_for rest ≡ false → continues_start ts ≡ false
   reverse_stops (true, ps) ts rest (a, (b, (span, line, e), s), t) stop = ap continues_start e
   reverse_stops (false, ps) ts rest (a, e, t) stop = ap continues_start e ∙ stops_start a (by_phrases ps a rest t stop)
@@ -239,7 +216,7 @@ module _ (n m : ℕ) (le : n ≤ m) where
 
   members_item : (v : List ℕ) → Item (suc n) (begins (word words.In)) (members_in (suc n) v) (members_in (suc m) v) (Made (members_tree v) Members_parts) continues_for
   unfolding members_in
-  members_item v = item_made (word words.In) (seq_reads (the_set_reads n m le) (seq_reads start_reads (seq_reads reverse_reads room_phrases (λ ps ts rest s stop. stops_reverse ts (by_phrases ps ts rest s stop))) reverse_stops) start_stops) (members_tree v)
+  members_item v = item_made (word words.In) (seq_reads (the_set_reads n m le) (seq_reads start_reads (seq_reads reverse_reads room_phrases (λ ps ts rest s stop. not_continued words.In refl ts (by_phrases ps ts rest s stop))) reverse_stops) start_stops) (members_tree v)
 
   -- ---- over a class
 
@@ -249,17 +226,12 @@ module _ (n m : ℕ) (le : n ≤ m) where
   abbrev Class_parts : Option (List ℕ) × List PhraseTree → Shape
   Class_parts p = Called_name p.0 ▷ each_in_turn (Noisy_phrase (suc n)) p.1
 
-  stops_called : (ts : List Token) → continues_head ts ≡ false → (begins (word words.Called) ts || continues_never ts) ≡ false
-  stops_called ts stop =
-      let a : begins (word words.Called) ts ≡ false = no_word head_more words.Called refl ts (no_more ts stop) in
-      rw a refl
-
   class_reads : (v : List ℕ) → Reads (suc n) (class_in (suc n) v) (class_in (suc m) v) (Made (class_tree v) Class_parts) continues_for
   unfolding class_in
-  class_reads v = made_reads (seq_reads (maybe_reads (item_marked (word words.Called) (name_reads (suc n)))) room_phrases (λ ps ts rest s stop. stops_called ts (by_phrases ps ts rest s stop))) (class_tree v)
+  class_reads v = made_reads (seq_reads (maybe_reads (item_marked (word words.Called) (name_reads (suc n)))) room_phrases (λ ps ts rest s stop. not_continued words.Called refl ts (by_phrases ps ts rest s stop))) (class_tree v)
 
   class_late : (v : List ℕ) (x : HeadTree) (ts rest : List Token) → Made (class_tree v) Class_parts x ts rest → continues_for rest ≡ false → begins (word words.In) ts ≡ false
-  class_late v x ts rest ((None, ps), is, (a, e, s)) stop = ap (begins (word words.In)) e ∙ no_word head_more words.In refl a (no_more a (by_phrases ps a rest s stop))
+  class_late v x ts rest ((None, ps), is, (a, e, s)) stop = ap (begins (word words.In)) e ∙ no_head_word words.In refl a (by_phrases ps a rest s stop)
   class_late v x ts rest ((Some c, ps), is, (a, (b, (span, line, e), s), t)) stop = ap (begins (word words.In)) e
 
   abbrev Named_parts : List ℕ → HeadTree → Shape
@@ -306,17 +278,13 @@ module _ (n m : ℕ) (le : n ≤ m) where
   continues_guarded ts = begins_guard (skip_comma ts) || continues_head ts
 
   room_guards : Reads (suc n) (guards_in (suc n)) (guards_in (suc m)) (each_in_turn (λ x. noise ▷ Bare_guard (suc n) x)) continues_guarded
-  room_guards = fewer_reads (guards_reads (suc n) (suc m) (omega arith)) continues_guarded (λ ts stop.
-      let both = or_false (begins_guard (skip_comma ts)) (continues_head ts) stop in
-      let a : begins_guard (skip_comma ts) ≡ false = both.0 in
-      let b : continues_condition ts ≡ false = no_condition ts both.1 in
-      rw (a, b) refl)
+  room_guards = headed_rows guard_of guard_no_head (λ (x : GuardTree). x.kind) (λ (x : GuardTree). x.condition) (guard_reads (suc n) (suc m) (omega arith))
 
   abbrev pub Guards_made : GuardKind → ConditionTree → LoopHeadTree → Shape
   Guards_made kind c = Made guarded (Made (λ gs. guard_tree (kind, c) ∷ gs) (each_in_turn (λ x. noise ▷ Bare_guard (suc n) x)))
 
   guards_no_condition : (kind : GuardKind) (c : ConditionTree) (x : LoopHeadTree) (ts rest : List Token) → Guards_made kind c x ts rest → continues_guarded rest ≡ false → continues_condition ts ≡ false
-  guards_no_condition kind c x ts rest (all, is, (gs, makes, s)) stop = no_condition ts (guards_stop (suc n) (suc n) (omega arith) gs ts rest s (or_false (begins_guard (skip_comma rest)) (continues_head rest) stop).1)
+  guards_no_condition kind c x ts rest (all, is, (gs, makes, s)) stop = no_condition ts (headed_first guard_of guard_no_head (λ (x : GuardTree). x.kind) (λ (x : GuardTree). x.condition) (suc n) gs ts rest s stop)
 
   abbrev pub Guarded_parts : GuardKind → LoopHeadTree → Shape
   Guarded_parts kind x ts rest = (c : ConditionTree) × (In_condition (suc n) c ▷ Guards_made kind c x) ts rest

@@ -1,14 +1,14 @@
 -- Single tokens.
 use Rattle.std.proofs.Common.{◌≡◌, suc, ◌≤◌, Bool, true, false, List, [], ◌∷◌, length, Option, Some, None, Ok, refl, ap, subst, ◌∙◌, arith, inl, inr}
+use Rattle.std.proofs.lemmas.Bool.{both_ways, false_from_ne_true}
 use Rattle.std.proofs.lemmas.Bool.Decides.{nat_tests}
 use denote.Enum.Bare.{same_true, true_same}
 use Rattle.ss_lex.specs.contracts.word.Word.{the_type}
 use Rattle.ss_parse_expressions.proofs.Common.{Line, openers, Shape, Span, Token, Token_is, TokenKind}
 use Rattle.ss_lex.specs.declared.token.Symbol.{Symbol}
-use Rattle.ss_lex.specs.declared.token.Symbol.TheVariants.{OpenParenthesis, CloseParenthesis, Comma, Plus, Minus, Star, Equals, Other}
 use Rattle.ss_lex.specs.declared.token.TokenKind.TheVariants as kinds
-use Rattle.ss_parse_expressions.specs.Reading.{Mark, word, symbol, kind_of_mark, same_symbol, is, begins, skip, expect, begins_by, taken, found_then}
-use Rattle.ss_parse_expressions.proofs.Tools.{which, chosen, carry}
+use Rattle.ss_parse_expressions.specs.Reading.{Mark, word, symbol, kind_of_mark, same_symbol, is, begins, skip, begins_by, taken, found_then}
+use Rattle.ss_parse_expressions.proofs.Tools.{which, carry}
 
 abbrev pub token : TokenKind → Span → Line → Token
 token kind span line = record { kind = kind; span = span; line = line }
@@ -18,25 +18,10 @@ abbrev pub Mark_is : Mark → Shape
 Mark_is m = Token_is (kind_of_mark m)
 
 symbols_same : (a b : Symbol) → same_symbol a b ≡ true → a ≡ b
-symbols_same OpenParenthesis OpenParenthesis e = refl
-symbols_same CloseParenthesis CloseParenthesis e = refl
-symbols_same Comma Comma e = refl
-symbols_same Plus Plus e = refl
-symbols_same Minus Minus e = refl
-symbols_same Star Star e = refl
-symbols_same Equals Equals e = refl
-symbols_same (Other a) (Other b) e = let same : a ≡ b = grind (arith, nat_tests) in ap Other same
-symbols_same _ _ e = absurd cc
+symbols_same a b e = grind (arith, nat_tests)
 
 same_symbols : (a : Symbol) → same_symbol a a ≡ true
-same_symbols OpenParenthesis = refl
-same_symbols CloseParenthesis = refl
-same_symbols Comma = refl
-same_symbols Plus = refl
-same_symbols Minus = refl
-same_symbols Star = refl
-same_symbols Equals = refl
-same_symbols (Other a) = grind (arith, nat_tests)
+same_symbols a = grind (arith, nat_tests)
 
 pub is_true : (m : Mark) (k : TokenKind) → is m k ≡ true → k ≡ kind_of_mark m
 is_true (word w) (kinds.Word v) e = ap kinds.Word (same_true the_type tt v w e)
@@ -63,36 +48,15 @@ pub mark_skips : (m : Mark) (ts rest : List Token) → Mark_is m ts rest → ski
 mark_skips m ts rest (span, line, e) = rw (e, is_itself m) refl
 
 pub no_skip : (m : Mark) (ts : List Token) → begins m ts ≡ false → skip m ts ≡ ts
-no_skip m [] e = refl
-no_skip m (t ∷ ts) e = rw e refl
+no_skip m ts e = grind arith
 
 -- what starts so doesn't begin with a mark that nothing that starts so begins with
 pub starts_otherwise : (m : Mark) (starts : List Token → Bool) → ((span : Span) (line : Line) (ts : List Token) → starts (token (kind_of_mark m) span line ∷ ts) ≡ false) → (ts : List Token) → starts ts ≡ true → begins m ts ≡ false
 starts_otherwise m starts none ts there =
-    elim (which (begins m ts)) [
-      | inl p ↦
-          let s = begins_mark m ts p in
-          absurd (let otherwise : starts ts ≡ false = ap starts s.2 ∙ none s.0 s.1 (skip m ts) in cc)
-      | inr p ↦ p
-    ]
-
-pub expect_sound : (m : Mark) (ts rest : List Token) (u : Unit {0}) → expect m ts ≡ Ok (u, rest) → Mark_is m ts rest
-expect_sound m [] rest u e = absurd cc
-expect_sound m (t ∷ ts) rest u e =
-    elim (chosen (is m t.kind) _ _ _ e) [
-      | inl p ↦ carry (λ (u : Unit {0}) (r : List Token). Mark_is m (t ∷ ts) r) tt u ts rest p.1 (token_of t ts (kind_of_mark m) (is_true m t.kind p.0))
-      | inr p ↦ let no = p.1 in absurd cc
-    ]
-
-pub expect_complete : (m : Mark) (ts rest : List Token) (u : Unit {0}) → Mark_is m ts rest → expect m ts ≡ Ok (u, rest)
-expect_complete m ts rest u (span, line, e) = rw (e, is_itself m) refl
+    false_from_ne_true (begins m ts) (λ p. let s = begins_mark m ts p in both_ways (starts ts) (ap starts s.2 ∙ none s.0 s.1 (skip m ts)) there)
 
 pub token_less : (k : TokenKind) (ts rest : List Token) → Token_is k ts rest → suc (length rest) ≡ length ts
 token_less k ts rest (span, line, e) = rw e refl
-
-pub skip_less : (m : Mark) (ts : List Token) → length (skip m ts) ≤ length ts
-skip_less m [] = omega arith
-skip_less m (t ∷ ts) = elim (which (is m t.kind)) [ inl p ↦ rw p (omega arith) | inr p ↦ rw p (omega arith) ]
 
 pub skip_openers : (m : Mark) (ts : List Token) → openers (skip m ts) ≤ openers ts
 skip_openers m [] = omega arith

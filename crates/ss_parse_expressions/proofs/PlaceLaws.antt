@@ -1,29 +1,26 @@
 -- Targets, references and lists of expressions: what is read is spelled, and what is spelled is read.
-use Rattle.std.proofs.Common.{◌≡◌, ℕ, zero, suc, ◌<◌, ◌≤◌, Bool, true, false, ◌||◌, List, length, Option, Some, None, refl, sym, subst, arith}
+use Rattle.std.proofs.Common.{◌≡◌, ℕ, zero, suc, ◌<◌, ◌≤◌, Bool, true, false, ◌||◌, List, length, Option, Some, None, refl, subst, arith}
 use Rattle.ss_parse_expressions.proofs.Common.{and_expression, apply, begins, begins_more, CloseParenthesis, Designator, ExpressionRow, ExpressionTree, maybe, NamedTree, no_expression, OpenParenthesis, seq, skip_separator, taken, Token, TokenKind, Word, word}
 use Rattle.ss_lex.specs.declared.word.Word.TheVariants as words
 use Rattle.ss_lex.specs.declared.token.TokenKind.TheVariants as kinds
 use Rattle.ss_tree.specs.declared.expression.Designator.TheVariants as designators
-use Rattle.ss_parse_expressions.specs.Shapes.{Shape, ◌▷◌, Token_is, Symbol_is, separated_list, perhaps, nested_shape}
+use Rattle.ss_parse_expressions.specs.Shapes.{Shape, ◌▷◌, Symbol_is, separated_list, perhaps, nested_shape}
 use Rattle.ss_parse_expressions.specs.SpelledExpressions.{Designated, Subscript, Target_is, Plain_name, Reference_is}
 use Rattle.ss_parse_expressions.specs.ReadExpressions.{opening, closing, designator_of, begins_sum, sum_in}
 use Rattle.ss_parse_expressions.specs.ReadPlaces.{subscript_row, named_tree, subscript_with, plain_of, named_place_in, target_in, reference_in, begins_target, targets_in, sums_in}
-use Rattle.ss_parse_expressions.proofs.Marks.{mark_begins, token_less, starts_otherwise, In_table, begins_table}
-use Rattle.ss_parse_expressions.proofs.ReaderLaws.{Reads, Item, continues_never, item_of, taken_reads, seq_reads, before_mark_reads, opened_reads, apply_reads, reshaped_reads, maybe_reads, too_deep_reads}
+use Rattle.ss_parse_expressions.proofs.Marks.{token_less, starts_otherwise, In_table, begins_table}
+use Rattle.ss_parse_expressions.proofs.ReaderLaws.{Reads, Item, continues_never, taken_reads, seq_reads, before_mark_reads, opened_item, apply_reads, reshaped_reads, maybe_reads, too_deep_reads}
 use Rattle.ss_parse_expressions.proofs.Rows.{list_reads, Loop, loop_of, separated_item}
-use Rattle.ss_parse_expressions.proofs.Beginnings.{In, in_begins, sum_no_and, continues_sum, designated_begins}
+use Rattle.ss_parse_expressions.proofs.Beginnings.{In, in_begins, sum_no_and, continues_sum}
 use Rattle.ss_parse_expressions.proofs.Factors.{word_designates}
 use Rattle.ss_parse_expressions.proofs.Sums.{in_less, sum_in_reads}
 
 -- ---- what is named
 
 pub designated_to : (d : Designator) (ts rest : List Token) → In_table designator_of d ts rest → Designated d ts rest
-designated_to d ts rest (k, takes, at) = go k takes at
-  where
-    go : (k : TokenKind) → designator_of k ≡ Some d → Token_is k ts rest → Designated d ts rest
-    go (kinds.Name n) e at = let is_name : designators.Name n ≡ d = cc in subst (λ d. Designated d ts rest) is_name at
-    go (kinds.Word w) e (span, line, at) = subst (λ (r : List Token). Designated d r rest) (sym at) (word_designates w d span line rest e)
-    go _ e at = absurd cc
+designated_to d ts rest (kinds.Name n, e, at) = let is_name : designators.Name n ≡ d = cc in subst (λ d. Designated d ts rest) is_name at
+designated_to d ts rest (kinds.Word w, e, at) = word_designates w d ts rest e at
+designated_to d ts rest (_, e, at) = absurd cc
 
 designated_from : (d : Designator) (ts rest : List Token) → Designated d ts rest → In_table designator_of d ts rest
 designated_from (designators.Name n) ts rest at = (kinds.Name n, refl, at)
@@ -31,16 +28,12 @@ designated_from designators.TimeV ts rest at = (kinds.Word words.TimeV, refl, at
 designated_from designators.TimeA ts rest at = (kinds.Word words.TimeA, refl, at)
 
 plain_to : (d : Designator) (ts rest : List Token) → In_table plain_of d ts rest → Plain_name d ts rest
-plain_to d ts rest (k, takes, at) = go k takes at
-  where
-    go : (k : TokenKind) → plain_of k ≡ Some d → Token_is k ts rest → Plain_name d ts rest
-    go (kinds.Name n) e at = let is_name : designators.Name n ≡ d = cc in subst (λ d. Plain_name d ts rest) is_name at
-    go _ e at = absurd cc
+plain_to d ts rest (kinds.Name n, e, at) = let is_name : designators.Name n ≡ d = cc in subst (λ d. Plain_name d ts rest) is_name at
+plain_to d ts rest (_, e, at) = absurd cc
 
-plain_from : (d : Designator) (ts rest : List Token) → Plain_name d ts rest → In_table plain_of d ts rest
+pub plain_from : (d : Designator) (ts rest : List Token) → Plain_name d ts rest → In_table plain_of d ts rest
 plain_from (designators.Name n) ts rest at = (kinds.Name n, refl, at)
-plain_from designators.TimeV ts rest at = absurd at
-plain_from designators.TimeA ts rest at = absurd at
+plain_from _ ts rest at = absurd at
 
 abbrev pub continues_place : List Token → Bool
 continues_place ts = begins opening ts || continues_never ts
@@ -52,14 +45,9 @@ abbrev pub Subscript_is : ℕ → ExpressionTree → Shape
 Subscript_is n e = Symbol_is OpenParenthesis ▷ In n e ▷ Symbol_is CloseParenthesis
 
 module _ (n m : ℕ) (le : n ≤ m) where
-  subscript_reads : Reads (suc n) (subscript_with (sum_in n)) (subscript_with (sum_in m)) (Subscript_is n) continues_never
-  unfolding subscript_with
-  subscript_reads = opened_reads opening refl (before_mark_reads closing (sum_in_reads n m le) (λ span line ts. refl))
-
   subscript_item : Item (suc n) (begins opening) (subscript_with (sum_in n)) (subscript_with (sum_in m)) (Subscript_is n) continues_never
-  subscript_item =
-      item_of (begins opening) subscript_reads (λ ts e rest s. mark_begins opening ts s.0 s.1)
-      (λ ts e rest s. omega (arith, token_less (kinds.Symbol OpenParenthesis) ts s.0 s.1, in_less n s.0 e s.2.0 s.2.1, token_less (kinds.Symbol CloseParenthesis) s.2.0 rest s.2.2))
+  unfolding subscript_with
+  subscript_item = opened_item opening refl (before_mark_reads closing (sum_in_reads n m le) (λ span line ts. refl))
 
 subscript_from : (n : ℕ) (row : ExpressionRow) (ts rest : List Token) → Subscript row n ts rest → (o : Option ExpressionTree) × (subscript_row o ≡ row) × perhaps (Subscript_is n) o ts rest
 subscript_from n no_expression ts rest s = (None, refl, s)
@@ -107,13 +95,9 @@ In_target room t = nested_shape (λ l. Target_is l t) room
 pub target_in_reads : (n m : ℕ) → n ≤ m → Reads n (target_in n) (target_in m) (In_target n) continues_place
 target_in_reads n m le = place_in_reads designator_of Designated designated_to designated_from n m le
 
-pub target_begins : (n : ℕ) (ts : List Token) (t : NamedTree) (rest : List Token) → Target_is n t ts rest → (begins_target ts ≡ true) × (begins_sum ts ≡ true)
-target_begins n ts t rest s =
-    (begins_table designator_of ts s.0 t.designator (designated_from t.designator ts s.0 s.1), (designated_begins t.designator ts s.0 s.1).0)
-
 in_target_begins : (n : ℕ) (ts : List Token) (t : NamedTree) (rest : List Token) → In_target n t ts rest → begins_target ts ≡ true
 in_target_begins zero ts t rest s = absurd s
-in_target_begins (suc n) ts t rest s = (target_begins n ts t rest s).0
+in_target_begins (suc n) ts t rest s = begins_table designator_of ts s.0 t.designator (designated_from t.designator ts s.0 s.1)
 
 pub in_target_less : (n : ℕ) (ts : List Token) (t : NamedTree) (rest : List Token) → In_target n t ts rest → length rest < length ts
 in_target_less zero ts t rest s = absurd s

@@ -1,7 +1,9 @@
 -- Rows of what a reader reads.
 use Rattle.std.proofs.Common.{◌≡◌, ℕ, zero, suc, ◌<◌, ◌≤◌, Bool, true, false, ◌||◌, List, [], ◌∷◌, ◌++◌, length, map, drop, Result, Ok, Err, refl, sym, ap, subst, ◌∙◌, append_assoc, arith, inl, inr}
+use Rattle.std.proofs.lemmas.Bool.{or_from}
 use Rattle.std.proofs.lemmas.List.{append-nil, map_push}
 use Rattle.std.specs.Global.{Vec}
+use Rattle.std.specs.Prelude.{IsErrAnd}
 use Rattle.ss_parse_expressions.proofs.Common.{Line, openers, ParseFault, Span, Token}
 use Rattle.ss_parse_expressions.specs.declared.failure.ParseFailure.{ParseFailure}
 use Rattle.ss_parse_expressions.specs.declared.failure.ParseFailure.TheVariants as failures
@@ -9,11 +11,11 @@ use Rattle.ss_parse_expressions.specs.Reading.{Reader, ◌>>=◌, HasFailedReadi
 use Rattle.ss_lex.specs.declared.word.Word.TheVariants as words
 use Rattle.ss_parse_expressions.specs.Steps.{AreJoined}
 use Rattle.ss_parse_expressions.specs.Shapes as shapes
-use Rattle.ss_parse_expressions.specs.Shapes.{Shape, ◌▷◌, nothing, never, either_shape, each_in_turn, separated_list, separator}
+use Rattle.ss_parse_expressions.specs.Shapes.{Shape, ◌▷◌, each_in_turn, separated_list, separator}
 use Rattle.ss_parse_expressions.proofs.Tools.{bind_ok, which, chosen, carry, or_false, and_true, ok_or_err}
 use Rattle.ss_parse_expressions.proofs.Marks.{token, Mark_is, begins_mark, no_skip, skip_openers, token_less}
 use Rattle.ss_parse_expressions.proofs.Depth.{Upto, upto_same, upto_bind, upto_if, Bounded, bounded_more, bounded_bind, bounded_if}
-use Rattle.ss_parse_expressions.proofs.ReaderLaws.{Reads, Item}
+use Rattle.ss_parse_expressions.proofs.ReaderLaws.{Reads, Item, Made, bind_reads, made_reads, reshaped_reads, fewer_reads}
 
 -- a shape of lists that is item after item, each in the state that the ones before it leave
 pub record Is_row {A G : Type 0} (S : G → A → Shape) (next : G → A → G) (T : G → List A → Shape) : Type 0 where
@@ -91,54 +93,35 @@ pub rows_reads : {A : Type 0} {k : ℕ} {starts : List Token → Bool} {item ite
 unfolding rows
 rows_reads {S = S} law stops = row_reads (λ (u : Unit {0}). law) (in_turn S) (λ u. stops) tt
 
+-- a token that can't continue the rest and begins no item doesn't begin the row
+pub each_first : {A : Type 0} {S : A → Shape} (c : List Token → Bool) → ((ts : List Token) (x : A) (rest : List Token) → S x ts rest → c ts ≡ false) → (xs : List A) (ts rest : List Token) → each_in_turn S xs ts rest → c rest ≡ false → c ts ≡ false
+each_first c stops [] ts rest e stop = ap c e ∙ stop
+each_first c stops (x ∷ xs) ts rest (m, one, more) stop = stops ts x m one
+
 -- ---- an item and further ones
 
 module _ {A : Type 0} {k : ℕ} {r r' : Reader A} {S : A → Shape} {starts : List Token → Bool} {item item' : Reader A} {T : A → Shape} {c d : List Token → Bool} (first : Reads k r r' S c) (further : Item k starts item item' T d) (stops : (ts : List Token) (x : A) (rest : List Token) → T x ts rest → (c ts ≡ false) × (d ts ≡ false)) (less : (ts : List Token) (x : A) (rest : List Token) → S x ts rest → length rest < length ts) where
   others : Reads k (rows starts item) (rows starts item') (each_in_turn T) (λ ts. starts ts || d ts)
   others = rows_reads further (λ ts x rest s. (stops ts x rest s).1)
 
-  first_stops : (xs : List A) (ts rest : List Token) → each_in_turn T xs ts rest → c rest ≡ false → c ts ≡ false
-  first_stops [] ts rest e stop = ap c e ∙ stop
-  first_stops (x ∷ xs) ts rest (m, one, more) stop = (stops ts x m one).0
-
-  first_sound : (ts : List Token) (xs : List A) (rest : List Token) → first_and r starts item ts ≡ Ok (xs, rest) → shapes.first_and_each S T xs ts rest
-  first_sound ts xs rest e =
-      let x = bind_ok (r ts) _ _ e in
-      let more = bind_ok (rows starts item x.0.1) _ _ x.2 in
-      carry (λ (y : List A) (z : List Token). shapes.first_and_each S T y ts z) (x.0.0 ∷ more.0.0) xs more.0.1 rest more.2
-      (x.0.1, first.sound ts x.0.0 x.0.1 x.1, others.sound x.0.1 more.0.0 more.0.1 more.1)
-
-  first_complete : (ts : List Token) (xs : List A) (rest : List Token) → shapes.first_and_each S T xs ts rest → (starts rest || (c rest || d rest)) ≡ false → first_and r starts item ts ≡ Ok (xs, rest)
-  first_complete ts [] rest s stop = absurd s
-  first_complete ts (x ∷ xs) rest (m, one, more) stop =
-      let both = or_false (starts rest) (c rest || d rest) stop in
-      let last = or_false (c rest) (d rest) both.1 in
-      let over : starts rest ≡ false = both.0 in
-      let over' : d rest ≡ false = last.1 in
-      let read : r ts ≡ Ok (x, m) = first.complete ts x m one (first_stops xs m rest more last.0) in
-      let read' : rows starts item m ≡ Ok (xs, rest) = others.complete m xs rest more (rw (over, over') refl) in
-      rw (read, read') refl
-
   pub first_less : (ts : List Token) (xs : List A) (rest : List Token) → shapes.first_and_each S T xs ts rest → length rest < length ts
   first_less ts [] rest s = absurd s
   first_less ts (x ∷ xs) rest (m, one, more) = omega (arith, less ts x m one, others.shorter m xs rest more)
 
-  first_shorter : (ts : List Token) (xs : List A) (rest : List Token) → shapes.first_and_each S T xs ts rest → length rest ≤ length ts
-  first_shorter ts xs rest s = omega (arith, first_less ts xs rest s)
-
   pub first_and_reads : Reads k (first_and r starts item) (first_and r' starts item') (shapes.first_and_each S T) (λ ts. starts ts || (c ts || d ts))
-  first_and_reads = record {
-    sound = first_sound;
-    complete = first_complete;
-    shorter = first_shorter;
-    under = λ ts. upto_bind _ _ _ _ (first.under ts) (λ x. upto_bind _ _ _ _ (others.under x.1) (λ xs. upto_same _));
-    opening = λ ts. bounded_bind k (openers ts) (r ts) _ (first.opening ts) (λ x. bounded_bind k (openers x.1) (rows starts item x.1) _ (others.opening x.1) (λ xs. omega arith));
-  }
+  first_and_reads =
+      reshaped_reads (bind_reads first (λ x. fewer_reads (made_reads others (λ (xs : List A). x ∷ xs)) (λ ts. starts ts || (c ts || d ts)) fewer) continued) (shapes.first_and_each S T)
+      (λ ys ts rest s. subst (λ (ys : List A). shapes.first_and_each S T ys ts rest) s.1.2.1 (s.1.0, s.1.1, s.1.2.2)) from
+    where
+      fewer : (ts : List Token) → (starts ts || (c ts || d ts)) ≡ false → (starts ts || d ts) ≡ false
+      fewer ts stop = let both = or_false (starts ts) (c ts || d ts) stop in or_from (starts ts) (d ts) both.0 (or_false (c ts) (d ts) both.1).1
 
--- a token that can't continue the rest and begins no item doesn't begin the row
-pub each_first : {A : Type 0} {S : A → Shape} (c : List Token → Bool) → ((ts : List Token) (x : A) (rest : List Token) → S x ts rest → c ts ≡ false) → (xs : List A) (ts rest : List Token) → each_in_turn S xs ts rest → c rest ≡ false → c ts ≡ false
-each_first c stops [] ts rest e stop = ap c e ∙ stop
-each_first c stops (x ∷ xs) ts rest (m, one, more) stop = stops ts x m one
+      continued : (x : A) (ys : List A) (ts rest : List Token) → Made (λ (xs : List A). x ∷ xs) (each_in_turn T) ys ts rest → (starts rest || (c rest || d rest)) ≡ false → c ts ≡ false
+      continued x ys ts rest s stop = each_first c (λ ts x rest s. (stops ts x rest s).0) s.0 ts rest s.2 (or_false (c rest) (d rest) (or_false (starts rest) (c rest || d rest) stop).1).0
+
+      from : (ys : List A) (ts rest : List Token) → shapes.first_and_each S T ys ts rest → (x : A) × (S x ▷ Made (λ (xs : List A). x ∷ xs) (each_in_turn T) ys) ts rest
+      from [] ts rest s = absurd s
+      from (x ∷ xs) ts rest (m, one, more) = (x, (m, one, (xs, refl, more)))
 
 -- ---- separators
 
@@ -225,25 +208,6 @@ module _ {A G : Type 0} (starts : List Token → Bool) (item : G → Reader A) (
         | inr p ↦ rw p refl
       ]
 
-module _ {A : Type 0} (starts : List Token → Bool) (item : Reader A) (at_end : starts [] ≡ false) (shrinks : Shrinks starts item) where
-  pub rows_more : (ts rest : List Token) (x : A) → starts ts ≡ true → item ts ≡ Ok (x, rest) → rows starts item ts ≡ (rows starts item rest >>= λ xs. Ok (x ∷ xs.0, xs.1))
-  unfolding rows
-  rows_more [] rest x started e = absurd (let no_more = at_end in cc)
-  rows_more (t ∷ ts) rest x started e =
-      let small : length rest < length (t ∷ ts) = shrinks (t ∷ ts) x rest started e in
-      let same = row_enough starts (λ (u : Unit {0}). item) (λ u x. u) at_end (λ u. shrinks) (length ts) (length rest) tt rest (omega arith) (omega arith) in
-      rw (started, e, same) refl
-
-  pub rows_fail : (ts : List Token) (f : ParseFault) → starts ts ≡ true → item ts ≡ Err f → rows starts item ts ≡ Err f
-  unfolding rows
-  rows_fail [] f started e = absurd (let no_more = at_end in cc)
-  rows_fail (t ∷ ts) f started e = rw (started, e) refl
-
-  pub rows_done : (ts : List Token) → starts ts ≡ false → rows starts item ts ≡ Ok ([], ts)
-  unfolding rows
-  rows_done [] e = refl
-  rows_done (t ∷ ts) e = rw e refl
-
 -- What a loop needs to read a row: its test is false at the end, and each item takes a token.
 pub record Loop {A : Type 0} (starts : List Token → Bool) (item : Reader A) : Type 0 where
   pub at_end : starts [] ≡ false
@@ -254,16 +218,34 @@ loop_of law at_end = record { at_end = at_end; shrinks = λ ts x rest started e.
 
 -- the laws of a loop, where the items need no view
 module _ {A : Type 0} {starts : List Token → Bool} {item : Reader A} (loop : Loop starts item) where
+  rows_more : (ts rest : List Token) (x : A) → starts ts ≡ true → item ts ≡ Ok (x, rest) → rows starts item ts ≡ (rows starts item rest >>= λ xs. Ok (x ∷ xs.0, xs.1))
+  unfolding rows
+  rows_more [] rest x started e = absurd (let no_more = loop.at_end in cc)
+  rows_more (t ∷ ts) rest x started e =
+      let small : length rest < length (t ∷ ts) = loop.shrinks (t ∷ ts) x rest started e in
+      let same = row_enough starts (λ (u : Unit {0}). item) (λ u x. u) loop.at_end (λ u. loop.shrinks) (length ts) (length rest) tt rest (omega arith) (omega arith) in
+      rw (started, e, same) refl
+
+  rows_fail : (ts : List Token) (f : ParseFault) → starts ts ≡ true → item ts ≡ Err f → rows starts item ts ≡ Err f
+  unfolding rows
+  rows_fail [] f started e = absurd (let no_more = loop.at_end in cc)
+  rows_fail (t ∷ ts) f started e = rw (started, e) refl
+
+  rows_done : (ts : List Token) → starts ts ≡ false → rows starts item ts ≡ Ok ([], ts)
+  unfolding rows
+  rows_done [] e = refl
+  rows_done (t ∷ ts) e = rw e refl
+
   pub grows_plain : (old new : List A) (x : A) (ts rest : List Token) (total : Result (List A × List Token) ParseFault) → new ≡ old ++ x ∷ [] → starts ts ≡ true → item ts ≡ Ok (x, rest) → with_front old (rows starts item ts) ≡ total → with_front new (rows starts item rest) ≡ total
   grows_plain old new x ts rest total pushed started e so_far =
-      rw pushed (with_front_more old x (rows starts item rest)) ∙ ap (with_front old) (sym (rows_more starts item loop.at_end loop.shrinks ts rest x started e)) ∙ so_far
+      rw pushed (with_front_more old x (rows starts item rest)) ∙ ap (with_front old) (sym (rows_more ts rest x started e)) ∙ so_far
 
   pub is_done_plain : (read : List A) (ts : List Token) (total : Result (List A × List Token) ParseFault) → starts ts ≡ false → with_front read (rows starts item ts) ≡ total → total ≡ Ok (read, ts)
-  is_done_plain read ts total over so_far = sym so_far ∙ ap (with_front read) (rows_done starts item loop.at_end loop.shrinks ts over) ∙ ap (λ ys. Ok (ys, ts)) (append-nil read)
+  is_done_plain read ts total over so_far = sym so_far ∙ ap (with_front read) (rows_done ts over) ∙ ap (λ ys. Ok (ys, ts)) (append-nil read)
 
   pub breaks_plain : (read : List A) (ts : List Token) (e : ParseFailure) (total : Result (List A × List Token) ParseFault) → starts ts ≡ true → HasFailedReading e (item ts) → with_front read (rows starts item ts) ≡ total → HasFailedReading e total
   breaks_plain read ts failures.Memory total started f so_far = tt
-  breaks_plain read ts (failures.Refused f left) total started e so_far = sym so_far ∙ ap (with_front read) (rows_fail starts item loop.at_end loop.shrinks ts f started e)
+  breaks_plain read ts (failures.Refused f left) total started e so_far = sym so_far ∙ ap (with_front read) (rows_fail ts f started e)
 
 -- the laws of a loop, where the items are seen through a view
 module _ {A V : Type 0} (view : V → A) {starts : List Token → Bool} {item : Reader A} (loop : Loop starts item) where
@@ -286,6 +268,11 @@ module _ {A V : Type 0} (view : V → A) {starts : List Token → Bool} {item : 
 -- what was read next
 pub next_read : {X Y : Type 0} (view : X → Y) (r : Result X ParseFailure) (read : Result Y ParseFault) (x : X) → HasGivenReading view r read → r ≡ Ok x → read ≡ Ok (view x)
 next_read view r read x h is = subst (λ z. HasGivenReading view z read) is h
+
+-- the exit of a `?`
+pub failed : {X Y : Type 0} (view : X → Y) (r : Result X ParseFailure) (e : ParseFailure) (read : Result Y ParseFault) → IsErrAnd r (λ f. f ≡ e) → HasFailedReading e read → HasGivenReading view r read
+failed view (Ok x) e read is h = absurd is
+failed view (Err f) e read is h = subst (λ z. HasFailedReading z read) (sym is) h
 
 -- what was to be read next failed
 pub next_fails : {A B Y : Type 0} (view : A × B → Y) (before : Vec A) (r : Result (A × B) ParseFailure) (read : Result Y ParseFault) (e : ParseFailure) → HasGivenReading view r read → AreJoined before r (Err e) → HasFailedReading e read

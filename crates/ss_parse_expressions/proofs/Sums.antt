@@ -1,43 +1,17 @@
 -- Terms and sums: what is read is spelled, and what is spelled is read.
-use Rattle.std.proofs.Common.{◌≡◌, ℕ, zero, suc, ◌<◌, ◌≤◌, false, ◌||◌, List, [], ◌∷◌, length, Some, refl, sym, ap, subst, ◌∙◌, arith, inl, inr}
-use Rattle.ss_parse_expressions.proofs.Common.{and_expression, and_term, apply, begins, begins_more, call, expression_row, ExpressionRow, ExpressionTree, factor_place, first_place, Further_factors, Further_terms, Minus, named, no_expression, no_term, Plus, product, seq, Sign, Sign_is, signed, skip, skip_separator, Spelled, Star, sum, sum_place, term_place, term_row, TermRow, Token, TokenKind}
+use Rattle.std.proofs.Common.{◌≡◌, ℕ, zero, suc, ◌<◌, ◌≤◌, false, ◌||◌, List, [], ◌∷◌, length, Some, refl, sym, ap, subst, arith, inl, inr}
+use Rattle.ss_parse_expressions.proofs.Common.{and_expression, and_term, apply, begins, begins_more, call, ExpressionTree, factor_place, first_place, Minus, named, no_expression, Plus, product, seq, Sign, Sign_is, signed, skip, skip_separator, Spelled, Star, sum, sum_place, term_place, Token, TokenKind}
 use Rattle.ss_lex.specs.declared.token.TokenKind.TheVariants as kinds
 use Rattle.ss_base.specs.declared.words.Sign.TheVariants as signs
-use Rattle.ss_parse_expressions.specs.Shapes.{Shape, ◌▷◌, Token_is, Symbol_is, each_in_turn}
+use Rattle.ss_parse_expressions.specs.Shapes.{◌▷◌, Token_is, Symbol_is, each_in_turn}
 use Rattle.ss_parse_expressions.specs.SpelledExpressions.{ExpressionPlace, Can_take_product, Can_take_sign, Can_take_sum}
 use Rattle.ss_parse_expressions.specs.ReadExpressions.{star, sign_of_token, begins_sign, begins_sum, sum_of_terms, product_of, factor_with, further_factors_with, term_with, signed_term_with, first_term_with, further_terms_with, sum_with, sum_in}
 use Rattle.ss_parse_expressions.proofs.Tools.{or_false}
 use Rattle.ss_parse_expressions.proofs.Marks.{token_less, In_table}
-use Rattle.ss_parse_expressions.proofs.ReaderLaws.{Reads, Item, item_of, item_skipped, taken_reads, seq_reads, apply_reads, too_deep_reads, either_reads, reshaped_reads}
+use Rattle.ss_parse_expressions.proofs.ReaderLaws.{Reads, Item, Made, item_of, item_skipped, item_apply, taken_reads, seq_reads, apply_reads, too_deep_reads, either_reads, reshaped_reads}
 use Rattle.ss_parse_expressions.proofs.Rows.{rows_reads, each_first, Loop, loop_of, separated_item}
-use Rattle.ss_parse_expressions.proofs.Beginnings.{In, in_begins, sum_no_and, term_cases, first_cases, sum_cases, sign_begins, term_begins, continues_factor, continues_term, continues_sum}
+use Rattle.ss_parse_expressions.proofs.Beginnings.{In, in_begins, sum_no_and, Term_is, further_factors, further_terms, term_parts, first_cases, sum_parts, sign_begins, term_begins, continues_factor, continues_term, continues_sum}
 use Rattle.ss_parse_expressions.proofs.Factors.{factor_reads, factor_less}
-
--- ---- rows of factors and of terms as lists
-
-further_factors : (levels : ℕ) (xs : List ExpressionTree) (ts rest : List Token) → each_in_turn (λ e. Symbol_is Star ▷ Spelled e factor_place levels) xs ts rest → Further_factors (expression_row xs) levels ts rest
-further_factors levels [] ts rest e = e
-further_factors levels (x ∷ xs) ts rest (m, (n, separated, one), more) = (n, separated, (m, one, further_factors levels xs m rest more))
-
-factors_listed : (levels : ℕ) (es : ExpressionRow) (ts rest : List Token) → Further_factors es levels ts rest → (xs : List ExpressionTree) × (expression_row xs ≡ es) × each_in_turn (λ e. Symbol_is Star ▷ Spelled e factor_place levels) xs ts rest
-factors_listed levels no_expression ts rest e = ([], refl, e)
-factors_listed levels (and_expression x es) ts rest (n, separated, (m, one, more)) =
-    let found = factors_listed levels es m rest more in
-    (x ∷ found.0, ap (and_expression x) found.1, (m, (n, separated, one), found.2))
-
--- a further term of a sum
-abbrev Term_is : ℕ → Sign × ExpressionTree → Shape
-Term_is levels t = Sign_is t.0 ▷ Spelled t.1 term_place levels
-
-further_terms : (levels : ℕ) (xs : List (Sign × ExpressionTree)) (ts rest : List Token) → each_in_turn (Term_is levels) xs ts rest → Further_terms (term_row xs) levels ts rest
-further_terms levels [] ts rest e = e
-further_terms levels (x ∷ xs) ts rest (m, (n, sign, one), more) = (n, sign, (m, one, further_terms levels xs m rest more))
-
-terms_listed : (levels : ℕ) (es : TermRow) (ts rest : List Token) → Further_terms es levels ts rest → (xs : List (Sign × ExpressionTree)) × (term_row xs ≡ es) × each_in_turn (Term_is levels) xs ts rest
-terms_listed levels no_term ts rest e = ([], refl, e)
-terms_listed levels (and_term sign x es) ts rest (n, signs_is, (m, one, more)) =
-    let found = terms_listed levels es m rest more in
-    ((sign, x) ∷ found.0, ap (and_term sign x) found.1, (m, (n, signs_is, one), found.2))
 
 -- ---- signs
 
@@ -81,26 +55,13 @@ module _ (n m : ℕ) (inner : Reads n (sum_in n) (sum_in m) (In n) continues_sum
   term_to (e, []) ts rest (m, one, is) = as_spelled factor_place term_place (λ can. absurd can) (λ can. can) (λ can. can) n e ts rest (subst (λ r. Spelled e factor_place n ts r) is one)
   term_to (e, f ∷ fs) ts rest (m, one, more) = (tt, (m, one, further_factors n (f ∷ fs) m rest more))
 
-  term_from : (x : ExpressionTree) (ts rest : List Token) → Spelled x term_place n ts rest → (p : ExpressionTree × List ExpressionTree) × (product_of p.0 p.1 ≡ x) × (Spelled p.0 factor_place n ▷ each_in_turn (λ e. Symbol_is Star ▷ Spelled e factor_place n) p.1) ts rest
-  term_from x ts rest s =
-      elim (term_cases x n ts rest s) [
-        | inl p ↦ go p.0 p.1 p.2 p.3.0 p.3.1
-        | inr f ↦ ((x, []), refl, (rest, f, refl))
-      ]
-    where
-      go : (f : ExpressionTree) (fs : ExpressionRow) → x ≡ product f fs → (fs ≡ no_expression → ⊥) → (Spelled f factor_place n ▷ Further_factors fs n) ts rest → (p : ExpressionTree × List ExpressionTree) × (product_of p.0 p.1 ≡ x) × (Spelled p.0 factor_place n ▷ each_in_turn (λ e. Symbol_is Star ▷ Spelled e factor_place n) p.1) ts rest
-      go f no_expression is some s = absurd (some refl)
-      go f (and_expression e es) is some (m, one, (a, star_is, (b, next, more))) =
-          let found = factors_listed n es b rest more in
-          ((f, e ∷ found.0), ap (λ (r : ExpressionRow). product f (and_expression e r)) found.1 ∙ sym is, (m, one, (b, (a, star_is, next), found.2)))
-
   pub term_reads : Reads (suc n) (term_with (sum_in n)) (term_with (sum_in m)) (λ e. Spelled e term_place n) continues_term
   unfolding term_with
-  term_reads = apply_reads factors_reads (λ p. product_of p.0 p.1) (λ e. Spelled e term_place n) term_to term_from
+  term_reads = apply_reads factors_reads (λ p. product_of p.0 p.1) (λ e. Spelled e term_place n) term_to (λ x ts rest s. term_parts x n ts rest s)
 
   term_less : (ts : List Token) (x : ExpressionTree) (rest : List Token) → Spelled x term_place n ts rest → length rest < length ts
   term_less ts x rest s =
-      let p = term_from x ts rest s in
+      let p = term_parts x n ts rest s in
       omega (arith, factor_less n m inner inner_less ts p.0.0 p.2.0 p.2.1, further_factors_reads.shorter p.2.0 p.0.1 rest p.2.2)
 
   -- ---- sums
@@ -123,15 +84,8 @@ module _ (n m : ℕ) (inner : Reads n (sum_in n) (sum_in m) (In n) continues_sum
   further_terms_reads : Reads (suc n) (further_terms_with (sum_in n)) (further_terms_with (sum_in m)) (each_in_turn (Term_is n)) continues_sum
   further_terms_reads = rows_reads signed_term_item (λ ts x rest s. sign_stops x.0 ts s.0 s.1)
 
-  -- a sign and a term
-  abbrev Signed_is : ExpressionTree → Shape
-  Signed_is x ts rest = (p : Sign × ExpressionTree) × (signed p.0 p.1 ≡ x) × Term_is n p ts rest
-
-  signed_reads : Reads (suc n) (apply (λ p. signed p.0 p.1) (signed_term_with (sum_in n))) (apply (λ p. signed p.0 p.1) (signed_term_with (sum_in m))) Signed_is continues_term
-  signed_reads = apply_reads signed_term_reads (λ p. signed p.0 p.1) Signed_is (λ p ts rest s. (p, refl, s)) (λ x ts rest s. s)
-
-  signed_item : Item (suc n) begins_sign (apply (λ p. signed p.0 p.1) (signed_term_with (sum_in n))) (apply (λ p. signed p.0 p.1) (signed_term_with (sum_in m))) Signed_is continues_term
-  signed_item = item_of begins_sign signed_reads (λ ts x rest s. (sign_begins s.0.0 ts s.2.0 s.2.1).1) (λ ts x rest s. signed_term_less ts s.0 rest s.2)
+  signed_item : Item (suc n) begins_sign (apply (λ p. signed p.0 p.1) (signed_term_with (sum_in n))) (apply (λ p. signed p.0 p.1) (signed_term_with (sum_in m))) (Made (λ p. signed p.0 p.1) (Term_is n)) continues_term
+  signed_item = item_apply signed_term_item (λ p. signed p.0 p.1)
 
   pub first_term_reads : Reads (suc n) (first_term_with (sum_in n)) (first_term_with (sum_in m)) (λ e. Spelled e first_place n) (λ ts. continues_term ts || continues_term ts)
   unfolding first_term_with
@@ -151,22 +105,9 @@ module _ (n m : ℕ) (inner : Reads n (sum_in n) (sum_in m) (In n) continues_sum
   sum_to (e, []) ts rest (m, one, is) = as_spelled first_place sum_place (λ can. can) (λ can. can) (λ can. absurd can) n e ts rest (subst (λ r. Spelled e first_place n ts r) is one)
   sum_to (e, f ∷ fs) ts rest (m, one, more) = (tt, (m, one, further_terms n (f ∷ fs) m rest more))
 
-  sum_from : (x : ExpressionTree) (ts rest : List Token) → Spelled x sum_place n ts rest → (p : ExpressionTree × List (Sign × ExpressionTree)) × (sum_of_terms p.0 p.1 ≡ x) × (Spelled p.0 first_place n ▷ each_in_turn (Term_is n) p.1) ts rest
-  sum_from x ts rest s =
-      elim (sum_cases x n ts rest s) [
-        | inl p ↦ go p.0 p.1 p.2 p.3.0 p.3.1
-        | inr f ↦ ((x, []), refl, (rest, f, refl))
-      ]
-    where
-      go : (f : ExpressionTree) (fs : TermRow) → x ≡ sum f fs → (fs ≡ no_term → ⊥) → (Spelled f first_place n ▷ Further_terms fs n) ts rest → (p : ExpressionTree × List (Sign × ExpressionTree)) × (sum_of_terms p.0 p.1 ≡ x) × (Spelled p.0 first_place n ▷ each_in_turn (Term_is n) p.1) ts rest
-      go f no_term is some s = absurd (some refl)
-      go f (and_term sign e es) is some (m, one, (a, sign_is, (b, next, more))) =
-          let found = terms_listed n es b rest more in
-          ((f, (sign, e) ∷ found.0), ap (λ (r : TermRow). sum f (and_term sign e r)) found.1 ∙ sym is, (m, one, (b, (a, sign_is, next), found.2)))
-
   pub sum_with_reads : Reads (suc n) (sum_with (sum_in n)) (sum_with (sum_in m)) (λ e. Spelled e sum_place n) continues_sum
   unfolding sum_with
-  sum_with_reads = apply_reads terms_reads (λ p. sum_of_terms p.0 p.1) (λ e. Spelled e sum_place n) sum_to sum_from
+  sum_with_reads = apply_reads terms_reads (λ p. sum_of_terms p.0 p.1) (λ e. Spelled e sum_place n) sum_to (λ x ts rest s. sum_parts x n ts rest s)
 
   first_less : (ts : List Token) (x : ExpressionTree) (rest : List Token) → Spelled x first_place n ts rest → length rest < length ts
   first_less ts x rest s =
@@ -177,7 +118,7 @@ module _ (n m : ℕ) (inner : Reads n (sum_in n) (sum_in m) (In n) continues_sum
 
   pub sum_with_less : (ts : List Token) (x : ExpressionTree) (rest : List Token) → Spelled x sum_place n ts rest → length rest < length ts
   sum_with_less ts x rest s =
-      let p = sum_from x ts rest s in
+      let p = sum_parts x n ts rest s in
       omega (arith, first_less ts p.0.0 p.2.0 p.2.1, further_terms_reads.shorter p.2.0 p.0.1 rest p.2.2)
 
 -- ---- the laws at each level

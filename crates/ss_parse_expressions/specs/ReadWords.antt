@@ -57,6 +57,10 @@ begins_name = begins_by name_in_token
 abbrev pub names : Reader (List (List ℕ))
 names = list_of begins_name (taken name_in_token)
 
+-- the tokens after an article, where there may be one
+abbrev pub past_article : Bool → List Token → List Token
+past_article articles ts = if articles then skip_class classes.Article ts else ts
+
 abbrev pub begins_item : List Token → Bool
 begins_item ts = begins_name (skip_class classes.Article ts)
 

@@ -1,8 +1,8 @@
 //! Names and lists of names.
 
 ghost use Rattle.std.specs.Prelude.{◌≡◌, drop};
-ghost use Rattle.ss_parse_expressions.specs.Reading.{HasGivenReading, taken, name_in_token, begins_more};
-ghost use Rattle.ss_parse_expressions.specs.ReadWords.{begins_name, names, begins_item, items};
+ghost use Rattle.ss_parse_expressions.specs.Reading.{HasGivenReading, taken, name_in_token, begins_more, list_of};
+ghost use Rattle.ss_parse_expressions.specs.ReadWords.{begins_name, names, past_article, items};
 
 use crate::classes::{WordClass, skip_class};
 use crate::failure::ParseFailure;
@@ -46,15 +46,39 @@ pub fn begins_more_names(tokens: &[Token]) -> bool
         && begins_name(skip_separator(tokens))
 }
 
-/// Names with separators between.
-pub fn names(alloc: Global, tokens: &[Token]) -> Result<(Vec<Name>, &[Token]), ParseFailure>
-    ensures { HasGivenReading (λ x. (x.0.items, x.1.now)) result (names tokens.now) }
+/// The tokens after an article, where there may be one.
+fn past_article(tokens: &[Token], articles: bool) -> &[Token]
+    ensures { result.now ≡ past_article articles tokens.now }
 {
-    let first = name(tokens)?;
+    if articles {
+        skip_class(tokens, WordClass::Article)
+    } else {
+        tokens
+    }
+}
+
+/// Whether a separator and then a name, with an article before it where there may be one, follow.
+fn begins_more_listed(tokens: &[Token], articles: bool) -> bool
+    ensures { result ≡ begins_more (λ ts. begins_name (past_article articles ts)) tokens.now }
+{
+    (begins_symbol(tokens, Symbol::Comma) || begins_word(tokens, Word::And))
+        && begins_name(past_article(skip_separator(tokens), articles))
+}
+
+/// Names with separators between, each with an article before it where there may be one.
+fn listed(
+    alloc: Global,
+    tokens: &[Token],
+    articles: bool,
+) -> Result<(Vec<Name>, &[Token]), ParseFailure>
+    ensures { HasGivenReading (λ x. (x.0.items, x.1.now)) result (list_of (λ ts. begins_name (past_article articles ts)) (λ ts. taken name_in_token (past_article articles ts)) tokens.now) }
+{
+    let from = past_article(tokens, articles);
+    let first = name(from)?;
     let mut all = alone(alloc, first)?;
-    let mut rest = after_first(tokens);
-    'more: while begins_more_names(rest) {
-        let from = skip_separator(rest);
+    let mut rest = after_first(from);
+    'more: while begins_more_listed(rest, articles) {
+        let from = past_article(skip_separator(rest), articles);
         let next = name(from)?;
         all.push(next)?;
         rest = after_first(from);
@@ -62,33 +86,16 @@ pub fn names(alloc: Global, tokens: &[Token]) -> Result<(Vec<Name>, &[Token]), P
     Ok((all, rest))
 }
 
-fn begins_item(tokens: &[Token]) -> bool
-    ensures { result ≡ begins_item tokens.now }
+/// Names with separators between.
+pub fn names(alloc: Global, tokens: &[Token]) -> Result<(Vec<Name>, &[Token]), ParseFailure>
+    ensures { HasGivenReading (λ x. (x.0.items, x.1.now)) result (names tokens.now) }
 {
-    begins_name(skip_class(tokens, WordClass::Article))
-}
-
-/// Whether a separator and then a name, with an article before it or not, follow.
-fn begins_more_items(tokens: &[Token]) -> bool
-    ensures { result ≡ begins_more begins_item tokens.now }
-{
-    (begins_symbol(tokens, Symbol::Comma) || begins_word(tokens, Word::And))
-        && begins_item(skip_separator(tokens))
+    listed(alloc, tokens, false)
 }
 
 /// Names with separators between, each with an article before it or not.
 pub fn items(alloc: Global, tokens: &[Token]) -> Result<(Vec<Name>, &[Token]), ParseFailure>
     ensures { HasGivenReading (λ x. (x.0.items, x.1.now)) result (items tokens.now) }
 {
-    let from = skip_class(tokens, WordClass::Article);
-    let first = name(from)?;
-    let mut all = alone(alloc, first)?;
-    let mut rest = after_first(from);
-    'more: while begins_more_items(rest) {
-        let from = skip_class(skip_separator(rest), WordClass::Article);
-        let next = name(from)?;
-        all.push(next)?;
-        rest = after_first(from);
-    }
-    Ok((all, rest))
+    listed(alloc, tokens, true)
 }

@@ -1,26 +1,20 @@
 -- Statements at each level of nesting: what is read is spelled, and what is spelled is read.
-use Rattle.std.proofs.Common.{◌≡◌, ℕ, zero, suc, ◌<◌, ◌≤◌, Bool, true, false, ◌||◌, List, length, refl, sym, ap, ◌∙◌, arith}
-use Rattle.ss_base.specs.declared.line.Line.{Line}
-use Rattle.ss_lex.specs.declared.word.Word.{Word}
+use Rattle.std.proofs.Common.{◌≡◌, ℕ, zero, suc, ◌<◌, ◌≤◌, Bool, true, false, ◌||◌, List, length, refl, ap, ◌∙◌, arith}
+use Rattle.ss_parse_statements.proofs.Common.{choose_reader, find_if_statement, find_statement, if_statement, Line, line_of_first_word, loop_statement, opening_word, opens, skip_comma, Statement_from, Statement_rest, StatementTree, Token, Word}
 use Rattle.ss_lex.specs.declared.word.Word.TheVariants as words
 use Rattle.ss_lex.specs.declared.token.TokenKind.TheVariants as kinds
-use Rattle.ss_lex.specs.declared.token.Token.{Token}
-use Rattle.ss_tree.specs.Tree.{StatementTree, if_statement, loop_statement, find_statement, find_if_statement}
-use Rattle.ss_parse_expressions.specs.Openers.{opens}
 use Rattle.ss_parse_expressions.specs.Shapes.{Shape, ◌▷◌, noise, each_in_turn, nested_shape}
-use Rattle.ss_parse_expressions.specs.Reading.{choose_reader, skip_comma}
 use Rattle.ss_parse_expressions.proofs.ReaderLaws.{Reads, Item, reshaped_reads, fewer_reads, noisy_item, too_deep_reads}
 use Rattle.ss_parse_expressions.proofs.Rows.{rows_reads, Loop, loop_of}
-use Rattle.ss_parse_statements.specs.SpelledStatements.{line_of_first_word, opening_word, Statement_rest, Statement_from}
 use Rattle.ss_parse_statements.specs.ReadSimple.{simple_at}
 use Rattle.ss_parse_statements.specs.ReadStatements.{by_word, begins_form, begins_statement, nested_word, nested_in, form_in, statement_in, statements_in}
 use Rattle.ss_parse_statements.proofs.FirstWords.{Form, plain_form, opening_form, by_word_reads, first_less}
-use Rattle.ss_parse_statements.proofs.SimpleLaws.{is_nested, nested_first, Form_is, simple_law}
+use Rattle.ss_parse_statements.proofs.SimpleLaws.{Form_is, simple_law}
 use Rattle.ss_parse_statements.proofs.Beginnings.{form_begins, form_no_comma, no_simple, continues_statement, statement_stops}
 use Rattle.ss_parse_statements.proofs.NestedStatements.{nested_law}
 
 -- where no level may be opened, no statement with others in it is spelled
-nested_never : (x : StatementTree) (ts rest : List Token) → is_nested x ≡ true → Statement_rest x 0 ts rest → ⊥
+nested_never : (x : StatementTree) (ts rest : List Token) → nested_word (opening_word x) ≡ true → Statement_rest x 0 ts rest → ⊥
 nested_never (if_statement line c t e) ts rest n s = s
 nested_never (loop_statement line head body) ts rest n s = s
 nested_never (find_statement line head) ts rest n s = s
@@ -55,7 +49,7 @@ module _ (n m : ℕ) (le : n ≤ m) (nested : (line : Line) (w : Word) → neste
 
 -- the law of a statement after its first word, given the law of the statements in it
 nested_from : (n m : ℕ) → n ≤ m → Reads n (statement_in n) (statement_in m) (In_statement n) continues_statement → ((ts : List Token) (x : StatementTree) (rest : List Token) → In_statement n x ts rest → length rest < length ts) → (line : Line) (w : Word) → nested_word w ≡ true → Reads n (nested_in n (statement_in n) line w) (nested_in m (statement_in m) line w) (Form_is n line w) continues_statement
-nested_from zero m le inner less line w e = reshaped_reads too_deep_reads (Form_is 0 line w) (λ x ts rest s. absurd s) (λ x ts rest s. nested_never x ts rest (sym (nested_first x) ∙ ap nested_word s.1 ∙ e) s.2)
+nested_from zero m le inner less line w e = reshaped_reads too_deep_reads (Form_is 0 line w) (λ x ts rest s. absurd s) (λ x ts rest s. nested_never x ts rest (ap nested_word s.1 ∙ e) s.2)
 nested_from (suc k) zero le inner less line w e = absurd (omega arith)
 nested_from (suc k) (suc j) le inner less line w e = nested_law k j (omega arith) inner less line w e
 

@@ -1,3 +1,4 @@
+mod Common
 pub mod Pictures
 pub mod FirstWords
 pub mod StatementParts

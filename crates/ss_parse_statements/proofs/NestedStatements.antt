@@ -1,16 +1,11 @@
 -- Statements with others in them: what is read is spelled, and what is spelled is read.
 use Rattle.std.proofs.Common.{◌≡◌, ℕ, suc, ◌<◌, ◌≤◌, Bool, true, false, ◌||◌, List, [], ◌∷◌, length, refl, sym, ap, subst, ◌∙◌, arith, inl, inr, ◌⊎◌}
-use Rattle.ss_base.specs.declared.line.Line.{Line}
-use Rattle.ss_lex.specs.declared.word.Word.{Word}
+use Rattle.ss_parse_statements.proofs.Common.{GuardKind, Line, mark_skips, openers, rows_reads, Span, Token, token, Word}
 use Rattle.ss_lex.specs.declared.word.Word.TheVariants as words
-use Rattle.ss_lex.specs.declared.token.Span.{Span}
 use Rattle.ss_lex.specs.declared.token.TokenKind.TheVariants as kinds
-use Rattle.ss_lex.specs.declared.token.Token.{Token}
-use Rattle.ss_base.specs.declared.words.GuardKind.{GuardKind}
 use Rattle.ss_base.specs.declared.words.GuardKind.TheVariants as guards
 use Rattle.ss_tree.specs.declared.statement.FindOutcome.{FindOutcome}
 use Rattle.ss_tree.specs.Tree.{ConditionTree, HeadTree, LoopHeadTree, for_head, guarded, StatementTree, if_statement, loop_statement, find_statement, find_if_statement, StatementRow, no_statement, and_statement, statement_row}
-use Rattle.ss_parse_expressions.specs.Openers.{openers}
 use Rattle.ss_parse_expressions.specs.Shapes.{Shape, ◌▷◌, nothing, either_shape, optional, provided, noise, Word_for, each_in_turn}
 use Rattle.ss_parse_expressions.specs.SpelledConditions.{guard_word, Head_rest}
 use Rattle.ss_parse_expressions.specs.WordTables.{guard_of, outcome_of}
@@ -18,18 +13,16 @@ use Rattle.ss_parse_expressions.specs.Reading.{word, kind_of_mark, is, is_some, 
 use Rattle.ss_parse_expressions.specs.ReadWords.{fail, begins_noisy, expect_noisy}
 use Rattle.ss_parse_expressions.specs.ReadHeads.{begins_guard, guard_tree}
 use Rattle.ss_parse_expressions.proofs.Tools.{chosen, or_false}
-use Rattle.ss_parse_expressions.proofs.Marks.{token, mark_skips}
 use Rattle.ss_parse_expressions.proofs.Depth.{upto_if, upto_same, bounded_if}
 use Rattle.ss_parse_expressions.proofs.ReaderLaws.{Reads, Item, continues_never, Made, item_of, seq_reads, following_reads, marked_reads, closed_reads, expect_reads, bind_reads, apply_reads, made_reads, reshaped_reads, fewer_reads, optional_reads, maybe_list_reads, noisy_item, done_reads, either_reads}
-use Rattle.ss_parse_expressions.proofs.Rows.{rows_reads}
 use Rattle.ss_parse_expressions.proofs.WordLaws.{word_in_reads, noisy_mark_reads, noisy_begins, noisy_less, noisy_stops}
 use Rattle.ss_parse_expressions.proofs.ConditionLaws.{In_condition, continues_condition, condition_in_reads}
-use Rattle.ss_parse_expressions.proofs.HeadLaws.{head_more, continues_head, continues_for, continues_guarded, for_reads, Guarded_parts, guarded_reads}
+use Rattle.ss_parse_expressions.proofs.HeadLaws.{continues_head, continues_for, continues_guarded, for_reads, Guarded_parts, guarded_reads}
 use Rattle.ss_parse_statements.specs.SpelledStatements.{noisy, Find_words, opening_word, May_be_governed, Statement_from, Statements_are, Else_part, Branches, Governed}
 use Rattle.ss_parse_statements.specs.ReadStatements.{form_word, begins_form, begins_statement, begins_find_if, statements_with, else_with, branches_with, do_with, governed_with, body_with, find_words, if_with, loop_with, find_if_with, found_with, find_with, for_with, guarded_with, nested_word, nested_at, statement_in}
 use Rattle.ss_parse_statements.proofs.StatementParts.{continues_simple}
 use Rattle.ss_parse_statements.proofs.SimpleLaws.{form_first, Form_is}
-use Rattle.ss_parse_statements.proofs.Beginnings.{both_false, word_no_other, form_begins, form_no_comma, false_at_statement, word_no_condition, continues_statement, head_no_if, statement_stops, head_guards, may_govern, governed_first, guard_same, no_phrase}
+use Rattle.ss_parse_statements.proofs.Beginnings.{both_false, word_no_other, form_begins, form_no_comma, false_past_comma, word_no_condition, continues_statement, head_no_if, statement_stops, head_guards, may_govern, governed_first, guard_same, no_phrase}
 
 -- ---- rows as lists
 
@@ -120,7 +113,7 @@ module _ (k j : ℕ) (le : k ≤ j) (inner : Reads (suc k) (statement_in (suc k)
 
   -- what is false of commas, words of statements, ELSE and ALWAYS is false of what follows a condition
   false_at_branches : (c : List Token → Bool) → ((span : Span) (line : Line) (ts : List Token) → c (token (kind_of_mark comma) span line ∷ ts) ≡ false) → ((w : Word) (span : Span) (line : Line) (ts : List Token) → form_word w ≡ true → c (token (kinds.Word w) span line ∷ ts) ≡ false) → ((span : Span) (line : Line) (ts : List Token) → c (token (kinds.Word words.Else) span line ∷ ts) ≡ false) → ((span : Span) (line : Line) (ts : List Token) → c (token (kinds.Word words.Always) span line ∷ ts) ≡ false) → (p : StatementRow × StatementRow) (ts rest : List Token) → Branches_are p ts rest → c ts ≡ false
-  false_at_branches c on_comma on_word on_else on_always (and_statement x row, e) ts rest (b, (a, (m, one, more), t), w) = false_at_statement c on_comma on_word k x ts m one
+  false_at_branches c on_comma on_word on_else on_always (and_statement x row, e) ts rest (b, (a, (m, one, more), t), w) = false_past_comma c (λ span span' line line' v r begins. on_comma span line _) on_word k x ts m one
   false_at_branches c on_comma on_word on_else on_always (no_statement, and_statement y row) ts rest (b, (a, e, (m, w, more)), v) = ap c e ∙ noisy_stops c (word words.Else) on_else (λ span span' line line' ts. on_comma span line _) a m w
   false_at_branches c on_comma on_word on_else on_always (no_statement, no_statement) ts rest (b, (a, e, inr w), v) = ap c e ∙ noisy_stops c (word words.Else) on_else (λ span span' line line' ts. on_comma span line _) a b w
   false_at_branches c on_comma on_word on_else on_always (no_statement, no_statement) ts rest (b, (a, e, inl f), v) = ap c (e ∙ f) ∙ noisy_stops c (word words.Always) on_always (λ span span' line line' ts. on_comma span line _) b rest v
@@ -133,17 +126,14 @@ module _ (k j : ℕ) (le : k ≤ j) (inner : Reads (suc k) (statement_in (suc k)
   abbrev If_parts : ConditionTree × (StatementRow × StatementRow) → Shape
   If_parts p = In_condition (suc k) p.0 ▷ Branches_are p.1
 
-  if_reads : (line : Line) → Reads (suc k) (if_with line (suc k) (statement_in (suc k))) (if_with line (suc j) (statement_in (suc j))) (Made (λ p. if_statement line p.0 p.1.0 p.1.1) If_parts) continues_never
-  unfolding if_with
-  if_reads line = made_reads (seq_reads (condition_in_reads (suc k) (suc j) (omega arith)) branches_reads (λ p ts rest s stop. branches_no_condition p ts rest s)) (λ p. if_statement line p.0 p.1.0 p.1.1)
-
-  if_to : (line : Line) (x : StatementTree) (ts rest : List Token) → Made (λ p. if_statement line p.0 p.1.0 p.1.1) If_parts x ts rest → Form_is (suc k) line words.If x ts rest
-  if_to line x ts rest (p, is, s) = subst (λ x. Form_is (suc k) line words.If x ts rest) is (refl, refl, s)
-
   if_from : (line : Line) (x : StatementTree) (ts rest : List Token) → Form_is (suc k) line words.If x ts rest → Made (λ p. if_statement line p.0 p.1.0 p.1.1) If_parts x ts rest
   if_from line (if_statement l c t e) ts rest (at, w, s) = ((c, (t, e)), ap (λ (l : Line). if_statement l c t e) (sym at), s)
   if_from line (loop_statement l head body) ts rest (at, w, s) = absurd (head_no_if head w)
   if_from line _ ts rest (at, w, s) = absurd cc
+
+  if_reads : (line : Line) → Reads (suc k) (if_with line (suc k) (statement_in (suc k))) (if_with line (suc j) (statement_in (suc j))) (Form_is (suc k) line words.If) continues_never
+  unfolding if_with
+  if_reads line = apply_reads (seq_reads (condition_in_reads (suc k) (suc j) (omega arith)) branches_reads (λ p ts rest s stop. branches_no_condition p ts rest s)) (λ p. if_statement line p.0 p.1.0 p.1.1) (Form_is (suc k) line words.If) (λ p ts rest s. (refl, refl, s)) (if_from line)
 
   -- ---- what a loop repeats
 
@@ -205,9 +195,8 @@ module _ (k j : ℕ) (le : k ≤ j) (inner : Reads (suc k) (statement_in (suc k)
   body_to xs ts rest (inr (x, is, (a, n, (may, s)))) = inr (subst (λ xs. Governed (statement_row xs) k ts rest) is (may, (a, n, s)))
 
   governed_from : (row : StatementRow) (ts rest : List Token) → Governed row k ts rest → (xs : List StatementTree) × (statement_row xs ≡ row) × Governed_list xs ts rest
-  governed_from no_statement ts rest s = absurd s
   governed_from (and_statement x no_statement) ts rest (may, (a, n, s)) = (x ∷ [], refl, (x, refl, (a, n, (may, s))))
-  governed_from (and_statement x (and_statement y row)) ts rest s = absurd s
+  governed_from _ ts rest s = absurd s
 
   body_from : (row : StatementRow) (ts rest : List Token) → Body_is row ts rest → (xs : List StatementTree) × (statement_row xs ≡ row) × Body_list xs ts rest
   body_from row ts rest (inl (a, w, (b, s, v))) = let found = statements_from k row a b s in (found.0, found.1, inl (a, w, (b, found.2, v)))
@@ -223,9 +212,8 @@ module _ (k j : ℕ) (le : k ≤ j) (inner : Reads (suc k) (statement_in (suc k)
   -- what is false of DO, commas and words of statements is false of what a loop repeats
   false_at_body : (c : List Token → Bool) → ((span : Span) (line : Line) (ts : List Token) → c (token (kinds.Word words.Do) span line ∷ ts) ≡ false) → ((span span' : Span) (line line' : Line) (ts : List Token) → c (token (kind_of_mark comma) span line ∷ token (kinds.Word words.Do) span' line' ∷ ts) ≡ false) → ((span span' : Span) (line line' : Line) (w : Word) (ts : List Token) → form_word w ≡ true → is_some (guard_of w) ≡ false → c (token (kind_of_mark comma) span line ∷ token (kinds.Word w) span' line' ∷ ts) ≡ false) → ((w : Word) (span : Span) (line : Line) (ts : List Token) → form_word w ≡ true → is_some (guard_of w) ≡ false → c (token (kinds.Word w) span line ∷ ts) ≡ false) → (row : StatementRow) (ts rest : List Token) → Body_is row ts rest → c ts ≡ false
   false_at_body c on_do on_comma_do on_comma on_word row ts rest (inl (a, w, s)) = noisy_stops c (word words.Do) on_do on_comma_do ts a w
-  false_at_body c on_do on_comma_do on_comma on_word no_statement ts rest (inr s) = absurd s
   false_at_body c on_do on_comma_do on_comma on_word (and_statement x no_statement) ts rest (inr (may, (a, n, s))) = false_at_governed c on_comma on_word x ts rest (a, n, (may, s))
-  false_at_body c on_do on_comma_do on_comma on_word (and_statement x (and_statement y row)) ts rest (inr s) = absurd s
+  false_at_body c on_do on_comma_do on_comma on_word _ ts rest (inr s) = absurd s
 
   -- ---- FIND
 
@@ -238,9 +226,8 @@ module _ (k j : ℕ) (le : k ≤ j) (inner : Reads (suc k) (statement_in (suc k)
 
   find_if_starts : (ts a : List Token) (outcome : FindOutcome) (m : List Token) → noisy words.If ts a → Word_for outcome_of outcome a m → begins_find_if ts ≡ true
   find_if_starts ts a outcome m (b, c, (span, line, e)) (w, means, (span', line', f)) =
-      let same : skip_comma ts ≡ b = skipped c in
       let some : is_some (outcome_of w) ≡ true = rw means refl in
-      rw (same, e, f) some
+      rw (skipped c, e, f) some
     where
       skipped : noise ts b → skip_comma ts ≡ b
       skipped (inl g) = ap skip_comma (g ∙ e) ∙ sym e
@@ -282,12 +269,7 @@ module _ (k j : ℕ) (le : k ≤ j) (inner : Reads (suc k) (statement_in (suc k)
   tail_reads line h = either_reads (find_item line h) (loop_reads line (for_head h)) continues_statement (λ ts stop. (stop, stop)) (λ x ts rest s stop. loop_no_find line (for_head h) x ts rest s)
 
   word_no_head : (w : Word) (span : Span) (line : Line) (ts : List Token) → form_word w ≡ true → continues_head (token (kinds.Word w) span line ∷ ts) ≡ false
-  word_no_head w span line ts e =
-      let no = word_no_other w e in
-      let a : is (word words.And) (kinds.Word w) ≡ false = no.1 in
-      let b : is (word words.Or) (kinds.Word w) ≡ false = no.2 in
-      let c : head_more w ≡ false = no.4 in
-      rw (a, b, c) refl
+  word_no_head w span line ts e = both_false _ _ (word_no_other w e).4 (word_no_condition w span line ts e)
 
   tail_no_for : (line : Line) (h : HeadTree) (x : StatementTree) (ts rest : List Token) → For_tail line h x ts rest → continues_statement rest ≡ false → continues_for ts ≡ false
   tail_no_for line h x ts rest (inl (a, (b, w, s), t)) stop = noisy_stops continues_for (word words.Find) (λ span line ts. refl) (λ span span' line line' ts. refl) ts b w
@@ -345,7 +327,7 @@ module _ (k j : ℕ) (le : k ≤ j) (inner : Reads (suc k) (statement_in (suc k)
   -- ---- by the first word
 
   pub nested_law : (line : Line) (w : Word) → nested_word w ≡ true → Reads (suc k) (nested_at line (suc k) (statement_in (suc k)) w) (nested_at line (suc j) (statement_in (suc j)) w) (Form_is (suc k) line w) continues_statement
-  nested_law line words.If e = fewer_reads (reshaped_reads (if_reads line) (Form_is (suc k) line words.If) (if_to line) (if_from line)) continues_statement (λ ts stop. refl)
+  nested_law line words.If e = fewer_reads (if_reads line) continues_statement (λ ts stop. refl)
   nested_law line words.For e = reshaped_reads (for_law line) (Form_is (suc k) line words.For) (for_to line) (for_from line)
   nested_law line words.While e = guarded_law guards.While line
   nested_law line words.Until e = guarded_law guards.Until line

@@ -1,11 +1,10 @@
 -- The loop over the pictures.
 use Rattle.std.proofs.Common.{◌≡◌, ℕ, suc, ◌+◌, ◌-◌, ◌<◌, ◌≤◌, List, [], ◌∷◌, ◌++◌, Result, Ok, Err, refl, sym, ap, ◌∙◌, arith}
+use Rattle.ss_parse_statements.proofs.Common.{HasFailedReading, taken, Token}
 use Rattle.std.proofs.lemmas.List.{append-nil}
-use Rattle.ss_lex.specs.declared.token.Token.{Token}
 use Rattle.ss_parse_expressions.specs.declared.failure.ParseFault.{ParseFault}
 use Rattle.ss_parse_expressions.specs.declared.failure.ParseFailure.{ParseFailure}
 use Rattle.ss_parse_expressions.specs.declared.failure.ParseFailure.TheVariants as failures
-use Rattle.ss_parse_expressions.specs.Reading.{HasFailedReading, taken}
 use Rattle.ss_parse_expressions.proofs.Rows.{with_front, with_front_more}
 use Rattle.ss_parse_statements.specs.ReadSimple.{picture_token, pictures_at}
 

@@ -1,46 +1,30 @@
 -- Simple statements: what is read is spelled, and what is spelled is read.
-use Rattle.std.proofs.Common.{◌≡◌, ℕ, suc, ◌<◌, ◌≤◌, pos, Bool, true, false, ◌||◌, List, [], ◌∷◌, length, Option, Some, refl, sym, ap, subst, ◌∙◌, arith, inl, inr}
-use Rattle.ss_base.specs.declared.line.Line.{Line}
-use Rattle.ss_lex.specs.declared.word.Word.{Word}
+use Rattle.std.proofs.Common.{◌≡◌, ℕ, suc, ◌<◌, ◌≤◌, pos, true, false, ◌||◌, List, [], ◌∷◌, length, Option, Some, refl, sym, ap, subst, ◌∙◌, arith, inl, inr}
+use Rattle.ss_parse_statements.proofs.Common.{bind_reads, closed_reads, continues_never, done_reads, either_reads, expect_reads, fewer_reads, following_reads, GuardKind, has_word, Item, item_of, Line, line_of_first_word, Made, made_reads, marked_reads, One_of, opening_word, optional_reads, or_false, perhaps_listed, Reads, Reference_is, reshaped_reads, seq_reads, Statement_rest, Sum_is, Target_is, the, Token, TokenKind, Word}
 use Rattle.ss_lex.specs.declared.word.Word.TheVariants as words
 use Rattle.ss_lex.specs.declared.token.Symbol.TheVariants.{Equals}
-use Rattle.ss_lex.specs.declared.token.TokenKind.{TokenKind}
 use Rattle.ss_lex.specs.declared.token.TokenKind.TheVariants as kinds
-use Rattle.ss_lex.specs.declared.token.Token.{Token}
-use Rattle.ss_base.specs.declared.words.GuardKind.{GuardKind}
 use Rattle.ss_base.specs.declared.words.GuardKind.TheVariants as guards
 use Rattle.ss_base.specs.declared.words.End.{End}
-use Rattle.ss_tree.specs.Tree.{ExpressionTree, NamedTree, PositionTree, WhenTree, LoopHeadTree, for_head, guarded, StatementTree, let_statement, add_statement, subtract_statement, call_statement, return_statement, stop_statement, read_statement, start_simulation, if_statement, loop_statement, find_statement, find_if_statement, create_statement, create_every, destroy_statement, file_statement, remove_end, remove_statement, schedule_new, schedule_statement, cancel_statement, reset_statement, print_statement, skip_statement}
+use Rattle.ss_tree.specs.Tree.{ExpressionTree, NamedTree, PositionTree, WhenTree, LoopHeadTree, for_head, guarded, StatementTree, let_statement, add_statement, subtract_statement, call_statement, return_statement, stop_statement, read_statement, start_simulation, loop_statement, create_statement, create_every, destroy_statement, file_statement, remove_end, remove_statement, schedule_new, schedule_statement, cancel_statement, reset_statement, print_statement, skip_statement}
 use Rattle.ss_parse_expressions.specs.declared.classes.WordClass.TheVariants as classes
 use Rattle.ss_parse_expressions.specs.Shapes.{Shape, ◌▷◌, nothing, never, either_shape, optional, provided, Token_is, Word_is, Symbol_is, Name_is, Word_for, separated_list}
-use Rattle.ss_parse_expressions.specs.Words.{has_word, One_of, the, perhaps_listed}
-use Rattle.ss_parse_expressions.specs.SpelledExpressions.{Sum_is, Target_is, Reference_is}
 use Rattle.ss_parse_expressions.specs.SpelledConditions.{guard_word, loop_head_word}
-use Rattle.ss_parse_expressions.specs.Reading.{word, is, is_some, begins, begins_by, expect, in_table, taken, name_in_token, seq, after_dropped}
+use Rattle.ss_parse_expressions.specs.Reading.{word, is, is_some, begins, begins_by, expect, in_table, taken, name_in_token, seq, after_dropped, apply}
 use Rattle.ss_parse_expressions.specs.ReadWords.{fail, begins_class}
 use Rattle.ss_parse_expressions.specs.ReadExpressions.{begins_value, begins_sum, sum_in}
 use Rattle.ss_parse_expressions.specs.ReadPlaces.{target_in}
-use Rattle.ss_parse_expressions.proofs.Tools.{or_false}
 use Rattle.ss_parse_expressions.proofs.Marks.{token_less, starts_otherwise, begins_table}
-use Rattle.ss_parse_expressions.proofs.ReaderLaws.{Reads, Item, continues_never, Made, item_of, expect_reads, seq_reads, marked_reads, closed_reads, bind_reads, made_reads, following_reads, reshaped_reads, fewer_reads, optional_reads, done_reads, either_reads}
 use Rattle.ss_parse_expressions.proofs.WordLaws.{word_in_reads, expect_class_reads, optional_class_reads, fail_reads, name_reads, names_reads, item_made}
 use Rattle.ss_parse_expressions.proofs.Beginnings.{in_begins, continues_sum}
 use Rattle.ss_parse_expressions.proofs.PlaceLaws.{targets_in_reads, continues_place, continues_sums}
 use Rattle.ss_parse_expressions.proofs.ConditionLaws.{stops_place}
 use Rattle.ss_parse_statements.specs.SpelledParts.{CalledName, end_of, Position_is}
-use Rattle.ss_parse_statements.specs.SpelledStatements.{line_of_first_word, opening_word, Statement_rest}
 use Rattle.ss_parse_statements.specs.ReadSimple.{equals, after_the, set_reader, called, let_at, add_at, subtract_at, call_at, read_at, start_at, new_at, create_at, destroy_at, cancel_at, file_at, remove_end_at, remove_this_at, remove_at, schedule_the_at, schedule_a_at, schedule_at, reset_at, print_at, skip_at, simple_at}
 use Rattle.ss_parse_statements.specs.ReadStatements.{form_word, nested_word}
 use Rattle.ss_parse_statements.proofs.StatementParts.{continues_simple, ended, over_place, over_targets, over_given, over_yielding, over_called, over_called_place, sum_reads, target_reads, set_reads, given_reads, yielding_reads, called_sum_reads, called_target_reads, continues_position, position_reads, position_stops, Due_is, due_reads, due_stops, Print_head_is, print_head_reads, Pictures_are, pictures_reads}
 
--- ---- which statements have others in them
-
-abbrev pub is_nested : StatementTree → Bool
-is_nested (if_statement line condition then otherwise) = true
-is_nested (loop_statement line head body) = true
-is_nested (find_statement line head) = true
-is_nested (find_if_statement line head outcome then otherwise) = true
-is_nested _ = false
+-- ---- the first words of statements
 
 guard_nested : (k : GuardKind) → (nested_word (guard_word k) ≡ true) × (form_word (guard_word k) ≡ true)
 guard_nested guards.While = (refl, refl)
@@ -50,11 +34,6 @@ pub head_nested : (h : LoopHeadTree) → (nested_word (loop_head_word h) ≡ tru
 head_nested (for_head head) = (refl, refl)
 head_nested (guarded []) = (refl, refl)
 head_nested (guarded (g ∷ gs)) = guard_nested g.kind
-
-pub nested_first : (x : StatementTree) → nested_word (opening_word x) ≡ is_nested x
-nested_first (if_statement line condition then otherwise) = refl
-nested_first (loop_statement line head body) = (head_nested head).0
-nested_first _ = refl
 
 pub form_first : (x : StatementTree) → form_word (opening_word x) ≡ true
 form_first (loop_statement line head body) = (head_nested head).1
@@ -67,13 +46,9 @@ Form_is n line w x ts rest = (line_of_first_word x ≡ line) × (opening_word x 
 
 -- ---- what words no expression begins with
 
-word_no_end : (w : Word) → begins_value (kinds.Word w) ≡ true → is_some (end_of w) ≡ false
-word_no_end words.First e = absurd cc
-word_no_end words.Last e = absurd cc
-word_no_end _ e = refl
-
 value_no_end : (k : TokenKind) → begins_value k ≡ true → is_some (in_table end_of k) ≡ false
-value_no_end (kinds.Word w) e = word_no_end w e
+value_no_end (kinds.Word words.First) e = absurd cc
+value_no_end (kinds.Word words.Last) e = absurd cc
 value_no_end _ e = refl
 
 sum_no_end : (ts : List Token) → begins_sum ts ≡ true → begins_by (in_table end_of) ts ≡ false
@@ -81,9 +56,8 @@ sum_no_end [] e = refl
 sum_no_end (t ∷ ts) e = value_no_end t.kind e
 
 end_no_the : (w : Word) (end : End) → end_of w ≡ Some end → is (word words.The) (kinds.Word w) ≡ false
-end_no_the words.First end e = refl
-end_no_the words.Last end e = refl
-end_no_the _ end e = absurd cc
+end_no_the words.The end e = absurd cc
+end_no_the _ end e = refl
 
 a_no_other : (w : Word) → has_word classes.Indefinite w ≡ true → (is (word words.The) (kinds.Word w) ≡ false) × (is (word words.Every) (kinds.Word w) ≡ false)
 a_no_other words.A e = (refl, refl)
@@ -110,9 +84,6 @@ module _ (n m : ℕ) (le : n ≤ m) where
   unfolding new_at
   new_reads line = made_reads (optional_class_reads (seq_reads (name_reads (suc n)) (called_target_reads n m le) (λ x ts rest s stop. refl)) classes.Indefinite (λ x ts rest s. ap (begins_class classes.Indefinite) s.1.2)) (λ p. create_statement line p.0 p.1)
 
-  abbrev Every_parts : List (List ℕ) → Shape
-  Every_parts xs = Word_is words.Every ▷ separated_list Name_is xs
-
   new_late : (line : Line) (x : StatementTree) (ts rest : List Token) → Made (λ p. create_statement line p.0 p.1) New_parts x ts rest → continues_simple rest ≡ false → begins (word words.Every) ts ≡ false
   new_late line x ts rest (p, is, (a, inl e, (b, (span, l, f), s))) stop = ap (begins (word words.Every)) (e ∙ f)
   new_late line x ts rest (p, is, (a, inr (w, held, (span, l, f)), s)) stop = ap (begins (word words.Every)) f ∙ (a_no_other w held).1
@@ -126,11 +97,8 @@ module _ (n m : ℕ) (le : n ≤ m) where
   abbrev File_parts : ExpressionTree × (PositionTree × NamedTree) → Shape
   File_parts p = the ▷ Sum_is n p.0 ▷ Position_is n p.1.0 ▷ Word_is words.In ▷ the ▷ Reference_is n p.1.1
 
-  in_set_reads : Reads (suc n) (after_dropped (expect (word words.In)) (set_reader (suc n))) (after_dropped (expect (word words.In)) (set_reader (suc m))) (λ set. Word_is words.In ▷ the ▷ Reference_is n set) continues_place
-  in_set_reads = marked_reads (word words.In) (set_reads n m le)
-
-  from_set_reads : Reads (suc n) (after_dropped (expect (word words.From)) (set_reader (suc n))) (after_dropped (expect (word words.From)) (set_reader (suc m))) (λ set. Word_is words.From ▷ the ▷ Reference_is n set) continues_place
-  from_set_reads = marked_reads (word words.From) (set_reads n m le)
+  set_after : (w : Word) → Reads (suc n) (after_dropped (expect (word w)) (set_reader (suc n))) (after_dropped (expect (word w)) (set_reader (suc m))) (λ set. Word_is w ▷ the ▷ Reference_is n set) continues_place
+  set_after w = marked_reads (word w) (set_reads n m le)
 
   abbrev End_parts : End × (NamedTree × NamedTree) → Shape
   End_parts p = Word_for end_of p.0 ▷ Target_is n p.1.0 ▷ Word_is words.From ▷ the ▷ Reference_is n p.1.1
@@ -142,14 +110,14 @@ module _ (n m : ℕ) (le : n ≤ m) where
       (λ ts x rest s. omega (arith, token_less (kinds.Word s.2.1.0) ts s.2.0 s.2.1.2, law.shorter s.2.0 s.0.1 rest s.2.2))
     where
       law : Reads (suc n) (seq (target_in (suc n)) (after_dropped (expect (word words.From)) (set_reader (suc n)))) (seq (target_in (suc m)) (after_dropped (expect (word words.From)) (set_reader (suc m)))) (λ (p : NamedTree × NamedTree). Target_is n p.0 ▷ Word_is words.From ▷ the ▷ Reference_is n p.1) continues_place
-      law = seq_reads (target_reads n m le) from_set_reads (λ p ts rest s stop. ap continues_place s.1.2)
+      law = seq_reads (target_reads n m le) (set_after words.From) (λ p ts rest s stop. ap continues_place s.1.2)
 
   abbrev This_parts : ExpressionTree × NamedTree → Shape
   This_parts p = Sum_is n p.0 ▷ Word_is words.From ▷ the ▷ Reference_is n p.1
 
   this_reads : (line : Line) → Reads (suc n) (remove_this_at line (suc n)) (remove_this_at line (suc m)) (Made (λ p. remove_statement line p.0 p.1) This_parts) continues_place
   unfolding remove_this_at
-  this_reads line = made_reads {S = This_parts} (seq_reads (sum_reads n m le) from_set_reads (λ p ts rest s stop. ap continues_sum s.1.2)) (λ p. remove_statement line p.0 p.1)
+  this_reads line = made_reads {S = This_parts} (seq_reads (sum_reads n m le) (set_after words.From) (λ p ts rest s stop. ap continues_sum s.1.2)) (λ p. remove_statement line p.0 p.1)
 
   abbrev Removed : Line → StatementTree → Shape
   Removed line x = either_shape (Made (λ p. remove_end line p.0 p.1.0 p.1.1) End_parts x) (Made (λ p. remove_statement line p.0 p.1) This_parts x)
@@ -171,9 +139,7 @@ module _ (n m : ℕ) (le : n ≤ m) where
   place_stops : (p : List ExpressionTree × WhenTree) (ts rest : List Token) → Due_is n m le p ts rest → continues_sum rest ≡ false → (begins (word words.Called) ts || continues_place ts) ≡ false
   place_stops p ts rest s stop =
       let both = or_false (begins (word words.Called) ts) (continues_sum ts) (due_stops n m le p ts rest s) in
-      let a : begins (word words.Called) ts ≡ false = both.0 in
-      let b : continues_place ts ≡ false = stops_place ts both.1 in
-      rw (a, b) refl
+      rw (both.0, stops_place ts both.1) refl
 
   a_reads : (line : Line) → Reads (suc n) (schedule_a_at line (suc n)) (schedule_a_at line (suc m)) (Made (λ p. schedule_new line p.0 p.1.0 p.1.1.0 p.1.1.1) A_parts) continues_sum
   unfolding schedule_a_at
@@ -207,7 +173,7 @@ module _ (n m : ℕ) (le : n ≤ m) where
   Parts line words.Stop x = provided (stop_statement line ≡ x) nothing
   Parts line words.Read x = Made (read_statement line) (separated_list (Target_is n)) x
   Parts line words.Start x = Made (λ (u : Unit {0}). start_simulation line) (λ u. Word_is words.Simulation) x
-  Parts line words.Create x = either_shape (Made (create_every line) Every_parts x) (Made (λ p. create_statement line p.0 p.1) New_parts x)
+  Parts line words.Create x = either_shape (Made (create_every line) (λ xs. Word_is words.Every ▷ separated_list Name_is xs) x) (Made (λ p. create_statement line p.0 p.1) New_parts x)
   Parts line words.Destroy x = Made (λ p. destroy_statement line p.0 p.1) Taken_parts x
   Parts line words.Cancel x = Made (λ p. cancel_statement line p.0 p.1) Taken_parts x
   Parts line words.File x = Made (λ p. file_statement line p.0 p.1.0 p.1.1) File_parts x
@@ -242,7 +208,7 @@ module _ (n m : ℕ) (le : n ≤ m) where
   parts_to line words.Skip x ts rest (p, is, s) = subst (λ x. Form_is n line words.Skip x ts rest) is (refl, refl, s)
   parts_to line _ x ts rest s = absurd s
 
-  parts_of : (x : StatementTree) → is_nested x ≡ false → (ts rest : List Token) → Statement_rest x n ts rest → Parts (line_of_first_word x) (opening_word x) x ts rest
+  parts_of : (x : StatementTree) → nested_word (opening_word x) ≡ false → (ts rest : List Token) → Statement_rest x n ts rest → Parts (line_of_first_word x) (opening_word x) x ts rest
   parts_of (let_statement l target value) u ts rest s = ((target, value), refl, s)
   parts_of (add_statement l amount target) u ts rest s = ((amount, target), refl, s)
   parts_of (subtract_statement l amount target) u ts rest s = ((amount, target), refl, s)
@@ -263,62 +229,31 @@ module _ (n m : ℕ) (le : n ≤ m) where
   parts_of (reset_statement l targets) u ts rest s = (targets, refl, s)
   parts_of (print_statement l items ps) u ts rest (some, (b, number, (c, lines, (d, with, (a, thus, pictures))))) = ((length ps, items), (a, (b, (some, number), (c, lines, (d, with, thus))), (ps, refl, (refl, pictures))))
   parts_of (skip_statement l count) u ts rest s = (count, refl, s)
+  parts_of (loop_statement l head body) u ts rest s = absurd (let nested = (head_nested head).0 in cc)
   parts_of _ u ts rest s = absurd cc
 
   parts_from : (line : Line) (w : Word) → nested_word w ≡ false → (x : StatementTree) (ts rest : List Token) → Form_is n line w x ts rest → Parts line w x ts rest
   parts_from line w simple x ts rest s =
-      let parts : Parts (line_of_first_word x) (opening_word x) x ts rest = parts_of x (sym (nested_first x) ∙ ap nested_word s.1 ∙ simple) ts rest s.2 in
+      let parts : Parts (line_of_first_word x) (opening_word x) x ts rest = parts_of x (ap nested_word s.1 ∙ simple) ts rest s.2 in
       subst (λ (l : Line). Parts l w x ts rest) s.0 (subst (λ (v : Word). Parts (line_of_first_word x) v x ts rest) s.1 parts)
 
-  let_reads : (line : Line) → Reads (suc n) (let_at line (suc n)) (let_at line (suc m)) (Parts line words.Let) continues_simple
-  unfolding let_at
-  let_reads line =
-      fewer_reads (made_reads (seq_reads (target_reads n m le) (marked_reads equals (sum_reads n m le)) (λ e ts rest s stop. ap continues_place s.1.2)) (λ p. let_statement line p.0 p.1))
-      continues_simple (λ ts stop. (ended ts stop).no_sum)
-
-  add_reads : (line : Line) → Reads (suc n) (add_at line (suc n)) (add_at line (suc m)) (Parts line words.Add) continues_simple
-  unfolding add_at
-  add_reads line =
-      fewer_reads (made_reads (seq_reads (sum_reads n m le) (marked_reads (word words.To) (target_reads n m le)) (λ e ts rest s stop. ap continues_sum s.1.2)) (λ p. add_statement line p.0 p.1))
+  -- an amount, this word and a target
+  amount_reads : (w : Word) (make : ExpressionTree → NamedTree → StatementTree) → Reads (suc n) (apply (λ p. make p.0 p.1) (seq (sum_in (suc n)) (after_dropped (expect (word w)) (target_in (suc n))))) (apply (λ p. make p.0 p.1) (seq (sum_in (suc m)) (after_dropped (expect (word w)) (target_in (suc m))))) (Made (λ (p : ExpressionTree × NamedTree). make p.0 p.1) (λ p. Sum_is n p.0 ▷ Word_is w ▷ Target_is n p.1)) continues_simple
+  amount_reads w make =
+      fewer_reads (made_reads (seq_reads (sum_reads n m le) (marked_reads (word w) (target_reads n m le)) (λ e ts rest s stop. ap continues_sum s.1.2)) (λ p. make p.0 p.1))
       continues_simple (λ ts stop. over_place ts (ended ts stop))
-
-  subtract_reads : (line : Line) → Reads (suc n) (subtract_at line (suc n)) (subtract_at line (suc m)) (Parts line words.Subtract) continues_simple
-  unfolding subtract_at
-  subtract_reads line =
-      fewer_reads (made_reads (seq_reads (sum_reads n m le) (marked_reads (word words.From) (target_reads n m le)) (λ e ts rest s stop. ap continues_sum s.1.2)) (λ p. subtract_statement line p.0 p.1))
-      continues_simple (λ ts stop. over_place ts (ended ts stop))
-
-  call_reads : (line : Line) → Reads (suc n) (call_at line (suc n)) (call_at line (suc m)) (Parts line words.Call) continues_simple
-  unfolding call_at
-  call_reads line = made_reads (seq_reads (name_reads (suc n)) (seq_reads (given_reads n m le) (fewer_reads (yielding_reads n m le) continues_simple (λ ts stop. over_yielding ts (ended ts stop))) given_stops) (λ p ts rest s stop. refl)) (λ p. call_statement line p.0 p.1.0 p.1.1)
-
-  file_reads : (line : Line) → Reads (suc n) (file_at line (suc n)) (file_at line (suc m)) (Parts line words.File) continues_simple
-  unfolding file_at
-  file_reads line =
-      fewer_reads (made_reads {S = File_parts} (optional_reads (seq_reads (sum_reads n m le) (seq_reads (position_reads n m le) in_set_reads (λ set ts rest s stop. ap (continues_position n m le) s.1.2)) (λ p ts rest s stop. position_stops n m le p.0 ts s.0 s.1 (ap continues_sum s.2.1.2))) (word words.The) (λ x ts rest s. no_the_sum ts x.0 s.0 s.1)) (λ p. file_statement line p.0 p.1.0 p.1.1))
-      continues_simple (λ ts stop. over_place ts (ended ts stop))
-
-  reset_reads : (line : Line) → Reads (suc n) (reset_at line (suc n)) (reset_at line (suc m)) (Parts line words.Reset) continues_simple
-  unfolding reset_at
-  reset_reads line =
-      fewer_reads (made_reads {S = Reset_parts} (optional_reads (marked_reads (word words.Totals) (marked_reads (word words.Of) (targets_in_reads (suc n) (suc m) (omega arith)))) (word words.The) (λ x ts rest s. ap (begins (word words.The)) s.1.2)) (reset_statement line))
-      continues_simple (λ ts stop. over_targets ts (ended ts stop))
-
-  skip_reads : (line : Line) → Reads (suc n) (skip_at line (suc n)) (skip_at line (suc m)) (Parts line words.Skip) continues_simple
-  unfolding skip_at
-  skip_reads line =
-      fewer_reads (made_reads {S = Skip_parts} (closed_reads (sum_reads n m le) (optional_reads (expect_reads (suc n) (word words.Line)) (word words.Output) (λ u ts rest s. ap (begins (word words.Output)) s.2)) line_stops) (skip_statement line))
-      continues_simple (λ ts stop. refl)
 
   none_reads : Reads (suc n) fail fail (λ (x : StatementTree). never) continues_simple
   none_reads = fewer_reads (fail_reads (suc n)) continues_simple (λ ts stop. refl)
 
   simple_reads : (line : Line) (w : Word) → Reads (suc n) (simple_at line (suc n) w) (simple_at line (suc m) w) (Parts line w) continues_simple
-  unfolding simple_at read_at start_at create_at destroy_at cancel_at remove_at schedule_at print_at
-  simple_reads line words.Let = let_reads line
-  simple_reads line words.Add = add_reads line
-  simple_reads line words.Subtract = subtract_reads line
-  simple_reads line words.Call = call_reads line
+  unfolding simple_at add_at subtract_at read_at start_at create_at destroy_at cancel_at remove_at schedule_at print_at let_at call_at file_at reset_at skip_at
+  simple_reads line words.Let =
+      fewer_reads (made_reads (seq_reads (target_reads n m le) (marked_reads equals (sum_reads n m le)) (λ e ts rest s stop. ap continues_place s.1.2)) (λ p. let_statement line p.0 p.1))
+      continues_simple (λ ts stop. (ended ts stop).no_sum)
+  simple_reads line words.Add = amount_reads words.To (add_statement line)
+  simple_reads line words.Subtract = amount_reads words.From (subtract_statement line)
+  simple_reads line words.Call = made_reads (seq_reads (name_reads (suc n)) (seq_reads (given_reads n m le) (fewer_reads (yielding_reads n m le) continues_simple (λ ts stop. over_yielding ts (ended ts stop))) given_stops) (λ p ts rest s stop. refl)) (λ p. call_statement line p.0 p.1.0 p.1.1)
   simple_reads line words.Return = fewer_reads (done_reads (suc n) (return_statement line)) continues_simple (λ ts stop. refl)
   simple_reads line words.Stop = fewer_reads (done_reads (suc n) (stop_statement line)) continues_simple (λ ts stop. refl)
   simple_reads line words.Read = fewer_reads (made_reads (targets_in_reads (suc n) (suc m) (omega arith)) (read_statement line)) continues_simple (λ ts stop. over_targets ts (ended ts stop))
@@ -328,14 +263,20 @@ module _ (n m : ℕ) (le : n ≤ m) where
       (λ ts stop. let a = (ended ts stop).no_names in (rw a refl, over_called_place ts (ended ts stop))) (new_late line)
   simple_reads line words.Destroy = fewer_reads (made_reads taken_reads' (λ p. destroy_statement line p.0 p.1)) continues_simple (λ ts stop. over_called ts (ended ts stop))
   simple_reads line words.Cancel = fewer_reads (made_reads taken_reads' (λ p. cancel_statement line p.0 p.1)) continues_simple (λ ts stop. over_called ts (ended ts stop))
-  simple_reads line words.File = file_reads line
+  simple_reads line words.File =
+      fewer_reads (made_reads {S = File_parts} (optional_reads (seq_reads (sum_reads n m le) (seq_reads (position_reads n m le) (set_after words.In) (λ set ts rest s stop. ap (continues_position n m le) s.1.2)) (λ p ts rest s stop. position_stops n m le p.0 ts s.0 s.1 (ap continues_sum s.2.1.2))) (word words.The) (λ x ts rest s. no_the_sum ts x.0 s.0 s.1)) (λ p. file_statement line p.0 p.1.0 p.1.1))
+      continues_simple (λ ts stop. over_place ts (ended ts stop))
   simple_reads line words.Remove =
       fewer_reads (optional_reads (either_reads (end_item line) (this_reads line) continues_place (λ ts stop. (stop, stop)) (λ x ts rest s stop. sum_no_end ts (sum_begins_in ts s.0.0 s.2.0 s.2.1))) (word words.The) (removed_no_the line))
       continues_simple (λ ts stop. over_place ts (ended ts stop))
   simple_reads line words.Schedule = fewer_reads (either_reads (the_item line) (a_reads line) continues_sum (λ ts stop. (stop, stop)) (a_late line)) continues_simple (λ ts stop. (ended ts stop).no_sum)
-  simple_reads line words.Reset = reset_reads line
+  simple_reads line words.Reset =
+      fewer_reads (made_reads {S = Reset_parts} (optional_reads (marked_reads (word words.Totals) (marked_reads (word words.Of) (targets_in_reads (suc n) (suc m) (omega arith)))) (word words.The) (λ x ts rest s. ap (begins (word words.The)) s.1.2)) (reset_statement line))
+      continues_simple (λ ts stop. over_targets ts (ended ts stop))
   simple_reads line words.Print = fewer_reads (bind_reads (print_head_reads (suc n) (suc m) (omega arith)) (λ h. made_reads (pictures_reads (suc n) h.0) (λ ps. print_statement line h.1 ps)) (λ h x ts rest s stop. refl)) continues_simple (λ ts stop. refl)
-  simple_reads line words.Skip = skip_reads line
+  simple_reads line words.Skip =
+      fewer_reads (made_reads {S = Skip_parts} (closed_reads (sum_reads n m le) (optional_reads (expect_reads (suc n) (word words.Line)) (word words.Output) (λ u ts rest s. ap (begins (word words.Output)) s.2)) line_stops) (skip_statement line))
+      continues_simple (λ ts stop. refl)
   simple_reads line _ = none_reads
 
   pub simple_law : (line : Line) (w : Word) → nested_word w ≡ false → Reads (suc n) (simple_at line (suc n) w) (simple_at line (suc m) w) (Form_is n line w) continues_simple

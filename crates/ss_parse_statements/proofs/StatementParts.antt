@@ -1,38 +1,26 @@
 -- Parts of statements: what is read is spelled, and what is spelled is read.
-use Rattle.std.proofs.Common.{◌≡◌, ℕ, zero, suc, ◌<◌, ◌≤◌, ℤ, pos, negsuc, Bool, true, false, ◌||◌, List, [], ◌∷◌, length, Some, Ok, refl, ap, subst, ◌∙◌, arith, inl, inr}
-use Rattle.ss_base.specs.declared.line.Line.{Line}
-use Rattle.ss_lex.specs.declared.word.Word.{Word}
+use Rattle.std.proofs.Common.{◌≡◌, ℕ, zero, suc, ◌<◌, ◌≤◌, pos, Bool, true, false, ◌||◌, List, [], ◌∷◌, length, Some, refl, ap, subst, ◌∙◌, arith, inl, inr}
+use Rattle.ss_parse_statements.proofs.Common.{has_word, One_of, or_false, perhaps_listed, Reference_is, Sum_is, Target_is, the, Token, TokenKind, Word}
 use Rattle.ss_lex.specs.declared.word.Word.TheVariants as words
-use Rattle.ss_lex.specs.declared.token.Span.{Span}
-use Rattle.ss_lex.specs.declared.token.TokenKind.{TokenKind}
 use Rattle.ss_lex.specs.declared.token.TokenKind.TheVariants as kinds
-use Rattle.ss_lex.specs.declared.token.Token.{Token}
-use Rattle.ss_tree.specs.Tree.{ExpressionTree, NamedTree, PositionTree, by_discipline, at_first, at_last, before, after, WhenTree, at_time, in_units, now}
+use Rattle.ss_tree.specs.Tree.{ExpressionTree, PositionTree, by_discipline, at_first, at_last, before, after, WhenTree, at_time, in_units, now}
 use Rattle.ss_parse_expressions.specs.declared.classes.WordClass.TheVariants as classes
 use Rattle.ss_parse_expressions.specs.Shapes.{Shape, ◌▷◌, nothing, either_shape, provided, Token_is, Word_is, each_in_turn}
-use Rattle.ss_parse_expressions.specs.Words.{has_word, One_of, the, perhaps_listed}
-use Rattle.ss_parse_expressions.specs.SpelledExpressions.{Sum_is, Target_is, Reference_is}
-use Rattle.ss_parse_expressions.specs.Openers.{openers}
 use Rattle.ss_parse_expressions.specs.Reading.{word, is, begins, expect, taken, apply, begins_more}
 use Rattle.ss_parse_expressions.specs.ReadWords.{begins_class, begins_among, begins_name}
 use Rattle.ss_parse_expressions.specs.ReadExpressions.{begins_sum, sum_in}
 use Rattle.ss_parse_expressions.specs.ReadPlaces.{target_in, begins_target}
-use Rattle.ss_parse_expressions.proofs.Tools.{bind_ok, carry, or_false}
-use Rattle.ss_parse_expressions.proofs.Marks.{token, mark_begins, token_less, In_table}
-use Rattle.ss_parse_expressions.proofs.Depth.{upto_same, Bounded, bounded_bind}
-use Rattle.ss_parse_expressions.proofs.ReaderLaws.{Reads, Item, continues_never, Made, item_of, item_marked, expect_reads, taken_reads, seq_reads, marked_reads, closed_reads, made_reads, following_reads, reshaped_reads, before_mark_reads, maybe_reads, done_reads, either_reads}
+use Rattle.ss_parse_expressions.proofs.Marks.{mark_begins, token_less, In_table}
+use Rattle.ss_parse_expressions.proofs.ReaderLaws.{Reads, Item, continues_never, Made, item_of, item_marked, expect_reads, taken_reads, seq_reads, marked_reads, closed_reads, bind_reads, made_reads, following_reads, reshaped_reads, before_mark_reads, maybe_reads, done_reads, either_reads}
 use Rattle.ss_parse_expressions.proofs.WordLaws.{expect_class_reads, one_begins, one_less, perhaps_listed_reads, item_made, no_word, no_class}
 use Rattle.ss_parse_expressions.proofs.Beginnings.{In, continues_sum}
 use Rattle.ss_parse_expressions.proofs.Sums.{sum_in_reads}
 use Rattle.ss_parse_expressions.proofs.PlaceLaws.{target_in_reads, targets_in_reads, sums_in_reads, continues_place, continues_targets, continues_sums}
 use Rattle.ss_parse_expressions.proofs.ConditionLaws.{the_set_reads, stops_place}
 use Rattle.ss_parse_statements.specs.SpelledParts.{Trigger, Picture_is, CalledName, Position_is, When_is}
-use Rattle.ss_parse_statements.specs.ReadSimple.{called, positive, positive_of, items_in, trigger, picture_token, pictures_at, given_in, yielding_in, position_in, when_in, due_in, set_reader, print_head}
+use Rattle.ss_parse_statements.specs.ReadSimple.{called, positive_of, trigger, picture_token, pictures_at, given_in, yielding_in, position_in, when_in, due_in, set_reader, print_head}
 
 -- ---- PRINT
-
-pub items_in_reads : (n m : ℕ) → n ≤ m → Reads n (items_in n) (items_in m) (perhaps_listed (Word_is words.With) (In n)) (λ ts. begins (word words.With) ts || continues_sums ts)
-items_in_reads n m le = perhaps_listed_reads (item_marked (word words.With) (sums_in_reads n m le))
 
 pub trigger_reads : (k : ℕ) → Reads k trigger trigger (λ u. Trigger) continues_never
 unfolding trigger
@@ -49,24 +37,16 @@ trigger_reads k =
 abbrev pub Positive_is : ℕ → Shape
 Positive_is n = provided (0 < n) (Token_is (kinds.Number (pos n)))
 
-positive_to : (n : ℕ) (ts rest : List Token) → In_table positive_of n ts rest → Positive_is n ts rest
-positive_to n ts rest (k, takes, at) = go k takes at
-  where
-    number : (z : ℤ) → positive z ≡ Some n → Token_is (kinds.Number z) ts rest → Positive_is n ts rest
-    number (pos zero) e at = absurd cc
-    number (pos (suc v)) e at = let same : suc v ≡ n = cc in subst (λ n. Positive_is n ts rest) same (omega arith, at)
-    number (negsuc v) e at = absurd cc
-
-    go : (k : TokenKind) → positive_of k ≡ Some n → Token_is k ts rest → Positive_is n ts rest
-    go (kinds.Number z) e at = number z e at
-    go _ e at = absurd cc
+positive_to : (k : TokenKind) (n : ℕ) (ts rest : List Token) → positive_of k ≡ Some n → Token_is k ts rest → Positive_is n ts rest
+positive_to (kinds.Number (pos (suc v))) n ts rest e at = let same : suc v ≡ n = cc in subst (λ n. Positive_is n ts rest) same (omega arith, at)
+positive_to _ n ts rest e at = absurd cc
 
 positive_from : (n : ℕ) (ts rest : List Token) → Positive_is n ts rest → In_table positive_of n ts rest
 positive_from zero ts rest (some, at) = absurd (omega arith)
 positive_from (suc n) ts rest (some, at) = (kinds.Number (pos (suc n)), refl, at)
 
 pub positive_reads : (k : ℕ) → Reads k (taken positive_of) (taken positive_of) Positive_is continues_never
-positive_reads k = reshaped_reads (taken_reads k positive_of) Positive_is positive_to positive_from
+positive_reads k = reshaped_reads (taken_reads k positive_of) Positive_is (λ n ts rest s. positive_to s.0 n ts rest s.1 s.2) positive_from
 
 -- the number of pictures and the items
 abbrev pub Print_head_is : ℕ → ℕ × List ExpressionTree → Shape
@@ -76,7 +56,7 @@ pub print_head_reads : (n m : ℕ) → n ≤ m → Reads n (print_head n) (print
 unfolding print_head
 print_head_reads n m le =
     seq_reads (positive_reads n)
-    (marked_reads (word words.Line) (closed_reads (items_in_reads n m le) (trigger_reads n) stops))
+    (marked_reads (word words.Line) (closed_reads (perhaps_listed_reads (item_marked (word words.With) (sums_in_reads n m le))) (trigger_reads n) stops))
     (λ xs ts rest s stop. refl)
   where
     stops : (ts rest : List Token) → Trigger ts rest → continues_never rest ≡ false → (begins (word words.With) ts || continues_sums ts) ≡ false
@@ -95,35 +75,25 @@ picture_reads k = reshaped_reads (taken_reads k picture_token) Picture_is (λ by
 abbrev pub Pictures_are : ℕ → List (List ℕ) → Shape
 Pictures_are n ps = provided (length ps ≡ n) (each_in_turn Picture_is ps)
 
+-- a picture, and so many after it
+abbrev One_and_more : ℕ → List (List ℕ) → Shape
+One_and_more n ps ts rest = (p : List ℕ) × (Picture_is p ▷ Made (λ qs. p ∷ qs) (Pictures_are n) ps) ts rest
+
+none_from : (ps : List (List ℕ)) (ts rest : List Token) → Pictures_are 0 ps ts rest → provided ([] ≡ ps) nothing ts rest
+none_from [] ts rest s = (refl, s.1)
+none_from (p ∷ ps) ts rest (counts, s) = absurd (omega arith)
+
+more_to : (n : ℕ) (ps : List (List ℕ)) (ts rest : List Token) → One_and_more n ps ts rest → Pictures_are (suc n) ps ts rest
+more_to n ps ts rest (p, (m, one, (qs, is, (counts, more)))) = subst (λ ps. Pictures_are (suc n) ps ts rest) is (ap suc counts, (m, one, more))
+
+more_from : (n : ℕ) (ps : List (List ℕ)) (ts rest : List Token) → Pictures_are (suc n) ps ts rest → One_and_more n ps ts rest
+more_from n [] ts rest (counts, s) = absurd (omega arith)
+more_from n (p ∷ ps) ts rest (counts, (m, one, more)) = (p, (m, one, (ps, refl, (omega arith, more))))
+
 pub pictures_reads : (k n : ℕ) → Reads k (pictures_at n) (pictures_at n) (Pictures_are n) continues_never
 unfolding pictures_at
-pictures_reads k n = record { sound = sound n; complete = λ ts ps rest s stop. complete n ps ts rest s.0 s.1; shorter = λ ts ps rest s. shorter ps ts rest s.1; under = λ ts. upto_same _; opening = opening n }
-  where
-    sound : (n : ℕ) (ts : List Token) (ps : List (List ℕ)) (rest : List Token) → pictures_at n ts ≡ Ok (ps, rest) → Pictures_are n ps ts rest
-    sound zero ts ps rest e = carry (λ (ps : List (List ℕ)) (r : List Token). Pictures_are 0 ps ts r) [] ps ts rest e (refl, refl)
-    sound (suc n) ts ps rest e =
-        let p = bind_ok (taken picture_token ts) _ _ e in
-        let qs = bind_ok (pictures_at n p.0.1) _ _ p.2 in
-        let s = sound n p.0.1 qs.0.0 qs.0.1 qs.1 in
-        carry (λ (ps : List (List ℕ)) (r : List Token). Pictures_are (suc n) ps ts r) (p.0.0 ∷ qs.0.0) ps qs.0.1 rest qs.2
-        (ap suc s.0, (p.0.1, (picture_reads k).sound ts p.0.0 p.0.1 p.1, s.1))
-
-    complete : (n : ℕ) (ps : List (List ℕ)) (ts rest : List Token) → length ps ≡ n → each_in_turn Picture_is ps ts rest → pictures_at n ts ≡ Ok (ps, rest)
-    complete zero [] ts rest counts s = ap (λ (r : List Token). Ok ([], r)) s
-    complete zero (p ∷ ps) ts rest counts s = absurd (omega arith)
-    complete (suc n) [] ts rest counts s = absurd (omega arith)
-    complete (suc n) (p ∷ ps) ts rest counts (m, one, more) =
-        let first : taken picture_token ts ≡ Ok (p, m) = (picture_reads k).complete ts p m one refl in
-        let others : pictures_at n m ≡ Ok (ps, rest) = complete n ps m rest (omega arith) more in
-        rw (first, others) refl
-
-    shorter : (ps : List (List ℕ)) (ts rest : List Token) → each_in_turn Picture_is ps ts rest → length rest ≤ length ts
-    shorter [] ts rest s = omega (arith, ap length s)
-    shorter (p ∷ ps) ts rest (m, one, more) = omega (arith, token_less (kinds.Picture p) ts m one, shorter ps m rest more)
-
-    opening : (n : ℕ) (ts : List Token) → Bounded k (openers ts) (pictures_at n ts)
-    opening zero ts = omega arith
-    opening (suc n) ts = bounded_bind k (openers ts) (taken picture_token ts) _ ((picture_reads k).opening ts) (λ p. bounded_bind k (openers p.1) (pictures_at n p.1) _ (opening n p.1) (λ ps. omega arith))
+pictures_reads k zero = reshaped_reads (done_reads k []) (Pictures_are 0) (λ ps ts rest s. subst (λ ps. Pictures_are 0 ps ts rest) s.0 (refl, s.1)) none_from
+pictures_reads k (suc n) = reshaped_reads (bind_reads (picture_reads k) (λ p. made_reads (pictures_reads k n) (λ qs. p ∷ qs)) (λ p ps ts rest s stop. refl)) (Pictures_are (suc n)) (more_to n) (more_from n)
 
 -- ---- words that may follow a statement and continue it
 
@@ -170,23 +140,20 @@ module _ (ts : List Token) (over : Ended ts) where
   pub over_place : continues_place ts ≡ false
   over_place = stops_place ts over.no_sum
 
-  pub over_sums : continues_sums ts ≡ false
-  over_sums = let a : begins_more begins_sum ts ≡ false = over.no_sums in let b : continues_sum ts ≡ false = over.no_sum in rw (a, b) refl
-
   pub over_targets : continues_targets ts ≡ false
-  over_targets = let a : begins_more begins_target ts ≡ false = over.no_targets in let b : continues_place ts ≡ false = over_place in rw (a, b) refl
+  over_targets = rw (over.no_targets, over_place) refl
 
   pub over_given : (begins_class classes.Given ts || continues_sums ts) ≡ false
-  over_given = let a : begins_class classes.Given ts ≡ false = no_class statement_more classes.Given given_more ts over.no_more in let b : continues_sums ts ≡ false = over_sums in rw (a, b) refl
+  over_given = rw (no_class statement_more classes.Given given_more ts over.no_more, over.no_sums, over.no_sum) refl
 
   pub over_yielding : (begins (word words.Yielding) ts || continues_targets ts) ≡ false
-  over_yielding = let a : begins (word words.Yielding) ts ≡ false = over_word words.Yielding refl in let b : continues_targets ts ≡ false = over_targets in rw (a, b) refl
+  over_yielding = rw (over_word words.Yielding refl, over_targets) refl
 
   pub over_called : (begins (word words.Called) ts || continues_sum ts) ≡ false
-  over_called = let a : begins (word words.Called) ts ≡ false = over_word words.Called refl in let b : continues_sum ts ≡ false = over.no_sum in rw (a, b) refl
+  over_called = rw (over_word words.Called refl, over.no_sum) refl
 
   pub over_called_place : (begins (word words.Called) ts || continues_place ts) ≡ false
-  over_called_place = let a : begins (word words.Called) ts ≡ false = over_word words.Called refl in let b : continues_place ts ≡ false = over_place in rw (a, b) refl
+  over_called_place = rw (over_word words.Called refl, over_place) refl
 
 -- ---- parts of a statement, where so many levels may be opened after its first word
 
@@ -214,9 +181,6 @@ module _ (n m : ℕ) (le : n ≤ m) where
   called_target_reads = maybe_reads (item_marked (word words.Called) target_reads)
 
   -- ---- where a member is filed: always before IN
-
-  abbrev pub Position_then : PositionTree × NamedTree → Shape
-  Position_then p = Position_is n p.0 ▷ Word_is words.In ▷ (the ▷ Reference_is n p.1)
 
   word_item : {A : Type 0} (w : Word) (f : Unit {0} → A) → Item (suc n) (begins (word w)) (apply f (expect (word w))) (apply f (expect (word w))) (Made f (λ u. Word_is w)) continues_never
   word_item w f = item_of (begins (word w)) (made_reads (expect_reads (suc n) (word w)) f) (λ ts x rest s. mark_begins (word w) ts rest s.2) (λ ts x rest s. omega (arith, token_less (kinds.Word w) ts rest s.2))
@@ -255,17 +219,6 @@ module _ (n m : ℕ) (le : n ≤ m) where
   last_late x ts rest (inl (e, q, (span, line, f))) stop = ap (begins (word words.First)) f
   last_late x ts rest (inr s) stop = before_late words.First refl refl refl x ts rest s stop
 
-  position_any_reads : Reads (suc n) (position_in (suc n)) (position_in (suc m)) First_is continues_position
-  unfolding position_in
-  position_any_reads =
-      either_reads (word_item words.First (λ u. at_first))
-      (either_reads (word_item words.Last (λ u. at_last))
-      (either_reads (item_made (word words.Before) sum_reads before)
-      (either_reads (item_made (word words.After) sum_reads after) (done_reads (suc n) by_discipline) continues_position (λ ts stop. (position_sum ts stop, refl)) (λ x ts rest s stop. ap (begins (word words.After)) s.1 ∙ position_word rest stop words.After refl))
-      continues_position (λ ts stop. (position_sum ts stop, stop)) (after_late words.Before refl refl))
-      continues_position (λ ts stop. (refl, stop)) (before_late words.Last refl refl refl))
-      continues_position (λ ts stop. (refl, stop)) last_late
-
   position_to : (x : PositionTree) (ts rest : List Token) → First_is x ts rest → Position_is n x ts rest
   position_to x ts rest (inl (u, q, s)) = subst (λ x. Position_is n x ts rest) q s
   position_to x ts rest (inr (inl (u, q, s))) = subst (λ x. Position_is n x ts rest) q s
@@ -281,23 +234,27 @@ module _ (n m : ℕ) (le : n ≤ m) where
   position_from (after e) ts rest s = inr (inr (inr (inl (e, refl, s))))
 
   pub position_reads : Reads (suc n) (position_in (suc n)) (position_in (suc m)) (Position_is n) continues_position
-  position_reads = reshaped_reads position_any_reads (Position_is n) position_to position_from
+  unfolding position_in
+  position_reads =
+      reshaped_reads (either_reads (word_item words.First (λ u. at_first))
+      (either_reads (word_item words.Last (λ u. at_last))
+      (either_reads (item_made (word words.Before) sum_reads before)
+      (either_reads (item_made (word words.After) sum_reads after) (done_reads (suc n) by_discipline) continues_position (λ ts stop. (position_sum ts stop, refl)) (λ x ts rest s stop. ap (begins (word words.After)) s.1 ∙ position_word rest stop words.After refl))
+      continues_position (λ ts stop. (position_sum ts stop, stop)) (after_late words.Before refl refl))
+      continues_position (λ ts stop. (refl, stop)) (before_late words.Last refl refl refl))
+      continues_position (λ ts stop. (refl, stop)) last_late) (Position_is n) position_to position_from
 
   -- it doesn't continue the member
   pub position_stops : (x : PositionTree) (ts a : List Token) → Position_is n x ts a → continues_sum a ≡ false → continues_sum ts ≡ false
   position_stops by_discipline ts a s stop = ap continues_sum s ∙ stop
   position_stops at_first ts a (span, line, e) stop = ap continues_sum e
   position_stops at_last ts a (span, line, e) stop = ap continues_sum e
-  position_stops (before x) ts a (b, (span, line, e), s) stop = ap continues_sum e
-  position_stops (after x) ts a (b, (span, line, e), s) stop = ap continues_sum e
+  position_stops _ ts a (b, (span, line, e), s) stop = ap continues_sum e
 
   -- ---- when a notice is due
 
   abbrev In_units_or_now : WhenTree → Shape
   In_units_or_now x = either_shape (Made in_units (λ e. Word_is words.In ▷ Sum_is n e ▷ Word_is words.Unit) x) (Made (λ (u : Unit {0}). now) (λ (u : Unit {0}). Word_is words.Now) x)
-
-  now_late : (x : WhenTree) (ts rest : List Token) → Made (λ (u : Unit {0}). now) (λ (u : Unit {0}). Word_is words.Now) x ts rest → begins (word words.In) ts ≡ false
-  now_late x ts rest (u, q, (span, line, e)) = ap (begins (word words.In)) e
 
   in_late : (x : WhenTree) (ts rest : List Token) → In_units_or_now x ts rest → begins (word words.At) ts ≡ false
   in_late x ts rest (inl (e, q, (a, (span, line, f), s))) = ap (begins (word words.At)) f
@@ -307,7 +264,7 @@ module _ (n m : ℕ) (le : n ≤ m) where
   unfolding when_in
   when_reads =
       reshaped_reads (either_reads (item_made (word words.At) sum_reads at_time)
-      (either_reads (item_made (word words.In) (before_mark_reads (word words.Unit) sum_reads (λ span line ts. refl)) in_units) (made_reads (expect_reads (suc n) (word words.Now)) (λ u. now)) continues_sum (λ ts stop. (refl, refl)) (λ x ts rest s stop. now_late x ts rest s))
+      (either_reads (item_made (word words.In) (before_mark_reads (word words.Unit) sum_reads (λ span line ts. refl)) in_units) (made_reads (expect_reads (suc n) (word words.Now)) (λ u. now)) continues_sum (λ ts stop. (refl, refl)) (λ x ts rest s stop. ap (begins (word words.In)) s.2.2))
       continues_sum (λ ts stop. (stop, stop)) (λ x ts rest s stop. in_late x ts rest s))
       (When_is n) to from
     where
@@ -322,9 +279,8 @@ module _ (n m : ℕ) (le : n ≤ m) where
       from now ts rest s = inr (inr (tt, refl, s))
 
   when_stops : (x : WhenTree) (ts rest : List Token) → When_is n x ts rest → (begins_class classes.Given ts || continues_sums ts) ≡ false
-  when_stops (at_time e) ts rest (a, (span, line, f), s) = rw f refl
-  when_stops (in_units e) ts rest (a, (span, line, f), s) = rw f refl
   when_stops now ts rest (span, line, f) = rw f refl
+  when_stops _ ts rest (a, (span, line, f), s) = rw f refl
 
   abbrev pub Due_is : List ExpressionTree × WhenTree → Shape
   Due_is p = perhaps_listed (One_of classes.Given) (Sum_is n) p.0 ▷ When_is n p.1
@@ -332,17 +288,13 @@ module _ (n m : ℕ) (le : n ≤ m) where
   pub due_reads : Reads (suc n) (due_in (suc n)) (due_in (suc m)) Due_is continues_sum
   due_reads = seq_reads given_reads when_reads (λ x ts rest s stop. when_stops x ts rest s)
 
-  given_word_stops : (c : List Token → Bool) → ((span : Span) (line : Line) (rest : List Token) → c (token (kinds.Word words.Given) span line ∷ rest) ≡ false) → ((span : Span) (line : Line) (rest : List Token) → c (token (kinds.Word words.Giving) span line ∷ rest) ≡ false) → (ts a : List Token) → One_of classes.Given ts a → c ts ≡ false
-  given_word_stops c on_given on_giving ts a (w, held, at) = go w held at
-    where
-      go : (w : Word) → has_word classes.Given w ≡ true → Word_is w ts a → c ts ≡ false
-      go words.Given e (span, line, f) = ap c f ∙ on_given span line a
-      go words.Giving e (span, line, f) = ap c f ∙ on_giving span line a
-      go _ e at = absurd cc
+  given_word_stops : (w : Word) (ts a : List Token) → has_word classes.Given w ≡ true → Word_is w ts a → (begins (word words.Called) ts || continues_sum ts) ≡ false
+  given_word_stops words.Given ts a e (span, line, f) = rw f refl
+  given_word_stops words.Giving ts a e (span, line, f) = rw f refl
+  given_word_stops _ ts a e at = absurd cc
 
   -- what is given, and when, doesn't continue a CALLED and its expression
   pub due_stops : (p : List ExpressionTree × WhenTree) (ts rest : List Token) → Due_is p ts rest → (begins (word words.Called) ts || continues_sum ts) ≡ false
-  due_stops ([], at_time x) ts rest (a, e, (b, (span, line, f), s)) = rw (e, f) refl
-  due_stops ([], in_units x) ts rest (a, e, (b, (span, line, f), s)) = rw (e, f) refl
   due_stops ([], now) ts rest (a, e, (span, line, f)) = rw (e, f) refl
-  due_stops (x ∷ xs, w) ts rest (a, (b, given, s), t) = given_word_stops (λ ts. begins (word words.Called) ts || continues_sum ts) (λ span line rest. refl) (λ span line rest. refl) ts b given
+  due_stops ([], _) ts rest (a, e, (b, (span, line, f), s)) = rw (e, f) refl
+  due_stops (x ∷ xs, w) ts rest (a, (b, (v, held, at), s), t) = given_word_stops v ts b held at

@@ -2,5 +2,6 @@
 #![tactic(auto)]
 
 mod parts;
+pub mod reading;
 pub mod simple;
 pub mod statements;

@@ -9,6 +9,7 @@ ghost use Rattle.ss_parse_expressions.specs.ReadPlaces.{target_in};
 ghost use Rattle.ss_parse_statements.specs.SpelledParts.{end_of};
 ghost use Rattle.ss_parse_statements.specs.ReadSimple.{equals, set_reader, called, positive_of, picture_token, items_in, trigger, pictures_at, given_in, yielding_in, position_in, when_in, due_in};
 
+use crate::reading::Reading;
 use ss_base::PictureLine;
 use ss_lex::{Symbol, Token, TokenKind, Word};
 use ss_parse_expressions::classes::{WordClass, begins_class, skip_class};
@@ -40,30 +41,20 @@ impl WordTable for EndWords {
 }
 
 /// A number of pictures, 1 at least.
-pub fn positive(tokens: &[Token]) -> Result<(u64, &[Token]), ParseFailure>
+pub fn positive(tokens: &[Token]) -> Reading<'_, u64>
     ensures { HasGivenReading (λ x. (x.0, x.1.now)) result (taken positive_of tokens.now) }
 {
     match tokens {
         [] => Err(syntax(tokens)),
         [first, rest @ ..] => match &first.kind {
-            TokenKind::Number(number) => {
-                if *number > 0 {
-                    Ok((number.unsigned_abs(), rest))
-                } else {
-                    Err(syntax(tokens))
-                }
-            }
+            TokenKind::Number(number) if *number > 0 => Ok((number.unsigned_abs(), rest)),
             _ => Err(syntax(tokens)),
         },
     }
 }
 
 /// The items of a PRINT.
-pub fn items(
-    alloc: Global,
-    tokens: &[Token],
-    room: u8,
-) -> Result<(Vec<Expression>, &[Token]), ParseFailure>
+pub fn items(alloc: Global, tokens: &[Token], room: u8) -> Reading<'_, Vec<Expression>>
     ensures { HasGivenReading (λ x. (map view_expression_tree x.0.items, x.1.now)) result (items_in room tokens.now) }
 {
     if !begins_word(tokens, Word::With) {
@@ -88,7 +79,7 @@ pub fn trigger(tokens: &[Token]) -> Result<&[Token], ParseFailure>
 }
 
 /// The bytes of a picture.
-fn picture(alloc: Global, tokens: &[Token]) -> Result<(PictureLine, &[Token]), ParseFailure>
+fn picture(alloc: Global, tokens: &[Token]) -> Reading<'_, PictureLine>
     ensures { HasGivenReading (λ x. (x.0, x.1.now)) result (taken picture_token tokens.now) }
 {
     match tokens {
@@ -101,11 +92,7 @@ fn picture(alloc: Global, tokens: &[Token]) -> Result<(PictureLine, &[Token]), P
 }
 
 /// The pictures of a PRINT, `count` of them.
-pub fn pictures(
-    alloc: Global,
-    tokens: &[Token],
-    count: u64,
-) -> Result<(Vec<PictureLine>, &[Token]), ParseFailure>
+pub fn pictures(alloc: Global, tokens: &[Token], count: u64) -> Reading<'_, Vec<PictureLine>>
     ensures { HasGivenReading (λ x. (x.0.items, x.1.now)) result (pictures_at count tokens.now) }
 {
     let mut all = Vec::new(alloc);
@@ -119,11 +106,7 @@ pub fn pictures(
 }
 
 /// The expressions that are given, if there are any.
-pub fn given(
-    alloc: Global,
-    tokens: &[Token],
-    room: u8,
-) -> Result<(Vec<Expression>, &[Token]), ParseFailure>
+pub fn given(alloc: Global, tokens: &[Token], room: u8) -> Reading<'_, Vec<Expression>>
     ensures { HasGivenReading (λ x. (map view_expression_tree x.0.items, x.1.now)) result (given_in room tokens.now) }
 {
     if !begins_class(tokens, WordClass::Given) {
@@ -133,11 +116,7 @@ pub fn given(
 }
 
 /// The targets of what is yielded, if there are any.
-pub fn yielding(
-    alloc: Global,
-    tokens: &[Token],
-    room: u8,
-) -> Result<(Vec<Named>, &[Token]), ParseFailure>
+pub fn yielding(alloc: Global, tokens: &[Token], room: u8) -> Reading<'_, Vec<Named>>
     ensures { HasGivenReading (λ x. (map view_named x.0.items, x.1.now)) result (yielding_in room tokens.now) }
 {
     if !begins_word(tokens, Word::Yielding) {
@@ -147,11 +126,7 @@ pub fn yielding(
 }
 
 /// The value after CALLED, if CALLED is there.
-pub fn called_value(
-    alloc: Global,
-    tokens: &[Token],
-    room: u8,
-) -> Result<(Option<Expression>, &[Token]), ParseFailure>
+pub fn called_value(alloc: Global, tokens: &[Token], room: u8) -> Reading<'_, Option<Expression>>
     ensures { HasGivenReading (λ x. (option_map view_expression_tree x.0, x.1.now)) result (called (sum_in room) tokens.now) }
 {
     if !begins_word(tokens, Word::Called) {
@@ -162,11 +137,7 @@ pub fn called_value(
 }
 
 /// The target after CALLED, if CALLED is there.
-pub fn called_target(
-    alloc: Global,
-    tokens: &[Token],
-    room: u8,
-) -> Result<(Option<Named>, &[Token]), ParseFailure>
+pub fn called_target(alloc: Global, tokens: &[Token], room: u8) -> Reading<'_, Option<Named>>
     ensures { HasGivenReading (λ x. (option_map view_named x.0, x.1.now)) result (called (target_in room) tokens.now) }
 {
     if !begins_word(tokens, Word::Called) {
@@ -178,11 +149,7 @@ pub fn called_target(
 
 /// Where a member is filed.
 #[tactic(auto, unfolding(crate::specs::ReadSimple::position_in))]
-pub fn place(
-    alloc: Global,
-    tokens: &[Token],
-    room: u8,
-) -> Result<(Position, &[Token]), ParseFailure>
+pub fn place(alloc: Global, tokens: &[Token], room: u8) -> Reading<'_, Position>
     ensures { HasGivenReading (λ x. (view_position_tree x.0, x.1.now)) result (position_in room tokens.now) }
 {
     if begins_word(tokens, Word::First) {
@@ -202,7 +169,7 @@ pub fn place(
 
 /// When a notice is due.
 #[tactic(auto, unfolding(crate::specs::ReadSimple::when_in))]
-pub fn due(alloc: Global, tokens: &[Token], room: u8) -> Result<(When, &[Token]), ParseFailure>
+pub fn due(alloc: Global, tokens: &[Token], room: u8) -> Reading<'_, When>
     ensures { HasGivenReading (λ x. (view_when_tree x.0, x.1.now)) result (when_in room tokens.now) }
 {
     if begins_word(tokens, Word::At) {
@@ -232,11 +199,7 @@ pub fn given_and_due(
 }
 
 /// An equals sign, and the value after it.
-pub fn value_set(
-    alloc: Global,
-    tokens: &[Token],
-    room: u8,
-) -> Result<(Expression, &[Token]), ParseFailure>
+pub fn value_set(alloc: Global, tokens: &[Token], room: u8) -> Reading<'_, Expression>
     ensures { HasGivenReading (λ x. (view_expression_tree x.0, x.1.now)) result (after_dropped (expect equals) (sum_in room) tokens.now) }
 {
     let rest = expect_symbol(tokens, Symbol::Equals)?;
@@ -244,12 +207,7 @@ pub fn value_set(
 }
 
 /// This word, and the target after it.
-pub fn target_after(
-    alloc: Global,
-    wanted: Word,
-    tokens: &[Token],
-    room: u8,
-) -> Result<(Named, &[Token]), ParseFailure>
+pub fn target_after(alloc: Global, wanted: Word, tokens: &[Token], room: u8) -> Reading<'_, Named>
     ensures { HasGivenReading (λ x. (view_named x.0, x.1.now)) result (after_dropped (expect (word wanted)) (target_in room) tokens.now) }
 {
     let rest = expect_word(tokens, wanted)?;
@@ -257,12 +215,7 @@ pub fn target_after(
 }
 
 /// This word, and the set after it.
-pub fn set_after(
-    alloc: Global,
-    wanted: Word,
-    tokens: &[Token],
-    room: u8,
-) -> Result<(Named, &[Token]), ParseFailure>
+pub fn set_after(alloc: Global, wanted: Word, tokens: &[Token], room: u8) -> Reading<'_, Named>
     ensures { HasGivenReading (λ x. (view_named x.0, x.1.now)) result (after_dropped (expect (word wanted)) (set_reader room) tokens.now) }
 {
     let rest = expect_word(tokens, wanted)?;

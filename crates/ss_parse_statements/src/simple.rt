@@ -9,11 +9,11 @@ use crate::parts::{
     EndWords, called_target, called_value, given, given_and_due, items, pictures, place, positive,
     set_after, target_after, trigger, value_set, yielding,
 };
+use crate::reading::Reading;
 use ss_base::Line;
 use ss_lex::{Token, Word};
 use ss_parse_expressions::classes::{WordClass, expect_class, skip_class};
 use ss_parse_expressions::expressions::sum;
-use ss_parse_expressions::failure::ParseFailure;
 use ss_parse_expressions::names::{name, names};
 use ss_parse_expressions::places::{target, targets};
 use ss_parse_expressions::steps::beside;
@@ -25,12 +25,7 @@ use std::alloc::Global;
 
 /// The rest of a LET, after its first word.
 #[tactic(auto, unfolding(crate::specs::ReadSimple::let_at, ss_tree::specs::View::view_statement_tree))]
-fn let_form(
-    alloc: Global,
-    line: Line,
-    tokens: &[Token],
-    room: u8,
-) -> Result<(Statement, &[Token]), ParseFailure>
+fn let_form(alloc: Global, line: Line, tokens: &[Token], room: u8) -> Reading<'_, Statement>
     ensures { HasGivenReading (λ x. (view_statement_tree x.0, x.1.now)) result (let_at line room tokens.now) }
 {
     let (target, rest) = target(alloc, tokens, room)?;
@@ -45,12 +40,7 @@ fn let_form(
 
 /// The rest of an ADD, after its first word.
 #[tactic(auto, unfolding(crate::specs::ReadSimple::add_at, ss_tree::specs::View::view_statement_tree))]
-fn add_form(
-    alloc: Global,
-    line: Line,
-    tokens: &[Token],
-    room: u8,
-) -> Result<(Statement, &[Token]), ParseFailure>
+fn add_form(alloc: Global, line: Line, tokens: &[Token], room: u8) -> Reading<'_, Statement>
     ensures { HasGivenReading (λ x. (view_statement_tree x.0, x.1.now)) result (add_at line room tokens.now) }
 {
     let (amount, rest) = sum(alloc, tokens, room)?;
@@ -65,12 +55,7 @@ fn add_form(
 
 /// The rest of a SUBTRACT, after its first word.
 #[tactic(auto, unfolding(crate::specs::ReadSimple::subtract_at, ss_tree::specs::View::view_statement_tree))]
-fn subtract_form(
-    alloc: Global,
-    line: Line,
-    tokens: &[Token],
-    room: u8,
-) -> Result<(Statement, &[Token]), ParseFailure>
+fn subtract_form(alloc: Global, line: Line, tokens: &[Token], room: u8) -> Reading<'_, Statement>
     ensures { HasGivenReading (λ x. (view_statement_tree x.0, x.1.now)) result (subtract_at line room tokens.now) }
 {
     let (amount, rest) = sum(alloc, tokens, room)?;
@@ -85,12 +70,7 @@ fn subtract_form(
 
 /// The rest of a CALL, after its first word.
 #[tactic(auto, unfolding(crate::specs::ReadSimple::call_at, ss_tree::specs::View::view_statement_tree))]
-fn call_form(
-    alloc: Global,
-    line: Line,
-    tokens: &[Token],
-    room: u8,
-) -> Result<(Statement, &[Token]), ParseFailure>
+fn call_form(alloc: Global, line: Line, tokens: &[Token], room: u8) -> Reading<'_, Statement>
     ensures { HasGivenReading (λ x. (view_statement_tree x.0, x.1.now)) result (call_at line room tokens.now) }
 {
     let routine = name(tokens)?;
@@ -107,12 +87,7 @@ fn call_form(
 
 /// The rest of a READ, after its first word.
 #[tactic(auto, unfolding(crate::specs::ReadSimple::read_at, ss_tree::specs::View::view_statement_tree))]
-fn read_form(
-    alloc: Global,
-    line: Line,
-    tokens: &[Token],
-    room: u8,
-) -> Result<(Statement, &[Token]), ParseFailure>
+fn read_form(alloc: Global, line: Line, tokens: &[Token], room: u8) -> Reading<'_, Statement>
     ensures { HasGivenReading (λ x. (view_statement_tree x.0, x.1.now)) result (read_at line room tokens.now) }
 {
     let (targets, rest) = targets(alloc, tokens, room)?;
@@ -121,7 +96,7 @@ fn read_form(
 
 /// The rest of a START SIMULATION, after its first word.
 #[tactic(auto, unfolding(crate::specs::ReadSimple::start_at, ss_tree::specs::View::view_statement_tree))]
-fn start_form(line: Line, tokens: &[Token]) -> Result<(Statement, &[Token]), ParseFailure>
+fn start_form(line: Line, tokens: &[Token]) -> Reading<'_, Statement>
     ensures { HasGivenReading (λ x. (view_statement_tree x.0, x.1.now)) result (start_at line tokens.now) }
 {
     let rest = expect_word(tokens, Word::Simulation)?;
@@ -130,12 +105,7 @@ fn start_form(line: Line, tokens: &[Token]) -> Result<(Statement, &[Token]), Par
 
 /// The rest of a CREATE A, after its first word.
 #[tactic(auto, unfolding(crate::specs::ReadSimple::new_at, ss_tree::specs::View::view_statement_tree))]
-fn new_form(
-    alloc: Global,
-    line: Line,
-    tokens: &[Token],
-    room: u8,
-) -> Result<(Statement, &[Token]), ParseFailure>
+fn new_form(alloc: Global, line: Line, tokens: &[Token], room: u8) -> Reading<'_, Statement>
     ensures { HasGivenReading (λ x. (view_statement_tree x.0, x.1.now)) result (new_at line room tokens.now) }
 {
     let rest = skip_class(tokens, WordClass::Indefinite);
@@ -151,12 +121,7 @@ fn new_form(
 
 /// The rest of a CREATE, after its first word.
 #[tactic(auto, unfolding(crate::specs::ReadSimple::create_at, ss_tree::specs::View::view_statement_tree))]
-fn create_form(
-    alloc: Global,
-    line: Line,
-    tokens: &[Token],
-    room: u8,
-) -> Result<(Statement, &[Token]), ParseFailure>
+fn create_form(alloc: Global, line: Line, tokens: &[Token], room: u8) -> Reading<'_, Statement>
     ensures { HasGivenReading (λ x. (view_statement_tree x.0, x.1.now)) result (create_at line room tokens.now) }
 {
     if !begins_word(tokens, Word::Every) {
@@ -168,12 +133,7 @@ fn create_form(
 
 /// The rest of a DESTROY, after its first word.
 #[tactic(auto, unfolding(crate::specs::ReadSimple::destroy_at, ss_tree::specs::View::view_statement_tree))]
-fn destroy_form(
-    alloc: Global,
-    line: Line,
-    tokens: &[Token],
-    room: u8,
-) -> Result<(Statement, &[Token]), ParseFailure>
+fn destroy_form(alloc: Global, line: Line, tokens: &[Token], room: u8) -> Reading<'_, Statement>
     ensures { HasGivenReading (λ x. (view_statement_tree x.0, x.1.now)) result (destroy_at line room tokens.now) }
 {
     let rest = skip_word(tokens, Word::The);
@@ -189,12 +149,7 @@ fn destroy_form(
 
 /// The rest of a CANCEL, after its first word.
 #[tactic(auto, unfolding(crate::specs::ReadSimple::cancel_at, ss_tree::specs::View::view_statement_tree))]
-fn cancel_form(
-    alloc: Global,
-    line: Line,
-    tokens: &[Token],
-    room: u8,
-) -> Result<(Statement, &[Token]), ParseFailure>
+fn cancel_form(alloc: Global, line: Line, tokens: &[Token], room: u8) -> Reading<'_, Statement>
     ensures { HasGivenReading (λ x. (view_statement_tree x.0, x.1.now)) result (cancel_at line room tokens.now) }
 {
     let rest = skip_word(tokens, Word::The);
@@ -210,12 +165,7 @@ fn cancel_form(
 
 /// The rest of a FILE, after its first word.
 #[tactic(auto, unfolding(crate::specs::ReadSimple::file_at, ss_tree::specs::View::view_statement_tree))]
-fn file_form(
-    alloc: Global,
-    line: Line,
-    tokens: &[Token],
-    room: u8,
-) -> Result<(Statement, &[Token]), ParseFailure>
+fn file_form(alloc: Global, line: Line, tokens: &[Token], room: u8) -> Reading<'_, Statement>
     ensures { HasGivenReading (λ x. (view_statement_tree x.0, x.1.now)) result (file_at line room tokens.now) }
 {
     let (member, rest) = sum(alloc, skip_word(tokens, Word::The), room)?;
@@ -233,12 +183,7 @@ fn file_form(
 
 /// The rest of a REMOVE FIRST or LAST, after THE.
 #[tactic(auto, unfolding(crate::specs::ReadSimple::remove_end_at, ss_tree::specs::View::view_statement_tree))]
-fn remove_end_form(
-    alloc: Global,
-    line: Line,
-    tokens: &[Token],
-    room: u8,
-) -> Result<(Statement, &[Token]), ParseFailure>
+fn remove_end_form(alloc: Global, line: Line, tokens: &[Token], room: u8) -> Reading<'_, Statement>
     ensures { HasGivenReading (λ x. (view_statement_tree x.0, x.1.now)) result (remove_end_at line room tokens.now) }
 {
     let (end, rest) = take_word_of::<EndWords>(tokens)?;
@@ -255,12 +200,7 @@ fn remove_end_form(
 
 /// The rest of a REMOVE of a given member, after THE.
 #[tactic(auto, unfolding(crate::specs::ReadSimple::remove_this_at, ss_tree::specs::View::view_statement_tree))]
-fn remove_this_form(
-    alloc: Global,
-    line: Line,
-    tokens: &[Token],
-    room: u8,
-) -> Result<(Statement, &[Token]), ParseFailure>
+fn remove_this_form(alloc: Global, line: Line, tokens: &[Token], room: u8) -> Reading<'_, Statement>
     ensures { HasGivenReading (λ x. (view_statement_tree x.0, x.1.now)) result (remove_this_at line room tokens.now) }
 {
     let (member, rest) = sum(alloc, tokens, room)?;
@@ -270,12 +210,7 @@ fn remove_this_form(
 
 /// The rest of a REMOVE, after its first word.
 #[tactic(auto, unfolding(crate::specs::ReadSimple::remove_at, ss_tree::specs::View::view_statement_tree))]
-fn remove_form(
-    alloc: Global,
-    line: Line,
-    tokens: &[Token],
-    room: u8,
-) -> Result<(Statement, &[Token]), ParseFailure>
+fn remove_form(alloc: Global, line: Line, tokens: &[Token], room: u8) -> Reading<'_, Statement>
     ensures { HasGivenReading (λ x. (view_statement_tree x.0, x.1.now)) result (remove_at line room tokens.now) }
 {
     let rest = skip_word(tokens, Word::The);
@@ -293,7 +228,7 @@ fn schedule_the_form(
     line: Line,
     tokens: &[Token],
     room: u8,
-) -> Result<(Statement, &[Token]), ParseFailure>
+) -> Reading<'_, Statement>
     ensures { HasGivenReading (λ x. (view_statement_tree x.0, x.1.now)) result (schedule_the_at line room tokens.now) }
 {
     let rest = expect_word(tokens, Word::The)?;
@@ -312,12 +247,7 @@ fn schedule_the_form(
 
 /// The rest of a SCHEDULE A, after its first word.
 #[tactic(auto, unfolding(crate::specs::ReadSimple::schedule_a_at, ss_tree::specs::View::view_statement_tree))]
-fn schedule_a_form(
-    alloc: Global,
-    line: Line,
-    tokens: &[Token],
-    room: u8,
-) -> Result<(Statement, &[Token]), ParseFailure>
+fn schedule_a_form(alloc: Global, line: Line, tokens: &[Token], room: u8) -> Reading<'_, Statement>
     ensures { HasGivenReading (λ x. (view_statement_tree x.0, x.1.now)) result (schedule_a_at line room tokens.now) }
 {
     let rest = expect_class(tokens, WordClass::Indefinite)?;
@@ -336,12 +266,7 @@ fn schedule_a_form(
 
 /// The rest of a SCHEDULE, after its first word.
 #[tactic(auto, unfolding(crate::specs::ReadSimple::schedule_at, ss_tree::specs::View::view_statement_tree))]
-fn schedule_form(
-    alloc: Global,
-    line: Line,
-    tokens: &[Token],
-    room: u8,
-) -> Result<(Statement, &[Token]), ParseFailure>
+fn schedule_form(alloc: Global, line: Line, tokens: &[Token], room: u8) -> Reading<'_, Statement>
     ensures { HasGivenReading (λ x. (view_statement_tree x.0, x.1.now)) result (schedule_at line room tokens.now) }
 {
     if begins_word(tokens, Word::The) {
@@ -353,12 +278,7 @@ fn schedule_form(
 
 /// The rest of a RESET, after its first word.
 #[tactic(auto, unfolding(crate::specs::ReadSimple::reset_at, ss_tree::specs::View::view_statement_tree))]
-fn reset_form(
-    alloc: Global,
-    line: Line,
-    tokens: &[Token],
-    room: u8,
-) -> Result<(Statement, &[Token]), ParseFailure>
+fn reset_form(alloc: Global, line: Line, tokens: &[Token], room: u8) -> Reading<'_, Statement>
     ensures { HasGivenReading (λ x. (view_statement_tree x.0, x.1.now)) result (reset_at line room tokens.now) }
 {
     let rest = expect_word(skip_word(tokens, Word::The), Word::Totals)?;
@@ -369,31 +289,22 @@ fn reset_form(
 
 /// The number of pictures of a PRINT, and its items.
 #[tactic(auto, unfolding(crate::specs::ReadSimple::print_head))]
-fn print_head(
-    alloc: Global,
-    tokens: &[Token],
-    room: u8,
-) -> Result<(u64, Vec<Expression>, &[Token]), ParseFailure>
-    ensures { HasGivenReading (λ x. ((x.0, map view_expression_tree x.1.items), x.2.now)) result (print_head room tokens.now) }
+fn print_head(alloc: Global, tokens: &[Token], room: u8) -> Reading<'_, (u64, Vec<Expression>)>
+    ensures { HasGivenReading (λ x. ((x.0.0, map view_expression_tree x.0.1.items), x.1.now)) result (print_head room tokens.now) }
 {
     let (count, rest) = positive(tokens)?;
     let rest = expect_word(rest, Word::Line)?;
     let (items, rest) = items(alloc, rest, room)?;
     let (items, rest) = beside(items, trigger(rest))?;
-    Ok((count, items, rest))
+    Ok(((count, items), rest))
 }
 
 /// The rest of a PRINT, after its first word.
 #[tactic(auto, unfolding(crate::specs::ReadSimple::print_at, ss_tree::specs::View::view_statement_tree))]
-fn print_form(
-    alloc: Global,
-    line: Line,
-    tokens: &[Token],
-    room: u8,
-) -> Result<(Statement, &[Token]), ParseFailure>
+fn print_form(alloc: Global, line: Line, tokens: &[Token], room: u8) -> Reading<'_, Statement>
     ensures { HasGivenReading (λ x. (view_statement_tree x.0, x.1.now)) result (print_at line room tokens.now) }
 {
-    let (count, items, rest) = print_head(alloc, tokens, room)?;
+    let ((count, items), rest) = print_head(alloc, tokens, room)?;
     let (items, (pictures, rest)) = beside(items, pictures(alloc, rest, count))?;
     let form = Statement::Print {
         line,
@@ -405,12 +316,7 @@ fn print_form(
 
 /// The rest of a SKIP, after its first word.
 #[tactic(auto, unfolding(crate::specs::ReadSimple::skip_at, ss_tree::specs::View::view_statement_tree))]
-fn skip_form(
-    alloc: Global,
-    line: Line,
-    tokens: &[Token],
-    room: u8,
-) -> Result<(Statement, &[Token]), ParseFailure>
+fn skip_form(alloc: Global, line: Line, tokens: &[Token], room: u8) -> Reading<'_, Statement>
     ensures { HasGivenReading (λ x. (view_statement_tree x.0, x.1.now)) result (skip_at line room tokens.now) }
 {
     let (count, rest) = sum(alloc, tokens, room)?;
@@ -427,7 +333,7 @@ pub fn simple_form(
     word: Word,
     tokens: &[Token],
     room: u8,
-) -> Result<(Statement, &[Token]), ParseFailure>
+) -> Reading<'_, Statement>
     ensures { HasGivenReading (λ x. (view_statement_tree x.0, x.1.now)) result (simple_at line room word tokens.now) }
 {
     match word {

@@ -5,10 +5,11 @@ ghost use Rattle.ss_tree.specs.Tree.{statement_row};
 ghost use Rattle.ss_tree.specs.View.{view_statement_tree, view_head_tree, view_loop_head};
 ghost use Rattle.ss_parse_expressions.specs.WordTables.{outcome_of};
 ghost use Rattle.ss_lex.specs.declared.word.Word.TheVariants.{If};
-ghost use Rattle.ss_parse_expressions.specs.Reading.{HasGivenReading, word, skip, skip_comma, after_dropped, seq, taken, in_table};
+ghost use Rattle.ss_parse_expressions.specs.Reading.{HasGivenReading, word, after_dropped, seq, taken, in_table};
 ghost use Rattle.ss_parse_expressions.specs.ReadWords.{begins_noisy, expect_noisy};
 ghost use Rattle.ss_parse_statements.specs.ReadStatements.{nested_word, begins_form, begins_statement, begins_find_if, statements_with, else_with, branches_with, do_with, governed_with, body_with, find_words, if_with, loop_with, find_if_with, found_with, find_with, for_with, guarded_with, nested_in, statement_in, statements_in};
 
+use crate::reading::Reading;
 use crate::simple::simple_form;
 use ss_base::Line;
 use ss_lex::{Symbol, Token, TokenKind, Word};
@@ -37,13 +38,6 @@ pub fn expect_noisy(tokens: &[Token], wanted: Word) -> Result<&[Token], ParseFai
     ensures { HasGivenReading (λ rest. (tt, rest.now)) result (expect_noisy (word wanted) tokens.now) }
 {
     expect_word(skip_symbol(tokens, Symbol::Comma), wanted)
-}
-
-/// The tokens after this word, which is first but for a comma.
-fn skip_noisy(tokens: &[Token], wanted: Word) -> &[Token]
-    ensures { result.now ≡ skip (word wanted) (skip_comma tokens.now) }
-{
-    skip_word(skip_symbol(tokens, Symbol::Comma), wanted)
 }
 
 /// Whether a statement that may have others in it begins with the word.
@@ -116,11 +110,7 @@ fn find_words(tokens: &[Token]) -> Result<&[Token], ParseFailure>
 
 /// Statements, each with a comma before it or not.
 #[cycle(statements)]
-pub fn statements(
-    alloc: Global,
-    tokens: &[Token],
-    room: u8,
-) -> Result<(Vec<Statement>, &[Token]), ParseFailure>
+pub fn statements(alloc: Global, tokens: &[Token], room: u8) -> Reading<'_, Vec<Statement>>
     ensures { HasGivenReading (λ x. (map view_statement_tree x.0.items, x.1.now)) result (statements_in room tokens.now) }
 {
     let mut all = Vec::new(alloc);
@@ -136,18 +126,14 @@ pub fn statements(
 
 /// The statements after ELSE, if ELSE is there.
 #[cycle(statements)]
-#[tactic(auto)]
-fn otherwise(
-    alloc: Global,
-    tokens: &[Token],
-    room: u8,
-) -> Result<(Vec<Statement>, &[Token]), ParseFailure>
+fn otherwise(alloc: Global, tokens: &[Token], room: u8) -> Reading<'_, Vec<Statement>>
     ensures { HasGivenReading (λ x. (map view_statement_tree x.0.items, x.1.now)) result (else_with (statement_in room) tokens.now) }
 {
     if !begins_noisy(tokens, Word::Else) {
         return Ok((Vec::new(alloc), tokens));
     }
-    statements(alloc, skip_noisy(tokens, Word::Else), room)
+    let rest = expect_noisy(tokens, Word::Else)?;
+    statements(alloc, rest, room)
 }
 
 /// The statements of an IF, those after its ELSE, and ALWAYS.
@@ -169,11 +155,7 @@ fn branches(
 /// The statements between DO and LOOP.
 #[cycle(statements)]
 #[tactic(auto, unfolding(crate::specs::ReadStatements::do_with))]
-fn do_body(
-    alloc: Global,
-    tokens: &[Token],
-    room: u8,
-) -> Result<(Vec<Statement>, &[Token]), ParseFailure>
+fn do_body(alloc: Global, tokens: &[Token], room: u8) -> Reading<'_, Vec<Statement>>
     ensures { HasGivenReading (λ x. (map view_statement_tree x.0.items, x.1.now)) result (do_with (statement_in room) tokens.now) }
 {
     let rest = expect_noisy(tokens, Word::Do)?;
@@ -185,11 +167,7 @@ fn do_body(
 /// The one statement that a loop governs, which begins with neither WHILE nor UNTIL.
 #[cycle(statements)]
 #[tactic(auto, unfolding(crate::specs::ReadStatements::governed_with))]
-fn governed(
-    alloc: Global,
-    tokens: &[Token],
-    room: u8,
-) -> Result<(Vec<Statement>, &[Token]), ParseFailure>
+fn governed(alloc: Global, tokens: &[Token], room: u8) -> Reading<'_, Vec<Statement>>
     ensures { HasGivenReading (λ x. (map view_statement_tree x.0.items, x.1.now)) result (governed_with (statement_in room) tokens.now) }
 {
     let tokens = skip_symbol(tokens, Symbol::Comma);
@@ -203,11 +181,7 @@ fn governed(
 /// What a loop repeats.
 #[cycle(statements)]
 #[tactic(auto, unfolding(crate::specs::ReadStatements::body_with))]
-fn body(
-    alloc: Global,
-    tokens: &[Token],
-    room: u8,
-) -> Result<(Vec<Statement>, &[Token]), ParseFailure>
+fn body(alloc: Global, tokens: &[Token], room: u8) -> Reading<'_, Vec<Statement>>
     ensures { HasGivenReading (λ x. (statement_row (map view_statement_tree x.0.items), x.1.now)) result (body_with (statement_in room) tokens.now) }
 {
     if begins_noisy(tokens, Word::Do) {
@@ -220,12 +194,7 @@ fn body(
 /// The rest of an IF, after its first word.
 #[cycle(statements)]
 #[tactic(auto, unfolding(crate::specs::ReadStatements::if_with), using(ss_tree::specs::Views::view_if_tree_made))]
-fn if_form(
-    alloc: Global,
-    line: Line,
-    tokens: &[Token],
-    room: u8,
-) -> Result<(Statement, &[Token]), ParseFailure>
+fn if_form(alloc: Global, line: Line, tokens: &[Token], room: u8) -> Reading<'_, Statement>
     ensures { HasGivenReading (λ x. (view_statement_tree x.0, x.1.now)) result (if_with line room (statement_in room) tokens.now) }
 {
     let (condition, rest) = condition(alloc, tokens, room)?;
@@ -249,7 +218,7 @@ fn loop_form(
     head: LoopHead,
     tokens: &[Token],
     room: u8,
-) -> Result<(Statement, &[Token]), ParseFailure>
+) -> Reading<'_, Statement>
     ensures { HasGivenReading (λ x. (view_statement_tree x.0, x.1.now)) result (loop_with line room (statement_in room) (view_loop_head head) tokens.now) }
 {
     let (head, (body, rest)) = beside(head, body(alloc, tokens, room))?;
@@ -258,7 +227,6 @@ fn loop_form(
 
 /// The IF of a FIND: FOUND or NONE, and the branches.
 #[cycle(statements)]
-#[tactic(auto)]
 fn outcome_and_branches(
     alloc: Global,
     tokens: &[Token],
@@ -281,7 +249,7 @@ fn find_if_form(
     head: Head,
     tokens: &[Token],
     room: u8,
-) -> Result<(Statement, &[Token]), ParseFailure>
+) -> Reading<'_, Statement>
     ensures { HasGivenReading (λ x. (view_statement_tree x.0, x.1.now)) result (find_if_with line room (statement_in room) (view_head_tree head) tokens.now) }
 {
     let (head, (outcome, (then, otherwise), rest)) = beside(
@@ -307,7 +275,7 @@ fn find_form(
     head: Head,
     tokens: &[Token],
     room: u8,
-) -> Result<(Statement, &[Token]), ParseFailure>
+) -> Reading<'_, Statement>
     ensures { HasGivenReading (λ x. (view_statement_tree x.0, x.1.now)) result (find_with line room (statement_in room) (view_head_tree head) tokens.now) }
 {
     let (head, rest) = beside(head, find_words(tokens))?;
@@ -321,12 +289,7 @@ fn find_form(
 /// The rest of a loop or a FIND, after FOR.
 #[cycle(statements)]
 #[tactic(auto, unfolding(crate::specs::ReadStatements::for_with))]
-fn for_form(
-    alloc: Global,
-    line: Line,
-    tokens: &[Token],
-    room: u8,
-) -> Result<(Statement, &[Token]), ParseFailure>
+fn for_form(alloc: Global, line: Line, tokens: &[Token], room: u8) -> Reading<'_, Statement>
     ensures { HasGivenReading (λ x. (view_statement_tree x.0, x.1.now)) result (for_with line room (statement_in room) tokens.now) }
 {
     let (head, rest) = for_head(alloc, tokens, room)?;
@@ -346,7 +309,7 @@ fn guarded_form(
     kind: GuardKind,
     tokens: &[Token],
     room: u8,
-) -> Result<(Statement, &[Token]), ParseFailure>
+) -> Reading<'_, Statement>
     ensures { HasGivenReading (λ x. (view_statement_tree x.0, x.1.now)) result (guarded_with line room (statement_in room) kind tokens.now) }
 {
     let (head, rest) = guarded_head(alloc, kind, tokens, room)?;
@@ -356,14 +319,13 @@ fn guarded_form(
 /// The rest of a statement that may have others in it, after its first word, where this many levels of nesting may be
 /// opened.
 #[cycle(statements)]
-#[tactic(auto)]
 fn nested_form(
     alloc: Global,
     line: Line,
     word: Word,
     tokens: &[Token],
     room: u8,
-) -> Result<(Statement, &[Token]), ParseFailure>
+) -> Reading<'_, Statement>
     ensures { HasGivenReading (λ x. (view_statement_tree x.0, x.1.now)) result (nested_in room (statement_in room) line word tokens.now) }
 {
     if room == 0 {
@@ -381,11 +343,7 @@ fn nested_form(
 /// A statement, where this many levels of nesting, itself among them, may be opened.
 #[cycle(statements)]
 #[tactic(auto, unfolding(crate::specs::ReadStatements::statement_in))]
-fn statement(
-    alloc: Global,
-    tokens: &[Token],
-    room: u8,
-) -> Result<(Statement, &[Token]), ParseFailure>
+fn statement(alloc: Global, tokens: &[Token], room: u8) -> Reading<'_, Statement>
     ensures { HasGivenReading (λ x. (view_statement_tree x.0, x.1.now)) result (statement_in room tokens.now) }
 {
     if room == 0 {

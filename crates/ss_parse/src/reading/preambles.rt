@@ -2,17 +2,16 @@
 
 ghost use Rattle.std.specs.Prelude.{◌≡◌, None, map};
 ghost use Rattle.ss_tree.specs.View.{view_clause, view_order, view_preamble};
-ghost use Rattle.ss_parse_expressions.specs.Reading.{HasGivenReading, word, begins, expect, after_dropped, closed, maybe_list, begins_more, taken, in_table};
-ghost use Rattle.ss_lex.specs.declared.word.Word.TheVariants.{Variable};
+ghost use Rattle.ss_parse_expressions.specs.Reading.{HasGivenReading, word, begins, expect, after_dropped, closed, apply, maybe_list, begins_more, taken, in_table};
+ghost use Rattle.ss_lex.specs.declared.word.Word.TheVariants.{Entities, Variable};
 ghost use Rattle.ss_parse_expressions.specs.ReadWords.{names};
 ghost use Rattle.ss_parse.specs.SpelledPreambles.{group_after};
 ghost use Rattle.ss_parse_expressions.specs.WordTables.{mode_of_word};
-ghost use Rattle.ss_parse.specs.ReadPreambles.{then_rank, keys, statistic_kind, found, clause, begins_clause, clause_list, clauses, ranking, order, permanent_at, temporary_at, notices_at, every_at, normally_at, system_at, define_end, define_at, priority_at, break_at, statistics_at, preamble_at, begins_preamble, preamble_in, preambles, whole_preamble};
+ghost use Rattle.ss_parse.specs.ReadPreambles.{then_rank, keys, statistic_kind, found, clause, begins_clause, clause_list, clauses, ranking, order, notices_at, every_at, normally_at, system_at, define_end, define_at, priority_at, break_at, statistics_at, preamble_at, begins_preamble, preamble_in, preambles, whole_preamble};
 
 use ss_base::{Line, Name};
 use ss_lex::{Symbol, Token, TokenKind, Word};
 use ss_parse_expressions::classes::{WordClass, skip_class};
-use ss_parse_expressions::failure::ParseFailure;
 use ss_parse_expressions::names::{begins_more_names, items, name, names};
 use ss_parse_expressions::steps::{alone, beside, joined};
 use ss_parse_expressions::tables::{begins_word_of, take_word_of};
@@ -20,6 +19,7 @@ use ss_parse_expressions::tokens::{
     after_first, begins_symbol, begins_word, expect_word, skip_separator, skip_word, syntax,
 };
 use ss_parse_expressions::words::{ModeWords, RankWords, StatisticWords};
+use ss_parse_statements::reading::Reading;
 use ss_parse_statements::statements::{begins_noisy, expect_noisy};
 use ss_tree::preamble::{
     ClassKind, Clause, ModeWord, NamedKey, NamedStatistic, PreambleStatement, SetOrder,
@@ -28,7 +28,7 @@ use ss_tree::preamble::{
 use std::alloc::Global;
 
 /// The end of a DEFINE of variables: a mode.
-pub fn variable_mode(tokens: &[Token]) -> Result<(ModeWord, &[Token]), ParseFailure>
+pub fn variable_mode(tokens: &[Token]) -> Reading<'_, ModeWord>
     ensures { HasGivenReading (λ x. (x.0, x.1.now)) result (closed (taken (in_table mode_of_word)) (expect (word Variable)) tokens.now) }
 {
     let (mode, rest) = take_word_of::<ModeWords>(tokens)?;
@@ -38,7 +38,7 @@ pub fn variable_mode(tokens: &[Token]) -> Result<(ModeWord, &[Token]), ParseFail
 
 /// A clause of an EVERY.
 #[tactic(auto, unfolding(crate::specs::ReadPreambles::clause))]
-fn clause(alloc: Global, tokens: &[Token]) -> Result<(Clause, &[Token]), ParseFailure>
+fn clause(alloc: Global, tokens: &[Token]) -> Reading<'_, Clause>
     ensures { HasGivenReading (λ x. (view_clause x.0, x.1.now)) result (clause tokens.now) }
 {
     if begins_word(tokens, Word::Has) {
@@ -57,7 +57,7 @@ fn clause(alloc: Global, tokens: &[Token]) -> Result<(Clause, &[Token]), ParseFa
 }
 
 /// THEN BY, and HIGH or LOW.
-fn then_rank(tokens: &[Token]) -> Result<(bool, &[Token]), ParseFailure>
+fn then_rank(tokens: &[Token]) -> Reading<'_, bool>
     ensures { HasGivenReading (λ x. (x.0, x.1.now)) result (then_rank tokens.now) }
 {
     let rest = expect_noisy(tokens, Word::Then)?;
@@ -67,7 +67,7 @@ fn then_rank(tokens: &[Token]) -> Result<(bool, &[Token]), ParseFailure>
 
 /// Keys, the further ones after THEN BY.
 #[tactic(auto, unfolding(crate::specs::ReadPreambles::key))]
-fn keys(alloc: Global, tokens: &[Token]) -> Result<(Vec<NamedKey>, &[Token]), ParseFailure>
+fn keys(alloc: Global, tokens: &[Token]) -> Reading<'_, Vec<NamedKey>>
     ensures { HasGivenReading (λ x. (x.0.items, x.1.now)) result (keys tokens.now) }
 {
     let (high, from) = take_word_of::<RankWords>(tokens)?;
@@ -75,19 +75,16 @@ fn keys(alloc: Global, tokens: &[Token]) -> Result<(Vec<NamedKey>, &[Token]), Pa
     let mut all = alone(alloc, NamedKey { high, name: first })?;
     let mut rest = after_first(from);
     'more: while begins_noisy(rest, Word::Then) {
-        let (higher, after_dropped) = then_rank(rest)?;
-        let next = name(after_dropped)?;
-        all.push(NamedKey {
-            high: higher,
-            name: next,
-        })?;
+        let (high, after_dropped) = then_rank(rest)?;
+        let name = name(after_dropped)?;
+        all.push(NamedKey { high, name })?;
         rest = after_first(after_dropped);
     }
     Ok((all, rest))
 }
 
 /// AS and the kind of a statistic.
-fn statistic_kind(tokens: &[Token]) -> Result<(StatisticKind, &[Token]), ParseFailure>
+fn statistic_kind(tokens: &[Token]) -> Reading<'_, StatisticKind>
     ensures { HasGivenReading (λ x. (x.0, x.1.now)) result (statistic_kind tokens.now) }
 {
     let rest = expect_word(tokens, Word::As)?;
@@ -96,7 +93,7 @@ fn statistic_kind(tokens: &[Token]) -> Result<(StatisticKind, &[Token]), ParseFa
 
 /// Statistics with separators between.
 #[tactic(auto, unfolding(crate::specs::ReadPreambles::statistic))]
-fn found(alloc: Global, tokens: &[Token]) -> Result<(Vec<NamedStatistic>, &[Token]), ParseFailure>
+fn found(alloc: Global, tokens: &[Token]) -> Reading<'_, Vec<NamedStatistic>>
     ensures { HasGivenReading (λ x. (x.0.items, x.1.now)) result (found tokens.now) }
 {
     let first = name(tokens)?;
@@ -104,12 +101,9 @@ fn found(alloc: Global, tokens: &[Token]) -> Result<(Vec<NamedStatistic>, &[Toke
     let mut all = alone(alloc, NamedStatistic { name: first, kind })?;
     'more: while begins_more_names(rest) {
         let from = skip_separator(rest);
-        let next = name(from)?;
-        let (measure, after) = statistic_kind(after_first(from))?;
-        all.push(NamedStatistic {
-            name: next,
-            kind: measure,
-        })?;
+        let name = name(from)?;
+        let (kind, after) = statistic_kind(after_first(from))?;
+        all.push(NamedStatistic { name, kind })?;
         rest = after;
     }
     Ok((all, rest))
@@ -137,7 +131,7 @@ fn begins_more_clauses(tokens: &[Token]) -> bool
 }
 
 /// Clauses with separators between.
-fn clause_list(alloc: Global, tokens: &[Token]) -> Result<(Vec<Clause>, &[Token]), ParseFailure>
+fn clause_list(alloc: Global, tokens: &[Token]) -> Reading<'_, Vec<Clause>>
     ensures { HasGivenReading (λ x. (map view_clause x.0.items, x.1.now)) result (clause_list tokens.now) }
 {
     let (first, mut rest) = clause(alloc, tokens)?;
@@ -151,7 +145,7 @@ fn clause_list(alloc: Global, tokens: &[Token]) -> Result<(Vec<Clause>, &[Token]
 }
 
 /// The clauses of an EVERY, if there are any.
-fn clauses(alloc: Global, tokens: &[Token]) -> Result<(Vec<Clause>, &[Token]), ParseFailure>
+fn clauses(alloc: Global, tokens: &[Token]) -> Reading<'_, Vec<Clause>>
     ensures { HasGivenReading (λ x. (map view_clause x.0.items, x.1.now)) result (clauses tokens.now) }
 {
     if begins_clause(tokens) {
@@ -162,7 +156,7 @@ fn clauses(alloc: Global, tokens: &[Token]) -> Result<(Vec<Clause>, &[Token]), P
 }
 
 /// The ranking of a set, after SET.
-fn ranking(alloc: Global, tokens: &[Token]) -> Result<(SetOrder, &[Token]), ParseFailure>
+fn ranking(alloc: Global, tokens: &[Token]) -> Reading<'_, SetOrder>
     ensures { HasGivenReading (λ x. (view_order x.0, x.1.now)) result (ranking tokens.now) }
 {
     if !begins_word(tokens, Word::Ranked) {
@@ -175,7 +169,7 @@ fn ranking(alloc: Global, tokens: &[Token]) -> Result<(SetOrder, &[Token]), Pars
 
 /// How a set is ordered.
 #[tactic(auto, unfolding(crate::specs::ReadPreambles::order))]
-fn order(alloc: Global, tokens: &[Token]) -> Result<(SetOrder, &[Token]), ParseFailure>
+fn order(alloc: Global, tokens: &[Token]) -> Reading<'_, SetOrder>
     ensures { HasGivenReading (λ x. (view_order x.0, x.1.now)) result (order tokens.now) }
 {
     if begins_word(tokens, Word::Fifo) {
@@ -190,30 +184,16 @@ fn order(alloc: Global, tokens: &[Token]) -> Result<(SetOrder, &[Token]), ParseF
     }
 }
 
-/// The rest of PERMANENT ENTITIES, after its first word.
-#[tactic(auto, unfolding(crate::specs::ReadPreambles::permanent_at))]
-fn permanent(line: Line, tokens: &[Token]) -> Result<(PreambleStatement, &[Token]), ParseFailure>
-    ensures { HasGivenReading (λ x. (view_preamble x.0, x.1.now)) result (permanent_at line tokens.now) }
+/// The rest of PERMANENT or TEMPORARY ENTITIES, after its first word: this statement.
+fn entities(group: PreambleStatement, tokens: &[Token]) -> Reading<'_, PreambleStatement>
+    ensures { HasGivenReading (λ x. (view_preamble x.0, x.1.now)) result (apply (λ u. view_preamble group) (expect (word Entities)) tokens.now) }
 {
-    let rest = expect_word(tokens, Word::Entities)?;
-    Ok((PreambleStatement::PermanentEntities { line }, rest))
-}
-
-/// The rest of TEMPORARY ENTITIES, after its first word.
-#[tactic(auto, unfolding(crate::specs::ReadPreambles::temporary_at))]
-fn temporary(line: Line, tokens: &[Token]) -> Result<(PreambleStatement, &[Token]), ParseFailure>
-    ensures { HasGivenReading (λ x. (view_preamble x.0, x.1.now)) result (temporary_at line tokens.now) }
-{
-    let rest = expect_word(tokens, Word::Entities)?;
-    Ok((PreambleStatement::TemporaryEntities { line }, rest))
+    let (group, rest) = beside(group, expect_word(tokens, Word::Entities))?;
+    Ok((group, rest))
 }
 
 /// The names after this word, if it is there.
-pub fn names_after(
-    alloc: Global,
-    tokens: &[Token],
-    wanted: Word,
-) -> Result<(Vec<Name>, &[Token]), ParseFailure>
+pub fn names_after(alloc: Global, tokens: &[Token], wanted: Word) -> Reading<'_, Vec<Name>>
     ensures { HasGivenReading (λ x. (x.0.items, x.1.now)) result (maybe_list (begins (word wanted)) (after_dropped (expect (word wanted)) names) tokens.now) }
 {
     if !begins_word(tokens, wanted) {
@@ -224,11 +204,7 @@ pub fn names_after(
 
 /// The rest of EVENT NOTICES, after its first word.
 #[tactic(auto, unfolding(crate::specs::ReadPreambles::notices_at))]
-fn notices(
-    alloc: Global,
-    line: Line,
-    tokens: &[Token],
-) -> Result<(PreambleStatement, &[Token]), ParseFailure>
+fn notices(alloc: Global, line: Line, tokens: &[Token]) -> Reading<'_, PreambleStatement>
     ensures { HasGivenReading (λ x. (view_preamble x.0, x.1.now)) result (notices_at line tokens.now) }
 {
     let rest = expect_word(tokens, Word::Notices)?;
@@ -243,28 +219,26 @@ fn every(
     group: Option<ClassKind>,
     line: Line,
     tokens: &[Token],
-) -> Result<(PreambleStatement, &[Token]), ParseFailure>
+) -> Reading<'_, PreambleStatement>
     ensures { HasGivenReading (λ x. (view_preamble x.0, x.1.now)) result (every_at group line tokens.now) }
 {
-    match group {
-        None => Err(syntax(tokens)),
-        Some(kind) => {
-            let class = name(tokens)?;
-            let (clauses, rest) = clauses(alloc, after_first(tokens))?;
-            let statement = PreambleStatement::Every {
-                line,
-                kind,
-                class,
-                clauses,
-            };
-            Ok((statement, rest))
-        }
-    }
+    let Some(kind) = group else {
+        return Err(syntax(tokens));
+    };
+    let class = name(tokens)?;
+    let (clauses, rest) = clauses(alloc, after_first(tokens))?;
+    let statement = PreambleStatement::Every {
+        line,
+        kind,
+        class,
+        clauses,
+    };
+    Ok((statement, rest))
 }
 
 /// The rest of NORMALLY, after its first word.
 #[tactic(auto, unfolding(crate::specs::ReadPreambles::normally_at))]
-fn normally(line: Line, tokens: &[Token]) -> Result<(PreambleStatement, &[Token]), ParseFailure>
+fn normally(line: Line, tokens: &[Token]) -> Reading<'_, PreambleStatement>
     ensures { HasGivenReading (λ x. (view_preamble x.0, x.1.now)) result (normally_at line tokens.now) }
 {
     let rest = expect_noisy(tokens, Word::Mode)?;
@@ -275,11 +249,7 @@ fn normally(line: Line, tokens: &[Token]) -> Result<(PreambleStatement, &[Token]
 
 /// The rest of THE SYSTEM OWNS, after its first word.
 #[tactic(auto, unfolding(crate::specs::ReadPreambles::system_at))]
-fn system(
-    alloc: Global,
-    line: Line,
-    tokens: &[Token],
-) -> Result<(PreambleStatement, &[Token]), ParseFailure>
+fn system(alloc: Global, line: Line, tokens: &[Token]) -> Reading<'_, PreambleStatement>
     ensures { HasGivenReading (λ x. (view_preamble x.0, x.1.now)) result (system_at line tokens.now) }
 {
     let rest = expect_word(tokens, Word::System)?;
@@ -294,7 +264,7 @@ fn define_end(
     line: Line,
     names: Vec<Name>,
     tokens: &[Token],
-) -> Result<(PreambleStatement, &[Token]), ParseFailure>
+) -> Reading<'_, PreambleStatement>
     ensures { HasGivenReading (λ x. (view_preamble x.0, x.1.now)) result (define_end line names.items tokens.now) }
 {
     if begins_word_of::<ModeWords>(tokens) {
@@ -311,11 +281,7 @@ fn define_end(
 
 /// The rest of DEFINE, after its first word.
 #[tactic(auto, unfolding(crate::specs::ReadPreambles::define_at))]
-fn define(
-    alloc: Global,
-    line: Line,
-    tokens: &[Token],
-) -> Result<(PreambleStatement, &[Token]), ParseFailure>
+fn define(alloc: Global, line: Line, tokens: &[Token]) -> Reading<'_, PreambleStatement>
     ensures { HasGivenReading (λ x. (view_preamble x.0, x.1.now)) result (define_at line tokens.now) }
 {
     let (names, rest) = names(alloc, tokens)?;
@@ -325,11 +291,7 @@ fn define(
 
 /// The rest of PRIORITY ORDER, after its first word.
 #[tactic(auto, unfolding(crate::specs::ReadPreambles::priority_at))]
-fn priority(
-    alloc: Global,
-    line: Line,
-    tokens: &[Token],
-) -> Result<(PreambleStatement, &[Token]), ParseFailure>
+fn priority(alloc: Global, line: Line, tokens: &[Token]) -> Reading<'_, PreambleStatement>
     ensures { HasGivenReading (λ x. (view_preamble x.0, x.1.now)) result (priority_at line tokens.now) }
 {
     let rest = expect_word(tokens, Word::Order)?;
@@ -340,11 +302,7 @@ fn priority(
 
 /// The rest of BREAK, after its first word.
 #[tactic(auto, unfolding(crate::specs::ReadPreambles::break_at))]
-fn break_form(
-    alloc: Global,
-    line: Line,
-    tokens: &[Token],
-) -> Result<(PreambleStatement, &[Token]), ParseFailure>
+fn break_form(alloc: Global, line: Line, tokens: &[Token]) -> Reading<'_, PreambleStatement>
     ensures { HasGivenReading (λ x. (view_preamble x.0, x.1.now)) result (break_at line tokens.now) }
 {
     let class = name(tokens)?;
@@ -361,7 +319,7 @@ fn statistics(
     line: Line,
     weighting: Weighting,
     tokens: &[Token],
-) -> Result<(PreambleStatement, &[Token]), ParseFailure>
+) -> Reading<'_, PreambleStatement>
     ensures { HasGivenReading (λ x. (view_preamble x.0, x.1.now)) result (statistics_at line weighting tokens.now) }
 {
     let (statistics, rest) = found(alloc, tokens)?;
@@ -377,19 +335,19 @@ fn statistics(
 }
 
 /// The rest of a statement of a preamble, after its first word, in a group of this kind.
-#[tactic(auto, unfolding(crate::specs::ReadPreambles::preamble_at))]
+#[tactic(auto, unfolding(crate::specs::ReadPreambles::preamble_at, crate::specs::ReadPreambles::permanent_at, crate::specs::ReadPreambles::temporary_at))]
 fn statement_rest(
     alloc: Global,
     group: Option<ClassKind>,
     line: Line,
     word: Word,
     tokens: &[Token],
-) -> Result<(PreambleStatement, &[Token]), ParseFailure>
+) -> Reading<'_, PreambleStatement>
     ensures { HasGivenReading (λ x. (view_preamble x.0, x.1.now)) result (preamble_at group line word tokens.now) }
 {
     match word {
-        Word::Permanent => permanent(line, tokens),
-        Word::Temporary => temporary(line, tokens),
+        Word::Permanent => entities(PreambleStatement::PermanentEntities { line }, tokens),
+        Word::Temporary => entities(PreambleStatement::TemporaryEntities { line }, tokens),
         Word::Event => notices(alloc, line, tokens),
         Word::Every => every(alloc, group, line, tokens),
         Word::Normally => normally(line, tokens),
@@ -434,7 +392,7 @@ fn preamble_statement(
     alloc: Global,
     group: Option<ClassKind>,
     tokens: &[Token],
-) -> Result<(PreambleStatement, &[Token]), ParseFailure>
+) -> Reading<'_, PreambleStatement>
     ensures { HasGivenReading (λ x. (view_preamble x.0, x.1.now)) result (preamble_in group tokens.now) }
 {
     match tokens {
@@ -459,10 +417,7 @@ fn group_after(group: Option<ClassKind>, statement: &PreambleStatement) -> Optio
 }
 
 /// The statements of a preamble.
-fn preamble_statements(
-    alloc: Global,
-    tokens: &[Token],
-) -> Result<(Vec<PreambleStatement>, &[Token]), ParseFailure>
+fn preamble_statements(alloc: Global, tokens: &[Token]) -> Reading<'_, Vec<PreambleStatement>>
     ensures { HasGivenReading (λ x. (map view_preamble x.0.items, x.1.now)) result (preambles None tokens.now) }
 {
     let mut all = Vec::new(alloc);
@@ -479,10 +434,7 @@ fn preamble_statements(
 
 /// A preamble, if there is one.
 #[tactic(auto, unfolding(crate::specs::ReadPreambles::whole_preamble))]
-pub fn preamble(
-    alloc: Global,
-    tokens: &[Token],
-) -> Result<(Vec<PreambleStatement>, &[Token]), ParseFailure>
+pub fn preamble(alloc: Global, tokens: &[Token]) -> Reading<'_, Vec<PreambleStatement>>
     ensures { HasGivenReading (λ x. (map view_preamble x.0.items, x.1.now)) result (whole_preamble tokens.now) }
 {
     if !begins_word(tokens, Word::Preamble) {

@@ -16,6 +16,7 @@ use ss_parse_expressions::names::{name, names};
 use ss_parse_expressions::nesting::levels;
 use ss_parse_expressions::steps::{beside, joined};
 use ss_parse_expressions::tokens::{after_first, begins_word, expect_word, skip_word, syntax};
+use ss_parse_statements::reading::Reading;
 use ss_parse_statements::statements::statements;
 use ss_tree::preamble::ModeWord;
 use ss_tree::program::{LocalDefinition, Program, Section, SectionKind};
@@ -34,7 +35,7 @@ fn line_at(tokens: &[Token]) -> Line
 
 /// Whether SAVING THE EVENT NOTICE is first.
 #[tactic(auto, unfolding(crate::specs::ReadPrograms::saving))]
-fn saving(tokens: &[Token]) -> Result<(bool, &[Token]), ParseFailure>
+fn saving(tokens: &[Token]) -> Reading<'_, bool>
     ensures { HasGivenReading (λ x. (x.0, x.1.now)) result (saving tokens.now) }
 {
     if !begins_word(tokens, Word::Saving) {
@@ -48,7 +49,7 @@ fn saving(tokens: &[Token]) -> Result<(bool, &[Token]), ParseFailure>
 
 /// The rest of the header of a routine, after its first word.
 #[tactic(auto, unfolding(crate::specs::ReadPrograms::routine_kind))]
-fn routine(alloc: Global, tokens: &[Token]) -> Result<(SectionKind, &[Token]), ParseFailure>
+fn routine(alloc: Global, tokens: &[Token]) -> Reading<'_, SectionKind>
     ensures { HasGivenReading (λ x. (view_kind x.0, x.1.now)) result (routine_kind tokens.now) }
 {
     let rest = skip_class(tokens, WordClass::Towards);
@@ -66,7 +67,7 @@ fn routine(alloc: Global, tokens: &[Token]) -> Result<(SectionKind, &[Token]), P
 
 /// The rest of the header of an event routine, after its first word.
 #[tactic(auto, unfolding(crate::specs::ReadPrograms::event_kind))]
-fn event(alloc: Global, tokens: &[Token]) -> Result<(SectionKind, &[Token]), ParseFailure>
+fn event(alloc: Global, tokens: &[Token]) -> Reading<'_, SectionKind>
     ensures { HasGivenReading (λ x. (view_kind x.0, x.1.now)) result (event_kind tokens.now) }
 {
     let name = name(tokens)?;
@@ -81,11 +82,7 @@ fn event(alloc: Global, tokens: &[Token]) -> Result<(SectionKind, &[Token]), Par
 }
 
 /// The rest of the header of a section, after its first word.
-fn section_kind(
-    alloc: Global,
-    word: Word,
-    tokens: &[Token],
-) -> Result<(SectionKind, &[Token]), ParseFailure>
+fn section_kind(alloc: Global, word: Word, tokens: &[Token]) -> Reading<'_, SectionKind>
     ensures { HasGivenReading (λ x. (view_kind x.0, x.1.now)) result (kind_after word tokens.now) }
 {
     match word {
@@ -98,35 +95,29 @@ fn section_kind(
 
 /// Names and their mode, after DEFINE.
 #[tactic(auto, unfolding(crate::specs::ReadPrograms::variables))]
-fn variables(
-    alloc: Global,
-    tokens: &[Token],
-) -> Result<(Vec<Name>, ModeWord, &[Token]), ParseFailure>
-    ensures { HasGivenReading (λ x. ((x.0.items, x.1), x.2.now)) result (variables tokens.now) }
+fn variables(alloc: Global, tokens: &[Token]) -> Reading<'_, (Vec<Name>, ModeWord)>
+    ensures { HasGivenReading (λ x. ((x.0.0.items, x.0.1), x.1.now)) result (variables tokens.now) }
 {
     let (names, rest) = names(alloc, tokens)?;
     let (names, rest) = beside(names, expect_word(rest, Word::As))?;
     let mode = variable_mode(skip_class(rest, WordClass::Article));
     let (names, (mode, rest)) = beside(names, mode)?;
-    Ok((names, mode, rest))
+    Ok(((names, mode), rest))
 }
 
 /// A DEFINE at the head of a section's body.
 #[tactic(auto, unfolding(crate::specs::ReadPrograms::definition_at))]
-fn definition(alloc: Global, tokens: &[Token]) -> Result<(LocalDefinition, &[Token]), ParseFailure>
+fn definition(alloc: Global, tokens: &[Token]) -> Reading<'_, LocalDefinition>
     ensures { HasGivenReading (λ x. (view_definition x.0, x.1.now)) result (definition tokens.now) }
 {
     let line = line_at(tokens);
     let rest = expect_word(tokens, Word::Define)?;
-    let (names, mode, rest) = variables(alloc, rest)?;
+    let ((names, mode), rest) = variables(alloc, rest)?;
     Ok((LocalDefinition { line, names, mode }, rest))
 }
 
 /// The DEFINEs at the head of a section's body.
-fn definitions(
-    alloc: Global,
-    tokens: &[Token],
-) -> Result<(Vec<LocalDefinition>, &[Token]), ParseFailure>
+fn definitions(alloc: Global, tokens: &[Token]) -> Reading<'_, Vec<LocalDefinition>>
     ensures { HasGivenReading (λ x. (map view_definition x.0.items, x.1.now)) result (definitions tokens.now) }
 {
     let mut all = Vec::new(alloc);
@@ -161,7 +152,7 @@ fn section_rest(
     word: Word,
     tokens: &[Token],
     room: u8,
-) -> Result<(Section, &[Token]), ParseFailure>
+) -> Reading<'_, Section>
     ensures { HasGivenReading (λ x. (view_section x.0, x.1.now)) result (section_at room line word tokens.now) }
 {
     let (kind, rest) = section_kind(alloc, word, tokens)?;
@@ -176,7 +167,7 @@ fn section_rest(
 }
 
 /// A section.
-fn section(alloc: Global, tokens: &[Token], room: u8) -> Result<(Section, &[Token]), ParseFailure>
+fn section(alloc: Global, tokens: &[Token], room: u8) -> Reading<'_, Section>
     ensures { HasGivenReading (λ x. (view_section x.0, x.1.now)) result (section_in room tokens.now) }
 {
     match tokens {
@@ -202,11 +193,7 @@ fn begins_section(tokens: &[Token]) -> bool
 }
 
 /// The sections of a program.
-fn sections(
-    alloc: Global,
-    tokens: &[Token],
-    room: u8,
-) -> Result<(Vec<Section>, &[Token]), ParseFailure>
+fn sections(alloc: Global, tokens: &[Token], room: u8) -> Reading<'_, Vec<Section>>
     ensures { HasGivenReading (λ x. (map view_section x.0.items, x.1.now)) result (rows begins_section (section_in room) tokens.now) }
 {
     let mut all = Vec::new(alloc);
@@ -221,7 +208,7 @@ fn sections(
 
 /// A program, where this many levels of nesting, a statement's own among them, may be opened.
 #[tactic(auto, unfolding(crate::specs::ReadPrograms::program_in))]
-fn parts(alloc: Global, tokens: &[Token], room: u8) -> Result<(Program, &[Token]), ParseFailure>
+fn parts(alloc: Global, tokens: &[Token], room: u8) -> Reading<'_, Program>
     ensures { HasGivenReading (λ x. (view_program_tree x.0, x.1.now)) result (program_in room tokens.now) }
 {
     let (preamble, rest) = preamble(alloc, tokens)?;

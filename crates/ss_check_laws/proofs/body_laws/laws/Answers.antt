@@ -1,4 +1,4 @@
-use Rattle.ss_check_laws.proofs.Bodies.{bodies_resolve}
+use Rattle.ss_check_laws.proofs.Statements.{bodies_resolve}
 use Rattle.ss_check_laws.proofs.body_laws.laws.Goals as goal
 
 pub returns : goal.returns

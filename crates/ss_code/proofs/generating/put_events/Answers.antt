@@ -1,6 +1,6 @@
-use Rattle.std.proofs.Common.{◌≡◌, ◌+◌, ◌<◌, length, get_or, [], ◌∷◌, ◌++◌, map, take, ap, sym, ◌∙◌, subst}
-use Rattle.std.proofs.lemmas.List.{take_more, map-append}
+use Rattle.std.proofs.Common.{◌≡◌, ◌+◌, ◌<◌, length, get_or, [], ◌∷◌, ◌++◌, map, take, sym, subst}
 use Rattle.ss_program.specs.View.{view_event}
+use Rattle.ss_code_pieces.proofs.Steps.{next_taken}
 use Rattle.ss_code.specs.Sections.{HasPutEvents}
 use Rattle.ss_code.proofs.Sections.{no_events_put, events_put}
 use Rattle.ss_code.proofs.generating.put_events.Goals as goal
@@ -17,8 +17,7 @@ loop-event-preserved c =
     let same = c.deref-event-items.ensures.value in
     let below = subst (λ ys. l.event-index < length ys) same c.loop-event-test.true in
     let is = subst (λ ys. item ≡ get_or ys l.event-index item) same c.event-item.is in
-    let more : take (l.event-index + 1) xs ≡ take l.event-index xs ++ item ∷ [] = take_more xs l.event-index item below ∙ ap (λ e. take l.event-index xs ++ e ∷ []) (sym is) in
-    let seen : map view_event (take (l.event-index + 1) xs) ≡ map view_event (take l.event-index xs) ++ view_event item ∷ [] = ap (map view_event) more ∙ map-append view_event (take l.event-index xs) (item ∷ []) in
+    let seen = next_taken view_event xs l.event-index item below is in
     let g2 = c.put_event.new.generator in
     let c2 = c.put_event.new.code in
     let p2 = c.put_event.new.prints.items in

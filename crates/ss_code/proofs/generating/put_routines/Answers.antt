@@ -1,6 +1,6 @@
-use Rattle.std.proofs.Common.{◌≡◌, ◌+◌, ◌<◌, length, get_or, [], ◌∷◌, ◌++◌, map, take, ap, sym, ◌∙◌, subst}
-use Rattle.std.proofs.lemmas.List.{take_more, map-append}
+use Rattle.std.proofs.Common.{◌≡◌, ◌+◌, ◌<◌, length, get_or, [], ◌∷◌, ◌++◌, map, take, sym, subst}
 use Rattle.ss_program.specs.View.{view_routine}
+use Rattle.ss_code_pieces.proofs.Steps.{next_taken}
 use Rattle.ss_code.specs.Sections.{HasPutRoutines}
 use Rattle.ss_code.proofs.Sections.{no_routines_put, routines_put}
 use Rattle.ss_code.proofs.generating.put_routines.Goals as goal
@@ -17,8 +17,7 @@ loop-routine-preserved c =
     let same = c.deref-routine-items.ensures.value in
     let below = subst (λ ys. l.routine-index < length ys) same c.loop-routine-test.true in
     let is = subst (λ ys. item ≡ get_or ys l.routine-index item) same c.routine-item.is in
-    let more : take (l.routine-index + 1) xs ≡ take l.routine-index xs ++ item ∷ [] = take_more xs l.routine-index item below ∙ ap (λ e. take l.routine-index xs ++ e ∷ []) (sym is) in
-    let seen : map view_routine (take (l.routine-index + 1) xs) ≡ map view_routine (take l.routine-index xs) ++ view_routine item ∷ [] = ap (map view_routine) more ∙ map-append view_routine (take l.routine-index xs) (item ∷ []) in
+    let seen = next_taken view_routine xs l.routine-index item below is in
     let g2 = c.put_routine.new.generator in
     let c2 = c.put_routine.new.code in
     let p2 = c.put_routine.new.prints.items in

@@ -1,4 +1,4 @@
-use Rattle.std.proofs.Common.{◌<◌, length, sym, ap, ◌∙◌, Some, false-eqb, arith}
+use Rattle.std.proofs.Common.{sym, ap, ◌∙◌, Some, arith}
 use Rattle.std.proofs.lemmas.Bool.{eqb-true}
 use Rattle.ss_lex.proofs.CodeLines.{stepped, read_none, read_more, read_fault, read_cut, read_all}
 use Rattle.ss_lex.proofs.code.code_line.Goals as goal
@@ -8,28 +8,23 @@ pieces-init c = read_none c.args.bytes.now c.args.start c.args.line.0 c.args.lef
 
 pub returns-in-Some-clause-err : goal.returns-in-Some-clause-err
 returns-in-Some-clause-err c =
-    let some : 0 < length c.pieces.rest.now = omega (arith, false-eqb _ 0 c.pieces-test.ensures) in
-    λ _. read_fault _ _ _ _ _ _ _ _ _ _ _ _ c.pieces.invariant (stepped _ _ _ some c.step-meaning.ensures) (sym c.in-Some.ensures) ∙ ap (λ e. Some e) (sym c.fault_refusal.ensures)
+    λ _. read_fault _ _ _ _ _ _ _ _ _ _ _ _ c.pieces.invariant (stepped _ _ _ c.pieces-test.ensures c.step-meaning.ensures) (sym c.in-Some.ensures) ∙ ap (λ e. Some e) (sym c.fault_refusal.ensures)
 
 pub overflow_sub-at : goal.overflow_sub-at
 overflow_sub-at c =
-    let some : 0 < length c.pieces.rest.now = omega (arith, false-eqb _ 0 c.pieces-test.ensures) in
-    omega (arith, (stepped _ _ _ some c.step-meaning.ensures).less)
+    omega (arith, (stepped _ _ _ c.pieces-test.ensures c.step-meaning.ensures).less)
 
 pub overflow_add-at : goal.overflow_add-at
 overflow_add-at c =
-    let some : 0 < length c.pieces.rest.now = omega (arith, false-eqb _ 0 c.pieces-test.ensures) in
-    omega (arith, (stepped _ _ _ some c.step-meaning.ensures).less, c.pieces.invariant.place)
+    omega (arith, (stepped _ _ _ c.pieces-test.ensures c.step-meaning.ensures).less, c.pieces.invariant.place)
 
 pub pieces-smaller : goal.pieces-smaller
 pieces-smaller c =
-    let some : 0 < length c.pieces.rest.now = omega (arith, false-eqb _ 0 c.pieces-test.ensures) in
-    (stepped _ _ _ some c.step-meaning.ensures).less
+    (stepped _ _ _ c.pieces-test.ensures c.step-meaning.ensures).less
 
 pub pieces-preserved : goal.pieces-preserved
 pieces-preserved c =
-    let some : 0 < length c.pieces.rest.now = omega (arith, false-eqb _ 0 c.pieces-test.ensures) in
-    read_more _ _ _ _ _ _ _ _ _ _ _ _ _ c.pieces.invariant (stepped _ _ _ some c.step-meaning.ensures) (sym c.fault_in.ensures ∙ c.in_default.is) c.in_ok-due.ensures.tokens c.in_ok-due.ensures.due
+    read_more _ _ _ _ _ _ _ _ _ _ _ _ _ c.pieces.invariant (stepped _ _ _ c.pieces-test.ensures c.step-meaning.ensures) (sym c.fault_in.ensures ∙ c.in_default.is) c.in_ok-due.ensures.tokens c.in_ok-due.ensures.due
 
 pub returns-then-due-left-clause-err : goal.returns-then-due-left-clause-err
 returns-then-due-left-clause-err c = λ _. read_cut _ _ _ _ _ _ _ _ _ c.pieces.invariant (eqb-true _ 0 (sym c.pieces-test.ensures)) c.if-due-left.true

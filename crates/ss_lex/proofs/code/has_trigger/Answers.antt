@@ -1,25 +1,21 @@
-use Rattle.std.proofs.Common.{◌<◌, length, sym, ap, ◌∙◌, false-eqb, arith}
-use Rattle.std.proofs.lemmas.Bool.{eqb-true}
-use Rattle.ss_lex.specs.Refusals.{has_trigger}
-use Rattle.ss_lex.proofs.CodeLines.{trigger_step, trigger_here, trigger_after, none_left}
+use Rattle.std.proofs.Common.{sym, ap, ◌∙◌}
+use Rattle.ss_lex.proofs.Common.{eqb-true, has_trigger}
+use Rattle.ss_lex.proofs.CodeLines.{trigger_step, trigger_next, none_left}
 use Rattle.ss_lex.proofs.code.has_trigger.Goals as goal
 
 pub returns-then-is_trigger : goal.returns-then-is_trigger
 returns-then-is_trigger c =
-    let some : 0 < length c.pieces.rest.now = omega (arith, false-eqb _ 0 c.pieces-test.ensures) in
-    let s = trigger_step _ _ _ some c.trigger_step-is_trigger.ensures in
-    sym (trigger_here _ _ _ s.0 (sym s.1 ∙ c.if-is_trigger.true)) ∙ c.pieces.invariant
+    let s = trigger_step _ _ _ c.pieces-test.ensures c.trigger_step-is_trigger.ensures in
+    sym (trigger_next _ _ _ s.0 (sym s.1 ∙ c.if-is_trigger.true)) ∙ c.pieces.invariant
 
 pub pieces-smaller : goal.pieces-smaller
 pieces-smaller c =
-    let some : 0 < length c.pieces.rest.now = omega (arith, false-eqb _ 0 c.pieces-test.ensures) in
-    (trigger_step _ _ _ some c.trigger_step-is_trigger.ensures).0.less
+    (trigger_step _ _ _ c.pieces-test.ensures c.trigger_step-is_trigger.ensures).0.less
 
 pub pieces-preserved : goal.pieces-preserved
 pieces-preserved c =
-    let some : 0 < length c.pieces.rest.now = omega (arith, false-eqb _ 0 c.pieces-test.ensures) in
-    let s = trigger_step _ _ _ some c.trigger_step-is_trigger.ensures in
-    sym (trigger_after _ _ _ s.0 (sym s.1 ∙ c.if-is_trigger.false)) ∙ c.pieces.invariant
+    let s = trigger_step _ _ _ c.pieces-test.ensures c.trigger_step-is_trigger.ensures in
+    sym (trigger_next _ _ _ s.0 (sym s.1 ∙ c.if-is_trigger.false)) ∙ c.pieces.invariant
 
 pub returns : goal.returns
 returns c = ap has_trigger (sym (none_left c.pieces.rest.now (eqb-true _ 0 (sym c.pieces-test.ensures)))) ∙ c.pieces.invariant

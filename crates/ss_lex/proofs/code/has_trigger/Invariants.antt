@@ -1,6 +1,5 @@
 use Rattle.std.proofs.Common.{◌≡◌, length}
-use Rattle.ss_lex.specs.Refusals.{has_trigger}
-use Rattle.ss_lex.specs.Reading.{pieces}
+use Rattle.ss_lex.proofs.Common.{has_trigger, pieces}
 use Rattle.ss_lex.proofs.code.has_trigger.Given as goal
 
 abbrev pub invariant-pieces : goal.invariant-pieces

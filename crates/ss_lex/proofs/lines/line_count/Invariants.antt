@@ -1,6 +1,5 @@
 use Rattle.std.proofs.Common.{◌≡◌, ◌≤◌, ◌+◌, drop, length}
-use Rattle.ss_lex.specs.Lines.{lines_of}
-use Rattle.ss_lex.specs.Reading.{count_with}
+use Rattle.ss_lex.proofs.Common.{count_with, lines_of}
 use Rattle.ss_lex.proofs.lines.line_count.Given as goal
 
 abbrev pub invariant-bytes : goal.invariant-bytes

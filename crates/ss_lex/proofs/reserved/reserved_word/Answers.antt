@@ -7,9 +7,8 @@ use Rattle.ss_lex.proofs.reserved.reserved_word.Goals as goal
 
 pub returns-in-Ok : goal.returns-in-Ok
 returns-in-Ok c =
-    let begun : Some c.in-Some.first.now ≡ slice_get c.args.spelling.now 0 = sym (ap option_copied c.in-Some.is) ∙ c.first.ensures.value in
     let at = c.in-Ok.ensures.position (λ row. row.0) (answers_always _ _ _ (λ f a r g h. search rules)) in
-    found_at c.rows_for-rows.result.now c.in-Some.first.now c.args.spelling.now c.in-Ok.i _ c.rows_for-rows.ensures begun c.in-Ok.ensures.bound (at _)
+    found_at c.rows_for-rows.result.now c.in-Some.first.now c.args.spelling.now c.in-Ok.i _ c.rows_for-rows.ensures c.in-Ok.ensures.bound (at _)
 
 pub returns-in-Err : goal.returns-in-Err
 returns-in-Err c =

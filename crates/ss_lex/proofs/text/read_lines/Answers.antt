@@ -1,6 +1,5 @@
 use Rattle.std.proofs.Common.{length, ap, sym, subst, arith, ℕ}
-use Rattle.std.proofs.lemmas.Bool.{eqb-true}
-use Rattle.ss_lex.specs.Reading.{IsLineRead}
+use Rattle.ss_lex.proofs.Common.{eqb-true, IsLineRead}
 use Rattle.ss_lex.proofs.Reading.{lines_fit, text_more, text_all}
 use Rattle.ss_lex.proofs.text.read_lines.Goals as goal
 

@@ -1,6 +1,5 @@
 use Rattle.std.proofs.Common.{sym, ap, subst, ◌∙◌, arith, List}
-use Rattle.ss_lex.specs.declared.token.Token.{Token}
-use Rattle.ss_lex.specs.Tokens.{AreTokens}
+use Rattle.ss_lex.proofs.Common.{AreTokens, Token}
 use Rattle.ss_lex.proofs.Whole.{found}
 use Rattle.ss_lex.proofs.text.read_text.Goals as goal
 

@@ -1,6 +1,6 @@
 use Rattle.std.proofs.Common.{rules, ◌≡◌, ◌<◌, ℤ, length, sym, ◌∙◌, subst, to_z, of_z, w64}
 use Rattle.ss_machine_instructions.proofs.Common.{Discipline, filed, HasMemberKeys, HasRearranged, IsCounted, Layout}
-use Rattle.ss_machine_instructions.proofs.Filing.{one, within_there, ruled_layout, ruled_filed}
+use Rattle.ss_machine_instructions.proofs.Filing.{one, ruled_layout, ruled_filed}
 use Rattle.ss_machine_instructions.proofs.sets.put_ranked.Goals as goal
 
 pub file_ranked-changed-requires-clause-keys : goal.file_ranked-changed-requires-clause-keys
@@ -25,4 +25,4 @@ returns c =
     subst (λ (y : ℤ). HasRearranged (λ h. filed h k.discipline set y x) e mid q) same_m
     (subst (λ (z : ℤ). HasRearranged (λ h. filed h k.discipline set (to_z w64 (of_z w64 m)) z) e mid q) same_x (c.file_ranked-changed.ensures k.discipline k.there)) in
     let note = subst (λ (z : ℤ). IsCounted set z q notes mid new r) same_m c.counted.ensures in
-    ruled_filed e set m mid new notes (within_there e.heap.layout.sets set c.requires.set) k.discipline x q r k.there k.fits re note
+    ruled_filed e set m mid new notes c.requires.set k.discipline x q r k.there k.fits re note

@@ -1,7 +1,7 @@
-use Rattle.std.proofs.Common.{rules, ◌≡◌, ◌<◌, ℤ, length, refl, ap, sym, ◌∙◌, subst, to_z, of_z, w64}
-use Rattle.ss_machine_instructions.proofs.Common.{HasTaken, IsCountedOut, Layout, said_of_layout, Seen, seen_of}
+use Rattle.std.proofs.Common.{rules, ◌≡◌, ℤ, subst, to_z, of_z, w64}
+use Rattle.ss_machine_instructions.proofs.Common.{IsCountedOut, said_of_layout, Seen, seen_of}
 use Rattle.ss_base.specs.declared.words.End.TheVariants as ends
-use Rattle.ss_machine_instructions.proofs.Filing.{within_there, end_taken}
+use Rattle.ss_machine_instructions.proofs.Filing.{still_within, end_taken}
 use Rattle.ss_machine_instructions.proofs.sets.take_first.Goals as goal
 
 pub invariant_of-world : goal.invariant_of-world
@@ -9,8 +9,8 @@ invariant_of-world c = let i = c.world.inside in said_of_layout i.population.lay
 
 pub counted_out-requires : goal.counted_out-requires
 counted_out-requires c =
-    let layout = c.remove_first-taken.ensures.layout ∙ ap (λ (v : Seen). v.heap.layout) c.world.view_is in
-    record { set = subst (λ (l : Layout). c.args.set < length l.sets) (sym layout) c.requires.set }
+    let i = c.world.inside in
+    record { set = still_within c.args.world.now (seen_of i.disciplines.items i.notices.items i.population i.timeline) c.remove_first-taken.new.self.layout c.args.set c.world.view_is c.remove_first-taken.ensures.layout c.requires.set }
 
 pub returns : goal.returns
 returns c =
@@ -18,9 +18,6 @@ returns c =
     let i = c.world.inside in let h = c.remove_first-taken.new.self in
     let new = c.counted_out.new.world in let q = c.remove_first-taken.result in let r = c.counted_out.result in
     let e : Seen = seen_of i.disciplines.items i.notices.items i.population i.timeline in
-    let mid : Seen = seen_of i.disciplines.items i.notices.items h i.timeline in
     let same : to_z w64 (of_z w64 m) ≡ m = search rules in
-    let there = within_there e.heap.layout.sets set (subst (λ (v : Seen). set < length v.heap.layout.sets) (sym c.world.view_is) c.requires.set) in
-    let note = subst (λ (z : ℤ). IsCountedOut set z q notes mid new r) same c.counted_out.ensures in
-    subst (λ (old : Seen). HasTaken ends.First set notes old new r m) c.world.view_is
-    (end_taken e set m mid new notes there ends.First q r refl (simp same at c.remove_first-taken.ensures.done) note)
+    let note = subst (λ (z : ℤ). IsCountedOut set z q notes (record e { heap = h }) new r) same c.counted_out.ensures in
+    end_taken e c.args.world.now set m h new notes c.world.view_is c.requires.set ends.First q r (simp same at c.remove_first-taken.ensures.done) note

@@ -1,7 +1,7 @@
-use Rattle.std.proofs.Common.{ℕ, rules, ◌≡◌, ◌+◌, ◌<◌, ℤ, List, Some, Ok, Err, length, refl, ap, sym, ◌∙◌, subst, to_z, of_z, w64, arith}
-use Rattle.ss_machine_notices.proofs.Common.{begun_event_at, cleared_long, HasEntered, HasReceived, Here, IfSome, is_single, IsOutOfMemory, IsUnbegun, Mode, modes_of, Notices, one, SectionEntry, Seen, slice_get, slice_get_read, small, State, TakeEvent}
+use Rattle.std.proofs.Common.{ℕ, rules, ◌≡◌, ◌+◌, ◌<◌, ℤ, List, Some, Ok, Err, length, ap, sym, ◌∙◌, subst, to_z, of_z, w64, arith}
+use Rattle.ss_machine_notices.proofs.Common.{begun_event_at, cleared_long, HasEntered, HasReceived, Here, IfSome, is_single, IsOutOfMemory, IsUnbegun, Mode, modes_of, Notices, one, Seen, slice_get, small, State, TakeEvent}
 use Rattle.ss_machine_notices.proofs.Beginning.{saved_within, receives_not}
-use Rattle.ss_machine_notices.proofs.Begun.{begun_class, begun_single, begun_rank, begun_said, begun_saved, begun_modes, begun_entry_within, begun_frame, frame_within}
+use Rattle.ss_machine_notices.proofs.Begun.{begun_class, begun_single, begun_rank, begun_said, begun_saved, begun_modes, begun_entry_within, begun_frame, frame_within, entry_read}
 use Rattle.ss_machine_notices.proofs.Started.{entry_is, begins, begins_fault, unbegun_as}
 use Rattle.ss_machine_notices.proofs.events.begin_event.Goals as goal
 
@@ -24,9 +24,7 @@ offset_bounds-events-rank c =
 pub enter-requires-clause-sized : goal.enter-requires-clause-sized
 enter-requires-clause-sized c =
     let z = c.requires in let es = c.args.events.now in let d = c.index-events-rank.result in let k = c.rank-rank.result in
-    let rank : k ≡ z.3.coming.ranked.rank = c.rank-rank.ensures z.3.coming.ranked z.3.place in
-    let within : k < length es = omega (arith, rank, begun_entry_within z.0 z.1 c.args.here c.args.state.now c.args.cell c.args.notice c.args.class z.3, ap length z.2) in
-    let at : slice_get z.0.run.events z.3.coming.ranked.rank ≡ Some d = ap (slice_get z.0.run.events) (sym rank) ∙ ap (λ (l : List SectionEntry). slice_get l k) (sym z.2) ∙ slice_get_read es (length es) k d refl within c.index-events-rank.is in
+    let at = entry_read z.0 z.1 c.args.here c.args.state.now c.args.cell c.args.notice c.args.class z.3 es k d z.2 (c.rank-rank.ensures z.3.coming.ranked z.3.place) c.index-events-rank.is in
     (entry_is z.0 z.1 c.args.here c.args.state.now c.args.cell c.args.notice c.args.class z.3 d at).sized
 
 pub enter-requires-clause-small : goal.enter-requires-clause-small
@@ -35,33 +33,20 @@ enter-requires-clause-small c = let z = c.requires in begun_frame z.0 z.1 c.args
 pub enter-requires-clause-place : goal.enter-requires-clause-place
 enter-requires-clause-place c = let z = c.requires in let lt = small z.0 z.1 c.args.here z.3.before (TakeEvent c.args.cell) z.3.ready in omega (arith, lt)
 
-pub unbegun-requires-clause-rank : goal.unbegun-requires-clause-rank
-unbegun-requires-clause-rank c =
+pub unbegun-requires-clause-goes : goal.unbegun-requires-clause-goes
+unbegun-requires-clause-goes c =
     let z = c.requires in
     let refused : IsOutOfMemory c.args.state.now c.enter.new.self = search rules in
     let rank : c.rank-rank.result ≡ z.3.coming.ranked.rank = c.rank-rank.ensures z.3.coming.ranked z.3.place in
-    omega (arith, rank, begun_rank z.0 z.1 c.args.here c.args.state.now c.args.cell c.args.notice c.args.class z.3, ap (λ (e : Seen). length e.notices) refused.world)
-
-pub unbegun-requires-clause-class : goal.unbegun-requires-clause-class
-unbegun-requires-clause-class c =
-    let z = c.requires in
-    let refused : IsOutOfMemory c.args.state.now c.enter.new.self = search rules in
-    omega (arith, begun_class z.0 z.1 c.args.here c.args.state.now c.args.cell c.args.notice c.args.class z.3, ap (λ (e : Seen). length e.heap.layout.classes) refused.world)
-
-pub unbegun-requires-clause-single : goal.unbegun-requires-clause-single
-unbegun-requires-clause-single c =
-    let z = c.requires in
-    let refused : IsOutOfMemory c.args.state.now c.enter.new.self = search rules in
-    ap (λ (e : Seen). is_single (slice_get e.heap.layout.classes c.args.class)) refused.world ∙ begun_single z.0 z.1 c.args.here c.args.state.now c.args.cell c.args.notice c.args.class z.3
-
-pub unbegun-requires-clause-saved : goal.unbegun-requires-clause-saved
-unbegun-requires-clause-saved c = λ said here.
-    let z = c.requires in
-    let refused : IsOutOfMemory c.args.state.now c.enter.new.self = search rules in
-    let rank : c.rank-rank.result ≡ z.3.coming.ranked.rank = c.rank-rank.ensures z.3.coming.ranked z.3.place in
-    let it : z.3.coming.ranked.said ≡ said = one (sym (begun_said z.0 z.1 c.args.here c.args.state.now c.args.cell c.args.notice c.args.class z.3) ∙ ap (λ (e : Seen). slice_get e.notices z.3.coming.ranked.rank) (sym refused.world) ∙ ap (slice_get c.enter.new.self.world.notices) (sym rank) ∙ here) in
-    let low = subst (λ (m : Notices). IfSome m.saved (λ k. k < c.args.here.frame)) it (begun_saved z.0 z.1 c.args.here c.args.state.now c.args.cell c.args.notice c.args.class z.3) in
-    saved_within said.saved c.args.here.frame (length c.enter.new.self.rows.numbers) (omega (arith, frame_within z.0 z.1 c.args.here c.args.state.now c.args.cell c.args.notice c.args.class z.3, refused.longer)) low
+    record {
+      rank = omega (arith, rank, begun_rank z.0 z.1 c.args.here c.args.state.now c.args.cell c.args.notice c.args.class z.3, ap (λ (e : Seen). length e.notices) refused.world);
+      class = omega (arith, begun_class z.0 z.1 c.args.here c.args.state.now c.args.cell c.args.notice c.args.class z.3, ap (λ (e : Seen). length e.heap.layout.classes) refused.world);
+      single = ap (λ (e : Seen). is_single (slice_get e.heap.layout.classes c.args.class)) refused.world ∙ begun_single z.0 z.1 c.args.here c.args.state.now c.args.cell c.args.notice c.args.class z.3;
+      saved = λ said here.
+          let it : z.3.coming.ranked.said ≡ said = one (sym (begun_said z.0 z.1 c.args.here c.args.state.now c.args.cell c.args.notice c.args.class z.3) ∙ ap (λ (e : Seen). slice_get e.notices z.3.coming.ranked.rank) (sym refused.world) ∙ ap (slice_get c.enter.new.self.world.notices) (sym rank) ∙ here) in
+          let low = subst (λ (m : Notices). IfSome m.saved (λ k. k < c.args.here.frame)) it (begun_saved z.0 z.1 c.args.here c.args.state.now c.args.cell c.args.notice c.args.class z.3) in
+          saved_within said.saved c.args.here.frame (length c.enter.new.self.rows.numbers) (omega (arith, frame_within z.0 z.1 c.args.here c.args.state.now c.args.cell c.args.notice c.args.class z.3, refused.longer)) low;
+    }
 
 pub unbegun-requires-clause-ticks : goal.unbegun-requires-clause-ticks
 unbegun-requires-clause-ticks c =
@@ -76,47 +61,31 @@ returns-in_default c = λ w core all n.
     let es = c.args.events.now in let d = c.index-events-rank.result in let k = c.rank-rank.result in
     let refused : IsOutOfMemory s s1 = search rules in
     let rank : k ≡ n.coming.ranked.rank = c.rank-rank.ensures n.coming.ranked n.place in
-    let within : k < length es = omega (arith, rank, begun_entry_within w core c.args.here s c.args.cell c.args.notice c.args.class n, ap length all) in
-    let at : slice_get w.run.events n.coming.ranked.rank ≡ Some d = ap (slice_get w.run.events) (sym rank) ∙ ap (λ (l : List SectionEntry). slice_get l k) (sym all) ∙ slice_get_read es (length es) k d refl within c.index-events-rank.is in
+    let at = entry_read w core c.args.here s c.args.cell c.args.notice c.args.class n es k d all rank c.index-events-rank.is in
     let here : slice_get s1.world.notices k ≡ Some n.coming.ranked.said = ap (slice_get s1.world.notices) rank ∙ ap (λ (e : Seen). slice_get e.notices n.coming.ranked.rank) refused.world ∙ begun_said w core c.args.here s c.args.cell c.args.notice c.args.class n in
     let u = subst (λ (y : ℤ). IsUnbegun n.coming.ranked.said class y s1 new) same (c.unbegun.ensures.state n.coming.ranked.said here) in
     unbegun_as w core c.args.here s c.args.cell c.args.notice c.args.class n d at s1 new (begun_event_at c.args.here c.args.cell c.unbegun.result) refused u (ap (begun_event_at c.args.here c.args.cell) c.unbegun.ensures.none)
 
-pub receive-requires-clause-rank : goal.receive-requires-clause-rank
-receive-requires-clause-rank c =
+pub receive-requires-clause-goes : goal.receive-requires-clause-goes
+receive-requires-clause-goes c =
     let z = c.requires in
     let enters : HasEntered c.args.here c.args.state.now c.enter.new.self c.index-events-rank.result c.args.cell c.in-Ok.frame = search rules in
     let rank : c.rank-rank.result ≡ z.3.coming.ranked.rank = c.rank-rank.ensures z.3.coming.ranked z.3.place in
-    omega (arith, rank, begun_rank z.0 z.1 c.args.here c.args.state.now c.args.cell c.args.notice c.args.class z.3, ap (λ (t : State). length t.world.notices) enters.is)
-
-pub receive-requires-clause-class : goal.receive-requires-clause-class
-receive-requires-clause-class c =
-    let z = c.requires in
-    let enters : HasEntered c.args.here c.args.state.now c.enter.new.self c.index-events-rank.result c.args.cell c.in-Ok.frame = search rules in
-    omega (arith, begun_class z.0 z.1 c.args.here c.args.state.now c.args.cell c.args.notice c.args.class z.3, ap (λ (t : State). length t.world.heap.layout.classes) enters.is)
-
-pub receive-requires-clause-single : goal.receive-requires-clause-single
-receive-requires-clause-single c =
-    let z = c.requires in
-    let enters : HasEntered c.args.here c.args.state.now c.enter.new.self c.index-events-rank.result c.args.cell c.in-Ok.frame = search rules in
-    ap (λ (t : State). is_single (slice_get t.world.heap.layout.classes c.args.class)) enters.is ∙ begun_single z.0 z.1 c.args.here c.args.state.now c.args.cell c.args.notice c.args.class z.3
-
-pub receive-requires-clause-saved : goal.receive-requires-clause-saved
-receive-requires-clause-saved c = λ said here.
-    let z = c.requires in
-    let enters : HasEntered c.args.here c.args.state.now c.enter.new.self c.index-events-rank.result c.args.cell c.in-Ok.frame = search rules in
-    let rank : c.rank-rank.result ≡ z.3.coming.ranked.rank = c.rank-rank.ensures z.3.coming.ranked z.3.place in
-    let it : z.3.coming.ranked.said ≡ said = one (sym (begun_said z.0 z.1 c.args.here c.args.state.now c.args.cell c.args.notice c.args.class z.3) ∙ ap (λ (t : State). slice_get t.world.notices z.3.coming.ranked.rank) (sym enters.is) ∙ ap (slice_get c.enter.new.self.world.notices) (sym rank) ∙ here) in
-    let low = subst (λ (m : Notices). IfSome m.saved (λ k. k < c.args.here.frame)) it (begun_saved z.0 z.1 c.args.here c.args.state.now c.args.cell c.args.notice c.args.class z.3) in
-    saved_within said.saved c.args.here.frame c.in-Ok.frame (omega (arith, enters.begin)) low
+    record {
+      rank = omega (arith, rank, begun_rank z.0 z.1 c.args.here c.args.state.now c.args.cell c.args.notice c.args.class z.3, ap (λ (t : State). length t.world.notices) enters.is);
+      class = omega (arith, begun_class z.0 z.1 c.args.here c.args.state.now c.args.cell c.args.notice c.args.class z.3, ap (λ (t : State). length t.world.heap.layout.classes) enters.is);
+      single = ap (λ (t : State). is_single (slice_get t.world.heap.layout.classes c.args.class)) enters.is ∙ begun_single z.0 z.1 c.args.here c.args.state.now c.args.cell c.args.notice c.args.class z.3;
+      saved = λ said here.
+          let it : z.3.coming.ranked.said ≡ said = one (sym (begun_said z.0 z.1 c.args.here c.args.state.now c.args.cell c.args.notice c.args.class z.3) ∙ ap (λ (t : State). slice_get t.world.notices z.3.coming.ranked.rank) (sym enters.is) ∙ ap (slice_get c.enter.new.self.world.notices) (sym rank) ∙ here) in
+          let low = subst (λ (m : Notices). IfSome m.saved (λ k. k < c.args.here.frame)) it (begun_saved z.0 z.1 c.args.here c.args.state.now c.args.cell c.args.notice c.args.class z.3) in
+          saved_within said.saved c.args.here.frame c.in-Ok.frame (omega (arith, enters.begin)) low;
+    }
 
 pub receive-requires-clause-modes : goal.receive-requires-clause-modes
 receive-requires-clause-modes c = λ i m e.
     let z = c.requires in let es = c.args.events.now in let d = c.index-events-rank.result in let k = c.rank-rank.result in
     let enters : HasEntered c.args.here c.args.state.now c.enter.new.self d c.args.cell c.in-Ok.frame = search rules in
-    let rank : k ≡ z.3.coming.ranked.rank = c.rank-rank.ensures z.3.coming.ranked z.3.place in
-    let within : k < length es = omega (arith, rank, begun_entry_within z.0 z.1 c.args.here c.args.state.now c.args.cell c.args.notice c.args.class z.3, ap length z.2) in
-    let at : slice_get z.0.run.events z.3.coming.ranked.rank ≡ Some d = ap (slice_get z.0.run.events) (sym rank) ∙ ap (λ (l : List SectionEntry). slice_get l k) (sym z.2) ∙ slice_get_read es (length es) k d refl within c.index-events-rank.is in
+    let at = entry_read z.0 z.1 c.args.here c.args.state.now c.args.cell c.args.notice c.args.class z.3 es k d z.2 (c.rank-rank.ensures z.3.coming.ranked z.3.place) c.index-events-rank.is in
     let given = c.deref.ensures.value ∙ (entry_is z.0 z.1 c.args.here c.args.state.now c.args.cell c.args.notice c.args.class z.3 d at).given in
     ap (λ (t : State). slice_get (modes_of t.world.heap.layout c.args.class) i) enters.is ∙ begun_modes z.0 z.1 c.args.here c.args.state.now c.args.cell c.args.notice c.args.class z.3 i m (ap (λ (ms : List Mode). slice_get ms i) (sym given) ∙ e)
 
@@ -124,9 +93,7 @@ pub receive-requires-clause-places : goal.receive-requires-clause-places
 receive-requires-clause-places c =
     let z = c.requires in let es = c.args.events.now in let d = c.index-events-rank.result in let k = c.rank-rank.result in
     let enters : HasEntered c.args.here c.args.state.now c.enter.new.self d c.args.cell c.in-Ok.frame = search rules in
-    let rank : k ≡ z.3.coming.ranked.rank = c.rank-rank.ensures z.3.coming.ranked z.3.place in
-    let within : k < length es = omega (arith, rank, begun_entry_within z.0 z.1 c.args.here c.args.state.now c.args.cell c.args.notice c.args.class z.3, ap length z.2) in
-    let at : slice_get z.0.run.events z.3.coming.ranked.rank ≡ Some d = ap (slice_get z.0.run.events) (sym rank) ∙ ap (λ (l : List SectionEntry). slice_get l k) (sym z.2) ∙ slice_get_read es (length es) k d refl within c.index-events-rank.is in
+    let at = entry_read z.0 z.1 c.args.here c.args.state.now c.args.cell c.args.notice c.args.class z.3 es k d z.2 (c.rank-rank.ensures z.3.coming.ranked z.3.place) c.index-events-rank.is in
     let long = cleared_long enters.grown (c.in-Ok.frame + length d.given.items) d.others.items in
     omega (arith, enters.room, (entry_is z.0 z.1 c.args.here c.args.state.now c.args.cell c.args.notice c.args.class z.3 d at).sized.variables, ap length c.deref.ensures.value, long, ap (λ (t : State). length t.rows.numbers) enters.is)
 
@@ -145,8 +112,7 @@ returns-in-Ok-receive c = λ w core all n.
     let es = c.args.events.now in let d = c.index-events-rank.result in let k = c.rank-rank.result in
     let enters : HasEntered c.args.here s s1 d c.args.cell frame = search rules in
     let rank : k ≡ n.coming.ranked.rank = c.rank-rank.ensures n.coming.ranked n.place in
-    let within : k < length es = omega (arith, rank, begun_entry_within w core c.args.here s c.args.cell c.args.notice c.args.class n, ap length all) in
-    let at : slice_get w.run.events n.coming.ranked.rank ≡ Some d = ap (slice_get w.run.events) (sym rank) ∙ ap (λ (l : List SectionEntry). slice_get l k) (sym all) ∙ slice_get_read es (length es) k d refl within c.index-events-rank.is in
+    let at = entry_read w core c.args.here s c.args.cell c.args.notice c.args.class n es k d all rank c.index-events-rank.is in
     let here : slice_get s1.world.notices k ≡ Some n.coming.ranked.said = ap (slice_get s1.world.notices) rank ∙ ap (λ (t : State). slice_get t.world.notices n.coming.ranked.rank) enters.is ∙ begun_said w core c.args.here s c.args.cell c.args.notice c.args.class n in
     let same : to_z w64 (of_z w64 x) ≡ x = search rules in
     let got =
@@ -160,8 +126,7 @@ returns-in-Err c = λ w core all n.
     let es = c.args.events.now in let d = c.index-events-rank.result in let k = c.rank-rank.result in
     let enters : HasEntered c.args.here s s1 d c.args.cell frame = search rules in
     let rank : k ≡ n.coming.ranked.rank = c.rank-rank.ensures n.coming.ranked n.place in
-    let within : k < length es = omega (arith, rank, begun_entry_within w core c.args.here s c.args.cell c.args.notice c.args.class n, ap length all) in
-    let at : slice_get w.run.events n.coming.ranked.rank ≡ Some d = ap (slice_get w.run.events) (sym rank) ∙ ap (λ (l : List SectionEntry). slice_get l k) (sym all) ∙ slice_get_read es (length es) k d refl within c.index-events-rank.is in
+    let at = entry_read w core c.args.here s c.args.cell c.args.notice c.args.class n es k d all rank c.index-events-rank.is in
     let here : slice_get s1.world.notices k ≡ Some n.coming.ranked.said = ap (slice_get s1.world.notices) rank ∙ ap (λ (t : State). slice_get t.world.notices n.coming.ranked.rank) enters.is ∙ begun_said w core c.args.here s c.args.cell c.args.notice c.args.class n in
     let same : to_z w64 (of_z w64 x) ≡ x = search rules in
     let got =
@@ -175,7 +140,5 @@ pub receive-requires-clause-small : goal.receive-requires-clause-small
 receive-requires-clause-small c =
     let z = c.requires in let es = c.args.events.now in let d = c.index-events-rank.result in let k = c.rank-rank.result in
     let enters : HasEntered c.args.here c.args.state.now c.enter.new.self d c.args.cell c.in-Ok.frame = search rules in
-    let rank : k ≡ z.3.coming.ranked.rank = c.rank-rank.ensures z.3.coming.ranked z.3.place in
-    let within : k < length es = omega (arith, rank, begun_entry_within z.0 z.1 c.args.here c.args.state.now c.args.cell c.args.notice c.args.class z.3, ap length z.2) in
-    let at : slice_get z.0.run.events z.3.coming.ranked.rank ≡ Some d = ap (slice_get z.0.run.events) (sym rank) ∙ ap (λ (l : List SectionEntry). slice_get l k) (sym z.2) ∙ slice_get_read es (length es) k d refl within c.index-events-rank.is in
+    let at = entry_read z.0 z.1 c.args.here c.args.state.now c.args.cell c.args.notice c.args.class z.3 es k d z.2 (c.rank-rank.ensures z.3.coming.ranked z.3.place) c.index-events-rank.is in
     omega (arith, enters.room, enters.small, (entry_is z.0 z.1 c.args.here c.args.state.now c.args.cell c.args.notice c.args.class z.3 d at).sized.variables, ap length c.deref.ensures.value)

@@ -4,7 +4,7 @@ use Rattle.ss_machine_notices.proofs.Beginning.{saved_within}
 use Rattle.ss_machine_notices.proofs.events.receive.Goals as goal
 
 pub read_given-requires-clause-class : goal.read_given-requires-clause-class
-read_given-requires-clause-class c = c.requires.class
+read_given-requires-clause-class c = c.requires.goes.class
 
 pub read_given-requires-clause-modes : goal.read_given-requires-clause-modes
 read_given-requires-clause-modes c = c.requires.modes
@@ -12,18 +12,15 @@ read_given-requires-clause-modes c = c.requires.modes
 pub read_given-requires-clause-places : goal.read_given-requires-clause-places
 read_given-requires-clause-places c = c.requires.places
 
-pub let_go-requires-clause-rank : goal.let_go-requires-clause-rank
-let_go-requires-clause-rank c = c.requires.rank
-
-pub let_go-requires-clause-class : goal.let_go-requires-clause-class
-let_go-requires-clause-class c = c.requires.class
-
-pub let_go-requires-clause-single : goal.let_go-requires-clause-single
-let_go-requires-clause-single c = c.requires.single
-
-pub let_go-requires-clause-saved : goal.let_go-requires-clause-saved
-let_go-requires-clause-saved c = λ said here.
-    saved_within said.saved c.args.what.from (length c.read_given.new.rows.numbers) (omega (arith, c.requires.places, c.read_given.ensures.long)) (c.requires.saved said here)
+pub let_go-requires : goal.let_go-requires
+let_go-requires c =
+    let can = c.requires.goes in
+    record {
+      rank = can.rank;
+      class = can.class;
+      single = can.single;
+      saved = λ said here. saved_within said.saved c.args.what.from (length c.read_given.new.rows.numbers) (omega (arith, c.requires.places, c.read_given.ensures.long)) (can.saved said here);
+    }
 
 pub returns-in-Err : goal.returns-in-Err
 returns-in-Err c = λ said here. record {

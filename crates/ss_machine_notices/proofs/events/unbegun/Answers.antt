@@ -1,34 +1,25 @@
 use Rattle.std.proofs.Common.{rules, ◌≡◌, ◌<◌, ℤ, Ok, Err, length, ap, sym, ◌∙◌, subst, to_z, of_z, w64, arith}
 use Rattle.ss_machine_notices.proofs.Common.{HasLetGo, Seen, slice_get}
 use Rattle.ss_machine_notices.proofs.Giving.{got_at}
-use Rattle.ss_machine_notices.proofs.Beginning.{lets_go_ticks, lets_go_not}
+use Rattle.ss_machine_notices.proofs.Beginning.{lets_go_keeps, lets_go_not}
 use Rattle.ss_machine_notices.proofs.events.unbegun.Goals as goal
 
-pub let_go-requires-clause-rank : goal.let_go-requires-clause-rank
-let_go-requires-clause-rank c = c.requires.rank
-
-pub let_go-requires-clause-class : goal.let_go-requires-clause-class
-let_go-requires-clause-class c = c.requires.class
-
-pub let_go-requires-clause-single : goal.let_go-requires-clause-single
-let_go-requires-clause-single c = c.requires.single
-
-pub let_go-requires-clause-saved : goal.let_go-requires-clause-saved
-let_go-requires-clause-saved c = c.requires.saved
+pub let_go-requires : goal.let_go-requires
+let_go-requires c = c.requires.goes
 
 pub give_tick_back-requires : goal.give_tick_back-requires
 give_tick_back-requires c =
     let s = c.args.state.now in
-    let said = got_at s.world.notices c.args.rank c.requires.rank in
-    let same = lets_go_ticks said.0.saved c.args.class (to_z w64 (of_z w64 c.args.notice)) s c.let_go.new.state c.let_go.result (c.let_go.ensures said.0 said.1) in
+    let said = got_at s.world.notices c.args.rank c.requires.goes.rank in
+    let same = (lets_go_keeps said.0.saved c.args.class (to_z w64 (of_z w64 c.args.notice)) s c.let_go.new.state c.let_go.result (c.let_go.ensures said.0 said.1)).0 in
     omega (arith, same, c.requires.ticks)
 
 pub fault_of_event-requires : goal.fault_of_event-requires
 fault_of_event-requires c =
     let s = c.args.state.now in
-    let said = got_at s.world.notices c.args.rank c.requires.rank in
+    let said = got_at s.world.notices c.args.rank c.requires.goes.rank in
     let same = lets_go_not said.0.saved c.args.class (to_z w64 (of_z w64 c.args.notice)) s c.let_go.new.state c.in-Err.kind (c.in-Err.ensures said.0 said.1) in
-    subst (λ (e : Seen). c.args.rank < length e.notices) (sym same) c.requires.rank
+    subst (λ (e : Seen). c.args.rank < length e.notices) (sym same) c.requires.goes.rank
 
 pub returns-in-Ok-clause-state : goal.returns-in-Ok-clause-state
 returns-in-Ok-clause-state c = λ said here.

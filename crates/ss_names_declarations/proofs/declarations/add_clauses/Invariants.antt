@@ -1,7 +1,5 @@
 use Rattle.std.proofs.Common.{◌≡◌, ◌++◌, map, take}
-use Rattle.std.specs.List.{flat_map}
-use Rattle.ss_tree.specs.View.{view_clause}
-use Rattle.ss_names_declarations.specs.Declarations.{in_clause}
+use Rattle.ss_names_declarations.proofs.Common.{flat_map, in_clause, view_clause}
 use Rattle.ss_names_declarations.proofs.declarations.add_clauses.Given as goal
 
 abbrev pub invariant-loop-clause : goal.invariant-loop-clause

@@ -1,7 +1,5 @@
 use Rattle.std.proofs.Common.{◌≡◌, ◌++◌, map, take}
-use Rattle.std.specs.List.{flat_map}
-use Rattle.ss_tree.specs.View.{view_definition}
-use Rattle.ss_names_declarations.specs.Declarations.{in_definition}
+use Rattle.ss_names_declarations.proofs.Common.{flat_map, in_definition, view_definition}
 use Rattle.ss_names_declarations.proofs.declarations.add_definitions.Given as goal
 
 abbrev pub invariant-loop-definition : goal.invariant-loop-definition

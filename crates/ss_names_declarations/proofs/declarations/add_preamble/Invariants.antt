@@ -1,6 +1,5 @@
 use Rattle.std.proofs.Common.{◌≡◌, ◌++◌, map, take}
-use Rattle.ss_tree.specs.View.{view_preamble}
-use Rattle.ss_names_declarations.specs.Declarations.{flat_map_from, in_preamble_statement}
+use Rattle.ss_names_declarations.proofs.Common.{flat_map_from, in_preamble_statement, view_preamble}
 use Rattle.ss_names_declarations.proofs.declarations.add_preamble.Given as goal
 
 abbrev pub invariant-loop-number : goal.invariant-loop-number

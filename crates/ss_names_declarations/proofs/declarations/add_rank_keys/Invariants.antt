@@ -1,6 +1,5 @@
 use Rattle.std.proofs.Common.{◌≡◌, ◌++◌, map, take}
-use Rattle.ss_tree.specs.declared.preamble.NamedKey.{NamedKey}
-use Rattle.ss_names_declarations.specs.Declarations.{at_line}
+use Rattle.ss_names_declarations.proofs.Common.{at_line, NamedKey}
 use Rattle.ss_names_declarations.specs.declared.declaration.Declared.TheVariants as d
 use Rattle.ss_names_declarations.proofs.declarations.add_rank_keys.Given as goal
 

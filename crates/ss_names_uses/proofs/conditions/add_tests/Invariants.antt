@@ -1,7 +1,5 @@
 use Rattle.std.proofs.Common.{◌≡◌, ◌++◌, map, take}
-use Rattle.std.specs.List.{flat_map}
-use Rattle.ss_tree.specs.View.{view_test_tree}
-use Rattle.ss_names_uses.specs.Uses.{in_test}
+use Rattle.ss_names_uses.proofs.Common.{flat_map, in_test, view_test_tree}
 use Rattle.ss_names_uses.proofs.conditions.add_tests.Given as goal
 
 abbrev pub invariant-loop-test : goal.invariant-loop-test

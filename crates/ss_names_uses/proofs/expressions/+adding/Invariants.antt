@@ -1,9 +1,5 @@
 use Rattle.std.proofs.Common.{◌≡◌, true, ◌++◌, map, take}
-use Rattle.std.specs.List.{flat_map}
-use Rattle.ss_base.specs.declared.words.Sign.{Sign}
-use Rattle.ss_tree.specs.Tree.{ExpressionTree}
-use Rattle.ss_tree.specs.View.{view_expression_tree, view_term}
-use Rattle.ss_names_uses.specs.Uses.{in_expression}
+use Rattle.ss_names_uses.proofs.Common.{ExpressionTree, flat_map, in_expression, Sign, view_expression_tree, view_term}
 use Rattle.ss_names_uses.proofs.expressions.+adding.Given as goal
 
 abbrev pub invariant-add_numbers-loop-expression : goal.invariant-add_numbers-loop-expression

@@ -1,6 +1,5 @@
 use Rattle.std.proofs.Common.{◌≡◌, ◌++◌, map, take}
-use Rattle.ss_tree.specs.View.{view_named}
-use Rattle.ss_names_uses.specs.Uses.{in_all_named}
+use Rattle.ss_names_uses.proofs.Common.{in_all_named, view_named}
 use Rattle.ss_names_uses.proofs.expressions.add_all_named.Given as goal
 
 abbrev pub invariant-loop-named : goal.invariant-loop-named

@@ -1,6 +1,5 @@
 use Rattle.std.proofs.Common.{◌≡◌, ℕ, ◌++◌, map, take}
-use Rattle.ss_tree.specs.View.{view_expression_tree}
-use Rattle.ss_names_uses.specs.Uses.{in_places, in_value}
+use Rattle.ss_names_uses.proofs.Common.{in_places, in_value, view_expression_tree}
 use Rattle.ss_names_uses.specs.declared.used.ModeOf.TheVariants as modes
 use Rattle.ss_names_uses.proofs.handed.add_for_attributes.Given as goal
 

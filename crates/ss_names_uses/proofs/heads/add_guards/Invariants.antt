@@ -1,7 +1,5 @@
 use Rattle.std.proofs.Common.{◌≡◌, ◌++◌, map, take}
-use Rattle.std.specs.List.{flat_map}
-use Rattle.ss_tree.specs.View.{view_guard_tree}
-use Rattle.ss_names_uses.specs.Uses.{in_guard}
+use Rattle.ss_names_uses.proofs.Common.{flat_map, in_guard, view_guard_tree}
 use Rattle.ss_names_uses.proofs.heads.add_guards.Given as goal
 
 abbrev pub invariant-loop-guard : goal.invariant-loop-guard

@@ -1,7 +1,5 @@
 use Rattle.std.proofs.Common.{◌≡◌, ◌++◌, map, take}
-use Rattle.std.specs.List.{flat_map}
-use Rattle.ss_tree.specs.View.{view_phrase_tree}
-use Rattle.ss_names_uses.specs.Uses.{in_phrase}
+use Rattle.ss_names_uses.proofs.Common.{flat_map, in_phrase, view_phrase_tree}
 use Rattle.ss_names_uses.proofs.heads.add_phrases.Given as goal
 
 abbrev pub invariant-loop-phrase : goal.invariant-loop-phrase

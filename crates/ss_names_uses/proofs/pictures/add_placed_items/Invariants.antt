@@ -1,6 +1,5 @@
 use Rattle.std.proofs.Common.{◌≡◌, ◌++◌, map, take}
-use Rattle.ss_tree.specs.View.{view_expression_tree}
-use Rattle.ss_names_uses.specs.Uses.{in_item_at, in_places}
+use Rattle.ss_names_uses.proofs.Common.{in_item_at, in_places, view_expression_tree}
 use Rattle.ss_names_uses.proofs.pictures.add_placed_items.Given as goal
 
 abbrev pub invariant-loop-place : goal.invariant-loop-place

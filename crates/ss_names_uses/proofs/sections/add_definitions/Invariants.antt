@@ -1,7 +1,5 @@
 use Rattle.std.proofs.Common.{◌≡◌, ◌++◌, map, take}
-use Rattle.std.specs.List.{flat_map}
-use Rattle.ss_tree.specs.View.{view_definition}
-use Rattle.ss_names_uses.specs.Uses.{in_local_definition}
+use Rattle.ss_names_uses.proofs.Common.{flat_map, in_local_definition, view_definition}
 use Rattle.ss_names_uses.proofs.sections.add_definitions.Given as goal
 
 abbrev pub invariant-loop-definition : goal.invariant-loop-definition

@@ -1,5 +1,5 @@
 use Rattle.std.proofs.Common.{append_assoc}
-use Rattle.ss_names_uses.proofs.Rows.{inner_if, inner_find_if, inner_loop, next_walked}
+use Rattle.ss_names_uses.proofs.Rows.{inner_if, inner_find_if, inner_loop}
 use Rattle.ss_names_uses.proofs.statements.+walking.Goals as goal
 
 pub add_inner-returns-in_ok-add_body-in-If : goal.add_inner-returns-in_ok-add_body-in-If
@@ -12,7 +12,3 @@ add_inner-returns-in_ok-add_body-in-FindIf t c =
 
 pub add_inner-returns-in-Loop : goal.add_inner-returns-in-Loop
 add_inner-returns-in-Loop t c = rw (c.in-Loop.is, inner_loop c.in-Loop.line c.in-Loop.head c.in-Loop.body, ← c.deref-in-Loop.ensures.value) c.add_body-in-Loop.ensures
-
-pub add_body-loop-statement-preserved : goal.add_body-loop-statement-preserved
-add_body-loop-statement-preserved t c =
-    next_walked c.args.body.now c.loop-statement.statement-index c.statement-item.result c.args.into.now.items c.loop-statement.into.items c.add_itself.new.into.items c.add_inner.new.into.items c.loop-statement-test.true c.statement-item.is c.loop-statement.invariant c.in_ok-add_itself.ensures c.in_ok-add_inner.ensures

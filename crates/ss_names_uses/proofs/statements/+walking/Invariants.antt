@@ -1,6 +1,5 @@
 use Rattle.std.proofs.Common.{◌≡◌, ◌++◌, map, take}
-use Rattle.ss_tree.specs.View.{view_statement_tree}
-use Rattle.ss_names_uses.specs.Uses.{in_body}
+use Rattle.ss_names_uses.proofs.Common.{in_body, view_statement_tree}
 use Rattle.ss_names_uses.proofs.statements.+walking.Given as goal
 
 abbrev pub invariant-add_body-loop-statement : goal.invariant-add_body-loop-statement

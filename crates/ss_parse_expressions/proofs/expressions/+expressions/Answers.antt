@@ -1,6 +1,6 @@
 use Rattle.std.proofs.Common.{sym, ap, subst, ◌∙◌, Ok}
-use Rattle.ss_parse_expressions.proofs.Common.{err_from_is_err_and, ExpressionTree, factor_with, HasFailedReading, sum_in, view_expression_tree, view_named_made, view_term}
-use Rattle.ss_parse_expressions.proofs.Rows.{grows, breaks, is_done, next_fails, next_read}
+use Rattle.ss_parse_expressions.proofs.Common.{ExpressionTree, factor_with, HasFailedReading, sum_in, view_expression_tree, view_named_made, view_term}
+use Rattle.ss_parse_expressions.proofs.Rows.{failed, grows, breaks, is_done, next_fails, next_read}
 use Rattle.ss_parse_expressions.proofs.Sums.{further_factors_loop, further_terms_loop, sums_loop}
 use Rattle.ss_parse_expressions.proofs.expressions.+expressions.Goals as goal
 
@@ -15,8 +15,8 @@ further_factors-returns t c = is_done view_expression_tree (further_factors_loop
 
 pub further_factors-returns-in_err-longer : goal.further_factors-returns-in_err-longer
 further_factors-returns-in_err-longer t c =
-    let p = err_from_is_err_and c.from_residual.result c.from_residual.ensures.1 in
-    rw (p.1, p.2) (breaks view_expression_tree (further_factors_loop c.args.room) _ _ _ _ (sym c.begins_symbol.ensures ∙ c.more-test.true) (subst (λ r. HasFailedReading c.in_err-longer.field-0.0 (factor_with (sum_in c.args.room) r)) c.skip_symbol.ensures (next_fails _ c.more.all _ _ c.in_err-longer.field-0.0 c.factor.ensures c.in_err-longer.ensures)) c.more.invariant)
+    failed _ c.from_residual.result c.in_err-longer.field-0.0 _ c.from_residual.ensures.1
+    (breaks view_expression_tree (further_factors_loop c.args.room) _ _ _ _ (sym c.begins_symbol.ensures ∙ c.more-test.true) (subst (λ r. HasFailedReading c.in_err-longer.field-0.0 (factor_with (sum_in c.args.room) r)) c.skip_symbol.ensures (next_fails _ c.more.all _ _ c.in_err-longer.field-0.0 c.factor.ensures c.in_err-longer.ensures)) c.more.invariant)
 
 pub further_terms-more-preserved : goal.further_terms-more-preserved
 further_terms-more-preserved t c = grows view_term (further_terms_loop c.args.room) _ _ c.in_ok-longer.ensures.0 _ _ _ c.in_ok-longer.ensures.2 (sym c.begins_sign.ensures ∙ c.more-test.true) (next_read _ _ _ _ c.signed_term.ensures c.in_ok-longer.ensures.1) c.more.invariant
@@ -29,8 +29,8 @@ further_terms-returns t c = is_done view_term (further_terms_loop c.args.room) _
 
 pub further_terms-returns-in_err-longer : goal.further_terms-returns-in_err-longer
 further_terms-returns-in_err-longer t c =
-    let p = err_from_is_err_and c.from_residual.result c.from_residual.ensures.1 in
-    rw (p.1, p.2) (breaks view_term (further_terms_loop c.args.room) _ _ _ _ (sym c.begins_sign.ensures ∙ c.more-test.true) (next_fails _ c.more.all _ _ c.in_err-longer.field-0.0 c.signed_term.ensures c.in_err-longer.ensures) c.more.invariant)
+    failed _ c.from_residual.result c.in_err-longer.field-0.0 _ c.from_residual.ensures.1
+    (breaks view_term (further_terms_loop c.args.room) _ _ _ _ (sym c.begins_sign.ensures ∙ c.more-test.true) (next_fails _ c.more.all _ _ c.in_err-longer.field-0.0 c.signed_term.ensures c.in_err-longer.ensures) c.more.invariant)
 
 pub sums-more-preserved : goal.sums-more-preserved
 sums-more-preserved t c = grows view_expression_tree (sums_loop c.args.room) _ _ c.in_ok-longer.ensures.0 _ _ _ c.in_ok-longer.ensures.2 (sym c.begins_more_sums.ensures ∙ c.more-test.true) (ap (sum_in c.args.room) (sym c.skip_separator.ensures) ∙ next_read _ _ _ _ c.sum-in-more.ensures c.in_ok-longer.ensures.1) c.more.invariant
@@ -43,8 +43,8 @@ sums-returns t c = is_done view_expression_tree (sums_loop c.args.room) _ _ _ (s
 
 pub sums-returns-in_err-longer : goal.sums-returns-in_err-longer
 sums-returns-in_err-longer t c =
-    let p = err_from_is_err_and c.from_residual-in_err-longer.result c.from_residual-in_err-longer.ensures.1 in
-    rw (p.1, p.2) (breaks view_expression_tree (sums_loop c.args.room) _ _ _ _ (sym c.begins_more_sums.ensures ∙ c.more-test.true) (subst (λ r. HasFailedReading c.in_err-longer.field-0.0 (sum_in c.args.room r)) c.skip_separator.ensures (next_fails _ c.more.all _ _ c.in_err-longer.field-0.0 c.sum-in-more.ensures c.in_err-longer.ensures)) c.more.invariant)
+    failed _ c.from_residual-in_err-longer.result c.in_err-longer.field-0.0 _ c.from_residual-in_err-longer.ensures.1
+    (breaks view_expression_tree (sums_loop c.args.room) _ _ _ _ (sym c.begins_more_sums.ensures ∙ c.more-test.true) (subst (λ r. HasFailedReading c.in_err-longer.field-0.0 (sum_in c.args.room r)) c.skip_separator.ensures (next_fails _ c.more.all _ _ c.in_err-longer.field-0.0 c.sum-in-more.ensures c.in_err-longer.ensures)) c.more.invariant)
 
 pub named-returns : goal.named-returns
 named-returns t c = rw c.in_ok-subscripts.ensures (ap (λ (e : ExpressionTree). Ok (e, c.in_ok-subscripts.rest.now)) (sym (view_named_made _)))

@@ -1,7 +1,7 @@
 use Rattle.std.proofs.Common.{sym, ap, subst, ◌∙◌}
-use Rattle.ss_parse_expressions.proofs.Common.{err_from_is_err_and, guard_in, HasFailedReading, view_guard_tree}
+use Rattle.ss_parse_expressions.proofs.Common.{guard_in, HasFailedReading, view_guard_tree}
 use Rattle.ss_parse_expressions.proofs.HeadLaws.{guards_loop}
-use Rattle.ss_parse_expressions.proofs.Rows.{grows, breaks, is_done, next_fails, next_read}
+use Rattle.ss_parse_expressions.proofs.Rows.{failed, grows, breaks, is_done, next_fails, next_read}
 use Rattle.ss_parse_expressions.proofs.heads.guards.Goals as goal
 
 pub more-preserved : goal.more-preserved
@@ -15,5 +15,5 @@ returns c = is_done view_guard_tree (guards_loop c.args.room) _ _ _ (sym c.begin
 
 pub returns-in_err-longer : goal.returns-in_err-longer
 returns-in_err-longer c =
-    let p = err_from_is_err_and c.from_residual-in_err-longer.result c.from_residual-in_err-longer.ensures.1 in
-    rw (p.1, p.2) (breaks view_guard_tree (guards_loop c.args.room) _ _ _ _ (sym c.begins_next_guard.ensures ∙ c.more-test.true) (subst (λ r. HasFailedReading c.in_err-longer.field-0.0 (guard_in c.args.room r)) c.skip_symbol.ensures (next_fails _ c.more.all _ _ c.in_err-longer.field-0.0 c.guard.ensures c.in_err-longer.ensures)) c.more.invariant)
+    failed _ c.from_residual-in_err-longer.result c.in_err-longer.field-0.0 _ c.from_residual-in_err-longer.ensures.1
+    (breaks view_guard_tree (guards_loop c.args.room) _ _ _ _ (sym c.begins_next_guard.ensures ∙ c.more-test.true) (subst (λ r. HasFailedReading c.in_err-longer.field-0.0 (guard_in c.args.room r)) c.skip_symbol.ensures (next_fails _ c.more.all _ _ c.in_err-longer.field-0.0 c.guard.ensures c.in_err-longer.ensures)) c.more.invariant)

@@ -1,7 +1,6 @@
 use Rattle.std.proofs.Common.{sym, ap, subst, ◌∙◌}
+use Rattle.ss_parse_statements.proofs.Common.{HasFailedReading, view_statement_tree}
 use Rattle.std.proofs.lemmas.Result.{err_from_is_err_and}
-use Rattle.ss_tree.specs.View.{view_statement_tree}
-use Rattle.ss_parse_expressions.specs.Reading.{HasFailedReading}
 use Rattle.ss_parse_expressions.proofs.Rows.{grows, breaks, is_done, next_fails, next_read}
 use Rattle.ss_parse_statements.specs.ReadStatements.{statement_in}
 use Rattle.ss_parse_statements.proofs.Levels.{statements_loop}

@@ -1,7 +1,6 @@
 use Rattle.std.proofs.Common.{◌≡◌, ◌+◌, ◌*◌, length, map}
-use Rattle.ss_tree.specs.View.{view_statement_tree}
+use Rattle.ss_parse_statements.proofs.Common.{view_statement_tree, with_front}
 use Rattle.ss_parse_expressions.specs.Reading.{rows, skip_comma}
-use Rattle.ss_parse_expressions.proofs.Rows.{with_front}
 use Rattle.ss_parse_statements.specs.ReadStatements.{begins_statement, statement_in, statements_in}
 use Rattle.ss_parse_statements.proofs.statements.+statements.Given as goal
 

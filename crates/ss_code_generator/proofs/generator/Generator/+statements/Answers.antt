@@ -1,5 +1,5 @@
 use Rattle.std.proofs.Common.{◌≡◌, ◌+◌, [], ◌∷◌, ◌++◌, map, take, refl, sym, ap, ◌∙◌, subst}
-use Rattle.ss_code_generator.proofs.Common.{after_values, CanTakeMode, change_code, creates_code, file_code, gives_code, HasEmittedBlock, height, Integer, IsTypedRestart, IsTypedStatement, let_code, line_or_none, map-append, on_ok_weaker, place, reads_code, remove_code, remove_end_code, restarts_code, schedule_code, schedule_new_code, take_all, take_more, to_place_code, values_code, with_operand}
+use Rattle.ss_code_generator.proofs.Common.{after_values, CanTakeMode, change_code, creates_code, file_code, gives_code, HasEmittedBlock, height, Integer, IsTypedRestart, IsTypedStatement, let_code, line_or_none, on_ok_weaker, place, reads_code, remove_code, remove_end_code, restarts_code, schedule_code, schedule_new_code, take_all, to_place_code, values_code, with_operand}
 use Rattle.std.specs.List.{AllByRecursion as Every}
 use Rattle.ss_program.specs.View.{view_body, view_condition, view_expression, view_guard, view_item, view_owner, view_phrase, view_place, view_restart, view_target, view_when, view_position, view_head, view_statement, block_of}
 use Rattle.ss_program.specs.Program as p
@@ -7,120 +7,121 @@ use Rattle.ss_program.specs.Views.{view_if_made, view_loop_made, view_for_made, 
 use Rattle.ss_code_instructions.specs.Instructions as i
 use Rattle.ss_code_generator.specs.declared.generator.Site.{Site as Here}
 use Rattle.ss_code_generator.specs.Notices.{simulate_code}
-use Rattle.ss_code_generator.proofs.Bodies.{let_seen, change_seen, call_seen, return_seen, stop_seen, read_seen, simulate_seen, create_seen, create_every_seen, destroy_seen, file_seen, remove_end_seen, remove_seen, schedule_new_seen, schedule_seen, cancel_seen, reset_seen, print_seen, skip_seen, said, put_said, loop_said, for_said, if_said, find_said, print_said, body_none, body_more}
+use Rattle.ss_code_pieces.proofs.Steps.{next_taken}
+use Rattle.ss_code_generator.proofs.Bodies.{print_seen, said, put_said, loop_said, for_said, if_said, find_said, print_said, body_none, body_more}
 use Rattle.ss_code_generator.proofs.generator.Generator.+statements.Goals as goal
 
 pub statement-returns-in-Let : goal.statement-returns-in-Let
+unfolding view_statement
 statement-returns-in-Let t' c =
     let i' = c.in-Let in
-    on_ok_weaker c.assignment.result (λ m.
-    said c.args.self.now c.assignment.new.self c.args.code.now c.assignment.new.code c.args.height c.line_of.result c.args.prints.now.items c.args.s.now _ _ (λ k. IsTypedStatement k (p.Let c.line_of.result (view_place i'.target) (view_expression i'.value))) (λ t. let_code t (view_place i'.target) (view_expression i'.value)) m i'.is (let_seen i'.line i'.target i'.value) c.line_of.ensures (λ k h. h) refl (λ first t. refl)) c.assignment.ensures
+    said c.assignment.result c.args.self.now c.assignment.new.self c.args.code.now c.assignment.new.code c.args.height c.line_of.result c.args.prints.now.items c.args.s.now _ (λ k. IsTypedStatement k (p.Let c.line_of.result (view_place i'.target) (view_expression i'.value))) (λ t. let_code t (view_place i'.target) (view_expression i'.value)) c.assignment.ensures i'.is c.line_of.ensures (λ k h. h) refl (λ first t. refl)
 
 pub statement-returns-in-Change : goal.statement-returns-in-Change
+unfolding view_statement
 statement-returns-in-Change t' c =
     let i' = c.in-Change in
-    on_ok_weaker c.change.result (λ m.
-    said c.args.self.now c.change.new.self c.args.code.now c.change.new.code c.args.height c.line_of.result c.args.prints.now.items c.args.s.now _ _ (λ k. IsTypedStatement k (p.Change c.line_of.result i'.sign (view_place i'.target) (view_expression i'.value))) (λ t. change_code t i'.sign (view_place i'.target) (view_expression i'.value)) m i'.is (change_seen i'.line i'.sign i'.target i'.value) c.line_of.ensures (λ k h. h) refl (λ first t. refl)) c.change.ensures
+    said c.change.result c.args.self.now c.change.new.self c.args.code.now c.change.new.code c.args.height c.line_of.result c.args.prints.now.items c.args.s.now _ (λ k. IsTypedStatement k (p.Change c.line_of.result i'.sign (view_place i'.target) (view_expression i'.value))) (λ t. change_code t i'.sign (view_place i'.target) (view_expression i'.value)) c.change.ensures i'.is c.line_of.ensures (λ k h. h) refl (λ first t. refl)
 
 pub statement-returns-in-Call : goal.statement-returns-in-Call
+unfolding view_statement
 statement-returns-in-Call t' c =
     let i' = c.in-Call in
-    on_ok_weaker c.call.result (λ m.
-    said c.args.self.now c.call.new.self c.args.code.now c.call.new.code c.args.height c.line_of.result c.args.prints.now.items c.args.s.now _ _ (λ k. IsTypedStatement k (p.Call c.line_of.result i'.routine (map view_expression i'.given.items) (map view_place i'.yielding.items))) (λ t. values_code t (map view_expression i'.given.items) ++ place (after_values t (map view_expression i'.given.items)) (i.Call i'.routine (height t)) ∷ gives_code t (map view_place i'.yielding.items)) m i'.is (call_seen i'.line i'.routine i'.given i'.yielding) c.line_of.ensures (λ k h. h) refl (λ first t. refl)) (rw (c.deref.ensures.value, c.deref-in-Call.ensures.value) at c.call.ensures)
+    said c.call.result c.args.self.now c.call.new.self c.args.code.now c.call.new.code c.args.height c.line_of.result c.args.prints.now.items c.args.s.now _ (λ k. IsTypedStatement k (p.Call c.line_of.result i'.routine (map view_expression i'.given.items) (map view_place i'.yielding.items))) (λ t. values_code t (map view_expression i'.given.items) ++ place (after_values t (map view_expression i'.given.items)) (i.Call i'.routine (height t)) ∷ gives_code t (map view_place i'.yielding.items)) (rw (c.deref.ensures.value, c.deref-in-Call.ensures.value) at c.call.ensures) i'.is c.line_of.ensures (λ k h. h) refl (λ first t. refl)
 
 pub statement-returns-in-Return : goal.statement-returns-in-Return
+unfolding view_statement
 statement-returns-in-Return t' c =
     let i' = c.in-Return in
     let site : Here = record { line = c.line_of.result; height = c.args.height } in
-    on_ok_weaker c.put.result (λ is.
-    said c.args.self.now c.args.self.now c.args.code.now c.put.new.code c.args.height c.line_of.result c.args.prints.now.items c.args.s.now _ _ (λ k. Unit {0}) (λ t. place t i.Leave ∷ [])
-    (put_said c.args.self.now c.args.code.now c.put.new.code site i.Leave _ is (λ f t. refl) (λ f t. tt)) i'.is return_seen c.line_of.ensures (λ k h. tt) refl (λ first t. refl)) c.put.ensures
+    said c.put.result c.args.self.now c.args.self.now c.args.code.now c.put.new.self c.args.height c.line_of.result c.args.prints.now.items c.args.s.now _ (λ k. Unit {0}) (λ t. place t i.Leave ∷ [])
+    (on_ok_weaker c.put.result (λ is. put_said c.args.self.now c.args.code.now c.put.new.self site i.Leave _ is (λ f t. refl) (λ f t. tt)) c.put.ensures) i'.is c.line_of.ensures (λ k h. tt) refl (λ first t. refl)
 
 pub statement-returns-in-Stop : goal.statement-returns-in-Stop
+unfolding view_statement
 statement-returns-in-Stop t' c =
     let i' = c.in-Stop in
     let site : Here = record { line = c.line_of.result; height = c.args.height } in
-    on_ok_weaker c.put-in-Stop.result (λ is.
-    said c.args.self.now c.args.self.now c.args.code.now c.put-in-Stop.new.code c.args.height c.line_of.result c.args.prints.now.items c.args.s.now _ _ (λ k. Unit {0}) (λ t. place t i.Halt ∷ [])
-    (put_said c.args.self.now c.args.code.now c.put-in-Stop.new.code site i.Halt _ is (λ f t. refl) (λ f t. tt)) i'.is stop_seen c.line_of.ensures (λ k h. tt) refl (λ first t. refl)) c.put-in-Stop.ensures
+    said c.put-in-Stop.result c.args.self.now c.args.self.now c.args.code.now c.put-in-Stop.new.self c.args.height c.line_of.result c.args.prints.now.items c.args.s.now _ (λ k. Unit {0}) (λ t. place t i.Halt ∷ [])
+    (on_ok_weaker c.put-in-Stop.result (λ is. put_said c.args.self.now c.args.code.now c.put-in-Stop.new.self site i.Halt _ is (λ f t. refl) (λ f t. tt)) c.put-in-Stop.ensures) i'.is c.line_of.ensures (λ k h. tt) refl (λ first t. refl)
 
 pub statement-returns-in-Read : goal.statement-returns-in-Read
+unfolding view_statement
 statement-returns-in-Read t' c =
     let i' = c.in-Read in
-    on_ok_weaker c.reads.result (λ m.
-    said c.args.self.now c.reads.new.self c.args.code.now c.reads.new.code c.args.height c.line_of.result c.args.prints.now.items c.args.s.now _ _ (λ k. Every (λ x. CanTakeMode k x.place x.mode) (map view_target i'.targets.items)) (λ t. reads_code t (map view_target i'.targets.items)) m i'.is (read_seen i'.line i'.targets) c.line_of.ensures (λ k h. h) refl (λ first t. refl)) (rw c.deref-in-Read.ensures.value at c.reads.ensures)
+    said c.reads.result c.args.self.now c.reads.new.self c.args.code.now c.reads.new.code c.args.height c.line_of.result c.args.prints.now.items c.args.s.now _ (λ k. Every (λ x. CanTakeMode k x.place x.mode) (map view_target i'.targets.items)) (λ t. reads_code t (map view_target i'.targets.items)) (rw c.deref-in-Read.ensures.value at c.reads.ensures) i'.is c.line_of.ensures (λ k h. h) refl (λ first t. refl)
 
 pub statement-returns-in-Simulate : goal.statement-returns-in-Simulate
+unfolding view_statement
 statement-returns-in-Simulate t' c =
     let i' = c.in-Simulate in
-    on_ok_weaker c.simulate.result (λ m.
-    said c.args.self.now c.args.self.now c.args.code.now c.simulate.new.code c.args.height c.line_of.result c.args.prints.now.items c.args.s.now _ _ (λ k. Unit {0}) (λ t. simulate_code t) m i'.is simulate_seen c.line_of.ensures (λ k h. tt) refl (λ first t. refl)) c.simulate.ensures
+    said c.simulate.result c.args.self.now c.args.self.now c.args.code.now c.simulate.new.code c.args.height c.line_of.result c.args.prints.now.items c.args.s.now _ (λ k. Unit {0}) (λ t. simulate_code t) c.simulate.ensures i'.is c.line_of.ensures (λ k h. tt) refl (λ first t. refl)
 
 pub statement-returns-in-Create : goal.statement-returns-in-Create
+unfolding view_statement
 statement-returns-in-Create t' c =
     let i' = c.in-Create in
-    on_ok_weaker c.create.result (λ m.
-    said c.args.self.now c.create.new.self c.args.code.now c.create.new.code c.args.height c.line_of.result c.args.prints.now.items c.args.s.now _ _ (λ k. CanTakeMode k (view_place i'.into) Integer) (λ t. to_place_code t (view_place i'.into) Integer (λ u to. place u (i.Create i'.class to) ∷ [])) m i'.is (create_seen i'.line i'.class i'.into) c.line_of.ensures (λ k h. h.1) refl (λ first t. refl)) c.create.ensures
+    said c.create.result c.args.self.now c.create.new.self c.args.code.now c.create.new.code c.args.height c.line_of.result c.args.prints.now.items c.args.s.now _ (λ k. CanTakeMode k (view_place i'.into) Integer) (λ t. to_place_code t (view_place i'.into) Integer (λ u to. place u (i.Create i'.class to) ∷ [])) c.create.ensures i'.is c.line_of.ensures (λ k h. h.1) refl (λ first t. refl)
 
 pub statement-returns-in-CreateEvery : goal.statement-returns-in-CreateEvery
+unfolding view_statement
 statement-returns-in-CreateEvery t' c =
     let i' = c.in-CreateEvery in
-    on_ok_weaker c.creates.result (λ m.
-    said c.args.self.now c.creates.new.self c.args.code.now c.creates.new.code c.args.height c.line_of.result c.args.prints.now.items c.args.s.now _ _ (λ k. Unit {0}) (λ t. creates_code t i'.classes.items) m i'.is (create_every_seen i'.line i'.classes) c.line_of.ensures (λ k h. tt) refl (λ first t. refl)) (rw c.deref-in-CreateEvery.ensures.value at c.creates.ensures)
+    said c.creates.result c.args.self.now c.creates.new.self c.args.code.now c.creates.new.code c.args.height c.line_of.result c.args.prints.now.items c.args.s.now _ (λ k. Unit {0}) (λ t. creates_code t i'.classes.items) (rw c.deref-in-CreateEvery.ensures.value at c.creates.ensures) i'.is c.line_of.ensures (λ k h. tt) refl (λ first t. refl)
 
 pub statement-returns-in-Destroy : goal.statement-returns-in-Destroy
+unfolding view_statement
 statement-returns-in-Destroy t' c =
     let i' = c.in-Destroy in
-    on_ok_weaker c.destroy.result (λ m.
-    said c.args.self.now c.destroy.new.self c.args.code.now c.destroy.new.code c.args.height c.line_of.result c.args.prints.now.items c.args.s.now _ _ (λ k. IsTypedStatement k (p.Destroy c.line_of.result i'.class (view_expression i'.entity))) (λ t. with_operand t (view_expression i'.entity) (i.Destroy i'.class)) m i'.is (destroy_seen i'.line i'.class i'.entity) c.line_of.ensures (λ k h. h) refl (λ first t. refl)) c.destroy.ensures
+    said c.destroy.result c.args.self.now c.destroy.new.self c.args.code.now c.destroy.new.code c.args.height c.line_of.result c.args.prints.now.items c.args.s.now _ (λ k. IsTypedStatement k (p.Destroy c.line_of.result i'.class (view_expression i'.entity))) (λ t. with_operand t (view_expression i'.entity) (i.Destroy i'.class)) c.destroy.ensures i'.is c.line_of.ensures (λ k h. h) refl (λ first t. refl)
 
 pub statement-returns-in-File : goal.statement-returns-in-File
+unfolding view_statement
 statement-returns-in-File t' c =
     let i' = c.in-File in
-    on_ok_weaker c.file.result (λ m.
-    said c.args.self.now c.file.new.self c.args.code.now c.file.new.code c.args.height c.line_of.result c.args.prints.now.items c.args.s.now _ _ (λ k. IsTypedStatement k (p.File c.line_of.result i'.set (view_expression i'.member) (view_position i'.position) (view_owner i'.owner))) (λ t. file_code t i'.set (view_expression i'.member) (view_position i'.position) (view_owner i'.owner)) m i'.is (file_seen i'.line i'.set i'.member i'.position i'.owner) c.line_of.ensures (λ k h. h) refl (λ first t. refl)) c.file.ensures
+    said c.file.result c.args.self.now c.file.new.self c.args.code.now c.file.new.code c.args.height c.line_of.result c.args.prints.now.items c.args.s.now _ (λ k. IsTypedStatement k (p.File c.line_of.result i'.set (view_expression i'.member) (view_position i'.position) (view_owner i'.owner))) (λ t. file_code t i'.set (view_expression i'.member) (view_position i'.position) (view_owner i'.owner)) c.file.ensures i'.is c.line_of.ensures (λ k h. h) refl (λ first t. refl)
 
 pub statement-returns-in-RemoveEnd : goal.statement-returns-in-RemoveEnd
+unfolding view_statement
 statement-returns-in-RemoveEnd t' c =
     let i' = c.in-RemoveEnd in
-    on_ok_weaker c.remove_end.result (λ m.
-    said c.args.self.now c.remove_end.new.self c.args.code.now c.remove_end.new.code c.args.height c.line_of.result c.args.prints.now.items c.args.s.now _ _ (λ k. IsTypedStatement k (p.RemoveEnd c.line_of.result i'.end i'.set (view_place i'.into) (view_owner i'.owner))) (λ t. remove_end_code t i'.end i'.set (view_place i'.into) (view_owner i'.owner)) m i'.is (remove_end_seen i'.line i'.end i'.set i'.into i'.owner) c.line_of.ensures (λ k h. h) refl (λ first t. refl)) c.remove_end.ensures
+    said c.remove_end.result c.args.self.now c.remove_end.new.self c.args.code.now c.remove_end.new.code c.args.height c.line_of.result c.args.prints.now.items c.args.s.now _ (λ k. IsTypedStatement k (p.RemoveEnd c.line_of.result i'.end i'.set (view_place i'.into) (view_owner i'.owner))) (λ t. remove_end_code t i'.end i'.set (view_place i'.into) (view_owner i'.owner)) c.remove_end.ensures i'.is c.line_of.ensures (λ k h. h) refl (λ first t. refl)
 
 pub statement-returns-in-Remove : goal.statement-returns-in-Remove
+unfolding view_statement
 statement-returns-in-Remove t' c =
     let i' = c.in-Remove in
-    on_ok_weaker c.remove.result (λ m.
-    said c.args.self.now c.remove.new.self c.args.code.now c.remove.new.code c.args.height c.line_of.result c.args.prints.now.items c.args.s.now _ _ (λ k. IsTypedStatement k (p.Remove c.line_of.result i'.set (view_expression i'.member) (view_owner i'.owner))) (λ t. remove_code t i'.set (view_expression i'.member) (view_owner i'.owner)) m i'.is (remove_seen i'.line i'.set i'.member i'.owner) c.line_of.ensures (λ k h. h) refl (λ first t. refl)) c.remove.ensures
+    said c.remove.result c.args.self.now c.remove.new.self c.args.code.now c.remove.new.code c.args.height c.line_of.result c.args.prints.now.items c.args.s.now _ (λ k. IsTypedStatement k (p.Remove c.line_of.result i'.set (view_expression i'.member) (view_owner i'.owner))) (λ t. remove_code t i'.set (view_expression i'.member) (view_owner i'.owner)) c.remove.ensures i'.is c.line_of.ensures (λ k h. h) refl (λ first t. refl)
 
 pub statement-returns-in-ScheduleNew : goal.statement-returns-in-ScheduleNew
+unfolding view_statement
 statement-returns-in-ScheduleNew t' c =
     let i' = c.in-ScheduleNew in
-    on_ok_weaker c.schedule_new.result (λ m.
-    said c.args.self.now c.schedule_new.new.self c.args.code.now c.schedule_new.new.code c.args.height c.line_of.result c.args.prints.now.items c.args.s.now _ _ (λ k. IsTypedStatement k (p.ScheduleNew c.line_of.result i'.class (view_place i'.into) (map view_expression i'.given.items) (view_when i'.when))) (λ t. schedule_new_code t i'.class (view_place i'.into) (map view_expression i'.given.items) (view_when i'.when)) m i'.is (schedule_new_seen i'.line i'.class i'.into i'.given i'.when) c.line_of.ensures (λ k h. h) refl (λ first t. refl)) (rw c.deref-in-ScheduleNew.ensures.value at c.schedule_new.ensures)
+    said c.schedule_new.result c.args.self.now c.schedule_new.new.self c.args.code.now c.schedule_new.new.code c.args.height c.line_of.result c.args.prints.now.items c.args.s.now _ (λ k. IsTypedStatement k (p.ScheduleNew c.line_of.result i'.class (view_place i'.into) (map view_expression i'.given.items) (view_when i'.when))) (λ t. schedule_new_code t i'.class (view_place i'.into) (map view_expression i'.given.items) (view_when i'.when)) (rw c.deref-in-ScheduleNew.ensures.value at c.schedule_new.ensures) i'.is c.line_of.ensures (λ k h. h) refl (λ first t. refl)
 
 pub statement-returns-in-Schedule : goal.statement-returns-in-Schedule
+unfolding view_statement
 statement-returns-in-Schedule t' c =
     let i' = c.in-Schedule in
-    on_ok_weaker c.schedule.result (λ m.
-    said c.args.self.now c.schedule.new.self c.args.code.now c.schedule.new.code c.args.height c.line_of.result c.args.prints.now.items c.args.s.now _ _ (λ k. IsTypedStatement k (p.Schedule c.line_of.result i'.class (view_expression i'.notice) (map view_expression i'.given.items) (view_when i'.when))) (λ t. schedule_code t i'.class (view_expression i'.notice) (map view_expression i'.given.items) (view_when i'.when)) m i'.is (schedule_seen i'.line i'.class i'.notice i'.given i'.when) c.line_of.ensures (λ k h. h) refl (λ first t. refl)) (rw c.deref-in-Schedule.ensures.value at c.schedule.ensures)
+    said c.schedule.result c.args.self.now c.schedule.new.self c.args.code.now c.schedule.new.code c.args.height c.line_of.result c.args.prints.now.items c.args.s.now _ (λ k. IsTypedStatement k (p.Schedule c.line_of.result i'.class (view_expression i'.notice) (map view_expression i'.given.items) (view_when i'.when))) (λ t. schedule_code t i'.class (view_expression i'.notice) (map view_expression i'.given.items) (view_when i'.when)) (rw c.deref-in-Schedule.ensures.value at c.schedule.ensures) i'.is c.line_of.ensures (λ k h. h) refl (λ first t. refl)
 
 pub statement-returns-in-Cancel : goal.statement-returns-in-Cancel
+unfolding view_statement
 statement-returns-in-Cancel t' c =
     let i' = c.in-Cancel in
-    on_ok_weaker c.cancel.result (λ m.
-    said c.args.self.now c.cancel.new.self c.args.code.now c.cancel.new.code c.args.height c.line_of.result c.args.prints.now.items c.args.s.now _ _ (λ k. IsTypedStatement k (p.Cancel c.line_of.result i'.class (view_expression i'.notice))) (λ t. with_operand t (view_expression i'.notice) (i.Cancel i'.class)) m i'.is (cancel_seen i'.line i'.class i'.notice) c.line_of.ensures (λ k h. h) refl (λ first t. refl)) c.cancel.ensures
+    said c.cancel.result c.args.self.now c.cancel.new.self c.args.code.now c.cancel.new.code c.args.height c.line_of.result c.args.prints.now.items c.args.s.now _ (λ k. IsTypedStatement k (p.Cancel c.line_of.result i'.class (view_expression i'.notice))) (λ t. with_operand t (view_expression i'.notice) (i.Cancel i'.class)) c.cancel.ensures i'.is c.line_of.ensures (λ k h. h) refl (λ first t. refl)
 
 pub statement-returns-in-Reset : goal.statement-returns-in-Reset
+unfolding view_statement
 statement-returns-in-Reset t' c =
     let i' = c.in-Reset in
-    on_ok_weaker c.resets.result (λ m.
-    said c.args.self.now c.resets.new.self c.args.code.now c.resets.new.code c.args.height c.line_of.result c.args.prints.now.items c.args.s.now _ _ (λ k. Every (λ r. IsTypedRestart k r.statistic r.of) (map view_restart i'.restarts.items)) (λ t. restarts_code t (map view_restart i'.restarts.items)) m i'.is (reset_seen i'.line i'.restarts) c.line_of.ensures (λ k h. h) refl (λ first t. refl)) (rw c.deref-in-Reset.ensures.value at c.resets.ensures)
+    said c.resets.result c.args.self.now c.resets.new.self c.args.code.now c.resets.new.code c.args.height c.line_of.result c.args.prints.now.items c.args.s.now _ (λ k. Every (λ r. IsTypedRestart k r.statistic r.of) (map view_restart i'.restarts.items)) (λ t. restarts_code t (map view_restart i'.restarts.items)) (rw c.deref-in-Reset.ensures.value at c.resets.ensures) i'.is c.line_of.ensures (λ k h. h) refl (λ first t. refl)
 
 pub statement-returns-in-Skip : goal.statement-returns-in-Skip
+unfolding view_statement
 statement-returns-in-Skip t' c =
     let i' = c.in-Skip in
-    on_ok_weaker c.skip.result (λ m.
-    said c.args.self.now c.skip.new.self c.args.code.now c.skip.new.code c.args.height c.line_of.result c.args.prints.now.items c.args.s.now _ _ (λ k. IsTypedStatement k (p.Skip c.line_of.result (view_expression i'.count))) (λ t. with_operand t (view_expression i'.count) i.Skip) m i'.is (skip_seen i'.line i'.count) c.line_of.ensures (λ k h. h) refl (λ first t. refl)) c.skip.ensures
+    said c.skip.result c.args.self.now c.skip.new.self c.args.code.now c.skip.new.code c.args.height c.line_of.result c.args.prints.now.items c.args.s.now _ (λ k. IsTypedStatement k (p.Skip c.line_of.result (view_expression i'.count))) (λ t. with_operand t (view_expression i'.count) i.Skip) c.skip.ensures i'.is c.line_of.ensures (λ k h. h) refl (λ first t. refl)
 
 pub statement-returns-in-Print : goal.statement-returns-in-Print
 statement-returns-in-Print t' c =
@@ -185,7 +186,6 @@ body-loop-s-preserved t' c =
     let l = c.loop-s in
     let item = c.s-item.result in
     let xs = c.args.body.now in
-    let more : take (l.s-index + 1) xs ≡ take l.s-index xs ++ item ∷ [] = take_more xs l.s-index item c.loop-s-test.true ∙ ap (λ e. take l.s-index xs ++ e ∷ []) (sym c.s-item.is) in
-    let seen : map view_statement (take (l.s-index + 1) xs) ≡ map view_statement (take l.s-index xs) ++ view_statement item ∷ [] = ap (map view_statement) more ∙ map-append view_statement (take l.s-index xs) (item ∷ []) in
+    let seen = next_taken view_statement xs l.s-index item c.loop-s-test.true c.s-item.is in
     subst (λ ss. HasEmittedBlock c.args.self.now c.statement.new.self c.statement.new.code c.args.height c.args.prints.now.items c.statement.new.prints.items (block_of ss)) (sym seen)
     (body_more c.args.self.now l.self c.statement.new.self l.code c.statement.new.code c.args.height c.args.prints.now.items l.prints.items c.statement.new.prints.items (map view_statement (take l.s-index xs)) (view_statement item) l.invariant c.in_ok-statement.ensures)

@@ -1,6 +1,6 @@
-use Rattle.std.proofs.Common.{◌≡◌, ℕ, ◌+◌, ◌-◌, ◌<◌, ◌∷◌, length, map, drop, ap, ◌∙◌, arith}
+use Rattle.std.proofs.Common.{◌≡◌, ℕ, ◌+◌, ◌-◌, ◌∷◌, map, drop, ap, ◌∙◌, arith}
 use Rattle.ss_program.specs.View.{view_guard}
-use Rattle.ss_code_generator.proofs.Listed.{next_dropped}
+use Rattle.ss_code_generator.proofs.Listed.{next_before}
 use Rattle.ss_code_generator.proofs.Testing.{guards_step}
 use Rattle.ss_code_generator.proofs.generator.Generator.guards.Goals as goal
 
@@ -8,11 +8,8 @@ pub loop-i-preserved : goal.loop-i-preserved
 loop-i-preserved c =
     let l = c.loop-i in
     let gs = c.args.guards.now in
-    let j : ℕ = l.i - 1 in
-    let up : j + 1 ≡ l.i = omega arith in
-    let low : j < length gs = omega arith in
     let x = c.index-guards-i.result in
-    let drops : drop j gs ≡ x ∷ drop l.i gs = next_dropped gs j x low c.index-guards-i.is ∙ ap (λ (k : ℕ). x ∷ drop k gs) up in
+    let drops : drop (l.i - 1) gs ≡ x ∷ drop l.i gs = next_before gs l.i x (omega arith) (omega arith) c.index-guards-i.is in
     rw drops
     (guards_step c.args.self.now l.self c.guard.new.self l.rest c.in_ok-front.front c.put_before.new.self c.args.following c.args.site c.args.more c.in_ok-past.past (view_guard x) (map view_guard (drop l.i gs)) l.invariant c.in_ok-front.ensures
     (c.in_ok-past.ensures ∙ ap (λ (k : ℕ). k + c.args.more) c.len.ensures.value) c.in_ok-put_before.ensures)

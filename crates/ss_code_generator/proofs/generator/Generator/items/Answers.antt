@@ -1,6 +1,6 @@
 use Rattle.std.proofs.Common.{◌≡◌, ◌+◌, [], ◌∷◌, ◌++◌, map, take, take_all}
 use Rattle.ss_program.specs.View.{view_item}
-use Rattle.ss_code_generator.proofs.Listed.{next_mapped}
+use Rattle.ss_code_pieces.proofs.Steps.{next_taken}
 use Rattle.ss_code_generator.proofs.Itemed.{no_items, items_more, items_done}
 use Rattle.ss_code_generator.proofs.generator.Generator.items.Goals as goal
 
@@ -12,7 +12,7 @@ loop-item-preserved c =
     let l = c.loop-item in
     let x = c.item-item.result in
     let xs = c.args.items.now in
-    let more : map view_item (take (l.item-index + 1) xs) ≡ map view_item (take l.item-index xs) ++ view_item x ∷ [] = next_mapped view_item xs l.item-index x c.loop-item-test.true c.item-item.is in
+    let more : map view_item (take (l.item-index + 1) xs) ≡ map view_item (take l.item-index xs) ++ view_item x ∷ [] = next_taken view_item xs l.item-index x c.loop-item-test.true c.item-item.is in
     rw more
     (items_more c.reach.new.self l.self c.item.new.self c.args.code.now l.code c.item.new.code c.args.site l.here c.above-here.result (map view_item (take l.item-index xs)) (view_item x) c.in_ok-cells.cells l.invariant c.in_ok-cells.ensures.code c.in_ok-cells.ensures.width c.in_ok-cells.ensures.room c.above-here.ensures.line c.above-here.ensures.height)
 

@@ -1,5 +1,5 @@
 use Rattle.ss_code_generator.proofs.Common.{on_ok_weaker, view_owner, view_place}
-use Rattle.ss_code_generator.proofs.Removing.{end_removed}
+use Rattle.ss_code_generator.proofs.Filed.{end_removed}
 use Rattle.ss_code_generator.proofs.generator.Generator.remove_end.Goals as goal
 
 pub returns : goal.returns

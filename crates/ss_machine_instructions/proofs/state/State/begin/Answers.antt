@@ -1,33 +1,21 @@
-use Rattle.std.proofs.Common.{rules, ◌≡◌, ◌+◌, Some, true, false, ap}
+use Rattle.std.proofs.Common.{arith, rules, ◌≡◌, ◌+◌, Some, true, false, ap}
 use Rattle.ss_machine_instructions.proofs.Common.{has_item, int_lt, on_if_at, pos, slice_get, tested_at}
 use Rattle.ss_code_instructions.specs.declared.instruction.Instruction.TheVariants.{Begin as Runs}
 use Rattle.ss_machine_instructions.proofs.Placing.{frame_small}
-use Rattle.ss_machine_instructions.proofs.Looping.{begin_cells, loop_within, loop_at, begins_not, begins}
+use Rattle.ss_machine_instructions.proofs.Looping.{begin_cells, loop_reaches, loop_at, begins_not, begins}
 use Rattle.ss_machine_instructions.proofs.state.State.begin.Goals as goal
 
 pub cell-at-requires : goal.cell-at-requires
 cell-at-requires c = let z = c.requires in frame_small z.1.0 z.1.1 c.args.here c.args.self.now (Runs c.args.cell z.0) z.1.2
 
 pub number_at-step-requires : goal.number_at-step-requires
-number_at-step-requires c =
-    let z = c.requires in
-    let lt = loop_within z.1.0 z.1.1 c.args.here c.args.self.now (Runs c.args.cell z.0) z.1.2 c.args.cell (begin_cells z.1.0 z.1.1 c.args.here c.args.self.now c.args.cell z.0 z.1.2) in
-    let cell : c.cell-at.result ≡ c.args.here.frame + c.args.cell = c.cell-at.ensures in
-    search rules
+number_at-step-requires c = let z = c.requires in omega (arith, loop_reaches z.1.0 z.1.1 c.args.here c.args.self.now (Runs c.args.cell z.0) z.1.2 c.args.cell c.cell-at.result c.cell-at.ensures (begin_cells z.1.0 z.1.1 c.args.here c.args.self.now c.args.cell z.0 z.1.2))
 
 pub number_at-limit-requires : goal.number_at-limit-requires
-number_at-limit-requires c =
-    let z = c.requires in
-    let lt = loop_within z.1.0 z.1.1 c.args.here c.args.self.now (Runs c.args.cell z.0) z.1.2 c.args.cell (begin_cells z.1.0 z.1.1 c.args.here c.args.self.now c.args.cell z.0 z.1.2) in
-    let cell : c.cell-at.result ≡ c.args.here.frame + c.args.cell = c.cell-at.ensures in
-    search rules
+number_at-limit-requires c = let z = c.requires in omega (arith, loop_reaches z.1.0 z.1.1 c.args.here c.args.self.now (Runs c.args.cell z.0) z.1.2 c.args.cell c.cell-at.result c.cell-at.ensures (begin_cells z.1.0 z.1.1 c.args.here c.args.self.now c.args.cell z.0 z.1.2))
 
 pub number_at-item-requires : goal.number_at-item-requires
-number_at-item-requires c =
-    let z = c.requires in
-    let lt = loop_within z.1.0 z.1.1 c.args.here c.args.self.now (Runs c.args.cell z.0) z.1.2 c.args.cell (begin_cells z.1.0 z.1.1 c.args.here c.args.self.now c.args.cell z.0 z.1.2) in
-    let cell : c.cell-at.result ≡ c.args.here.frame + c.args.cell = c.cell-at.ensures in
-    search rules
+number_at-item-requires c = let z = c.requires in omega (arith, loop_reaches z.1.0 z.1.1 c.args.here c.args.self.now (Runs c.args.cell z.0) z.1.2 c.args.cell c.cell-at.result c.cell-at.ensures (begin_cells z.1.0 z.1.1 c.args.here c.args.self.now c.args.cell z.0 z.1.2))
 
 pub returns-then-not-rises : goal.returns-then-not-rises
 returns-then-not-rises c = λ skip w core r.

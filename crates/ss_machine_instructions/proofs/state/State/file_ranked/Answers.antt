@@ -1,20 +1,21 @@
 use Rattle.std.proofs.Common.{rules, ◌≡◌, ℤ, subst, to_z, of_z, w64, ap}
 use Rattle.ss_code_instructions.specs.declared.instruction.Instruction.TheVariants.{FileRanked as Runs}
+use Rattle.ss_code_instructions.specs.Instructions.{Ranked}
 use Rattle.ss_machine_instructions.proofs.Common.{ByRule, HasFiled, on_after}
-use Rattle.ss_machine_instructions.proofs.Setwork.{files_ranked_in, files_ranked}
+use Rattle.ss_machine_instructions.proofs.Setwork.{file_within, files_by, rank_positions}
 use Rattle.ss_machine_instructions.proofs.state.State.file_ranked.Goals as goal
 
 pub number-member-requires : goal.number-member-requires
-number-member-requires c = let z = c.requires in (files_ranked_in z.0 z.1 c.args.here c.args.self.now (Runs c.args.set c.args.member.now c.args.owner.now c.args.noted) z.2 c.args.set c.args.member.now c.args.owner.now z.2.runs.carries.1).member_place
+number-member-requires c = let z = c.requires in (file_within z.0 z.1 c.args.here c.args.self.now (Runs c.args.set c.args.member.now c.args.owner.now c.args.noted) z.2 Ranked c.args.set c.args.member.now c.args.owner.now z.2.runs.carries.1).member_place
 
 pub number-owner-requires : goal.number-owner-requires
-number-owner-requires c = let z = c.requires in (files_ranked_in z.0 z.1 c.args.here c.args.self.now (Runs c.args.set c.args.member.now c.args.owner.now c.args.noted) z.2 c.args.set c.args.member.now c.args.owner.now z.2.runs.carries.1).owner_place
+number-owner-requires c = let z = c.requires in (file_within z.0 z.1 c.args.here c.args.self.now (Runs c.args.set c.args.member.now c.args.owner.now c.args.noted) z.2 Ranked c.args.set c.args.member.now c.args.owner.now z.2.runs.carries.1).owner_place
 
 pub put_ranked-answer-requires-clause-set : goal.put_ranked-answer-requires-clause-set
-put_ranked-answer-requires-clause-set c = let z = c.requires in (files_ranked_in z.0 z.1 c.args.here c.args.self.now (Runs c.args.set c.args.member.now c.args.owner.now c.args.noted) z.2 c.args.set c.args.member.now c.args.owner.now z.2.runs.carries.1).set_place
+put_ranked-answer-requires-clause-set c = let z = c.requires in (file_within z.0 z.1 c.args.here c.args.self.now (Runs c.args.set c.args.member.now c.args.owner.now c.args.noted) z.2 Ranked c.args.set c.args.member.now c.args.owner.now z.2.runs.carries.1).set_place
 
 pub put_ranked-answer-requires-clause-ruled : goal.put_ranked-answer-requires-clause-ruled
-put_ranked-answer-requires-clause-ruled c = let z = c.requires in (files_ranked_in z.0 z.1 c.args.here c.args.self.now (Runs c.args.set c.args.member.now c.args.owner.now c.args.noted) z.2 c.args.set c.args.member.now c.args.owner.now z.2.runs.carries.1).ruled_set
+put_ranked-answer-requires-clause-ruled c = let z = c.requires in (file_within z.0 z.1 c.args.here c.args.self.now (Runs c.args.set c.args.member.now c.args.owner.now c.args.noted) z.2 Ranked c.args.set c.args.member.now c.args.owner.now z.2.runs.carries.1).ruled_set
 
 pub returns : goal.returns
 returns c = λ w core r.
@@ -24,4 +25,4 @@ returns c = λ w core r.
     let same_n : to_z w64 (of_z w64 n) ≡ n = search rules in
     let same_m : to_z w64 (of_z w64 m) ≡ m = search rules in
     let filed = subst (λ (y : ℤ). HasFiled ByRule set notes s.world e q y n) same_m (subst (λ (x : ℤ). HasFiled ByRule set notes s.world e q (to_z w64 (of_z w64 m)) x) same_n c.put_ranked-answer.ensures) in
-    files_ranked w core c.args.here s (Runs c.args.set c.args.member.now c.args.owner.now c.args.noted) r c.args.set c.args.member.now c.args.owner.now n m notes e q c.done.new.self (on_after c.args.here c.done.result) r.runs.carries.0 r.runs.carries.1 c.number-member.ensures c.number-owner.ensures filed (c.done.ensures.state, ap (on_after c.args.here) c.done.ensures.way)
+    files_by w core c.args.here s (Runs c.args.set c.args.member.now c.args.owner.now c.args.noted) r Ranked ByRule c.args.set c.args.member.now c.args.owner.now n m notes e q c.done.new.self (on_after c.args.here c.done.result) (rank_positions w core c.args.here s (Runs c.args.set c.args.member.now c.args.owner.now c.args.noted) r) tt r.runs.carries.0 r.runs.carries.1 c.number-member.ensures c.number-owner.ensures filed (c.done.ensures.state, ap (on_after c.args.here) c.done.ensures.way)

@@ -1,8 +1,7 @@
 use Rattle.std.proofs.Common.{◌≡◌, Option, None, Some, is_some, refl, ap, ◌∙◌}
+use Rattle.ss_names_declarations.proofs.Common.{is_some-lookup, list_any}
 use Rattle.std.specs.Borrow.{Bor}
-use Rattle.std.specs.List.{list_any}
 use Rattle.std.specs.Option.{option_copied}
-use Rattle.std.proofs.lemmas.Map.Made.{is_some-lookup}
 use Rattle.ss_names_declarations.proofs.keys.Keys.contains.Goals as goal
 
 copied : {T : Type 0} → (o : Option (Bor T)) → is_some o ≡ is_some (option_copied o)

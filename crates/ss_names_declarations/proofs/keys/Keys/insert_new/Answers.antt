@@ -1,8 +1,6 @@
 use Rattle.std.proofs.Common.{◌≡◌, Bool, true, false, List, ◌++◌, ◌∷◌, [], cond, is_some, refl, ap, ◌∙◌}
-use Rattle.std.specs.List.{list_any}
-use Rattle.std.specs.Map.{keys_of, lookup}
+use Rattle.ss_names_declarations.proofs.Common.{is_some-lookup, keys_of, list_any, lookup}
 use Rattle.std.proofs.lemmas.List.{map-append}
-use Rattle.std.proofs.lemmas.Map.Made.{is_some-lookup}
 use Rattle.ss_names_declarations.proofs.keys.Keys.insert_new.Goals as goal
 
 keys_beside : {K V : Type 0} → (b : Bool) (es : List (K × V)) (e : K × V) → keys_of (cond b es (es ++ e ∷ [])) ≡ cond b (keys_of es) (keys_of es ++ e.0 ∷ [])

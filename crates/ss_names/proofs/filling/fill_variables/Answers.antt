@@ -1,8 +1,0 @@
-use Rattle.ss_names.specs.Filling.{variables_pass}
-use Rattle.ss_names.proofs.Steps.{step_more}
-use Rattle.ss_names.proofs.filling.fill_variables.Goals as goal
-
-pub loop-declaration-preserved : goal.loop-declaration-preserved
-loop-declaration-preserved c =
-    step_more variables_pass _ _ _ c.args.declarations.now c.loop-declaration.declaration-index c.declaration-item.result
-    c.loop-declaration-test.true c.declaration-item.is c.loop-declaration.invariant c.in_ok-add_variables.ensures

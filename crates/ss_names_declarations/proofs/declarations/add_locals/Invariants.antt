@@ -1,6 +1,0 @@
-use Rattle.std.proofs.Common.{◌≡◌, ◌++◌, map, take}
-use Rattle.ss_names_declarations.specs.Declarations.{local_declaration}
-use Rattle.ss_names_declarations.proofs.declarations.add_locals.Given as goal
-
-abbrev pub invariant-loop-name : goal.invariant-loop-name
-invariant-loop-name l = l.out.items ≡ l.initial.out.items ++ map (local_declaration l.line l.section l.mode) (take l.name-index l.names)
