@@ -9,8 +9,8 @@ ghost use Rattle.ss_parse_expressions.specs.declared.conditions.Verb.TheVariants
 ghost use Rattle.ss_parse_expressions.specs.ReadConditions.{relation_symbol, test_word_of, verb_end, worded_verb, verb, is_short, is_reference, reference_of, data_test, test_end, sum_test, test_in, conjunction_in, condition_in};
 
 use crate::expressions::sum;
-use crate::failure::ParseFailure;
 use crate::places::reference;
+use crate::reading::Reading;
 use crate::steps::{alone, beside, joined};
 use crate::tables::{WordTable, take_word_of};
 use crate::tokens::{begins_word, expect_word, skip_word, syntax, too_deep};
@@ -72,11 +72,7 @@ impl WordTable for TestWords {
 }
 
 /// A verb that compares, and ends with the word.
-fn compares(
-    relation: Relation,
-    tokens: &[Token],
-    last: Word,
-) -> Result<(Verb, &[Token]), ParseFailure>
+fn compares(relation: Relation, tokens: &[Token], last: Word) -> Reading<'_, Verb>
     ensures { HasGivenReading (λ x. (x.0, x.1.now)) result (apply (λ u. Compares relation) (expect (word last)) tokens.now) }
 {
     let rest = expect_word(tokens, last)?;
@@ -84,12 +80,7 @@ fn compares(
 }
 
 /// The rest of a verb, given whether IS and NOT were there and which word says what is tested.
-fn verb_end(
-    is: bool,
-    negated: bool,
-    tested: TestWord,
-    tokens: &[Token],
-) -> Result<(Verb, &[Token]), ParseFailure>
+fn verb_end(is: bool, negated: bool, tested: TestWord, tokens: &[Token]) -> Reading<'_, Verb>
     ensures { HasGivenReading (λ x. (x.0, x.1.now)) result (verb_end tested is negated tokens.now) }
 {
     match tested {
@@ -107,7 +98,7 @@ fn verb_end(
 
 /// A test's verb in words.
 #[tactic(auto, unfolding(crate::specs::ReadConditions::worded_verb))]
-fn worded_verb(tokens: &[Token]) -> Result<(Verb, &[Token]), ParseFailure>
+fn worded_verb(tokens: &[Token]) -> Reading<'_, Verb>
     ensures { HasGivenReading (λ x. (x.0, x.1.now)) result (worded_verb tokens.now) }
 {
     let is = begins_word(tokens, Word::Is);
@@ -119,7 +110,7 @@ fn worded_verb(tokens: &[Token]) -> Result<(Verb, &[Token]), ParseFailure>
 
 /// A test's verb.
 #[tactic(auto, unfolding(crate::specs::ReadConditions::verb))]
-fn any_verb(tokens: &[Token]) -> Result<(Verb, &[Token]), ParseFailure>
+fn any_verb(tokens: &[Token]) -> Reading<'_, Verb>
     ensures { HasGivenReading (λ x. (x.0, x.1.now)) result (verb tokens.now) }
 {
     match tokens {
@@ -185,7 +176,7 @@ fn test_end(
     verb: Verb,
     tokens: &[Token],
     room: u8,
-) -> Result<(Test, &[Token]), ParseFailure>
+) -> Reading<'_, Test>
     ensures { HasGivenReading (λ x. (view_test_tree x.0, x.1.now)) result (test_end room (view_expression_tree left) verb tokens.now) }
 {
     match verb {
@@ -217,7 +208,7 @@ fn test_end(
 
 /// DATA IS ENDED.
 #[tactic(auto, unfolding(crate::specs::ReadConditions::data_test))]
-fn data_test(tokens: &[Token]) -> Result<(Test, &[Token]), ParseFailure>
+fn data_test(tokens: &[Token]) -> Reading<'_, Test>
     ensures { HasGivenReading (λ x. (view_test_tree x.0, x.1.now)) result (data_test tokens.now) }
 {
     let rest = expect_word(tokens, Word::Data)?;
@@ -229,7 +220,7 @@ fn data_test(tokens: &[Token]) -> Result<(Test, &[Token]), ParseFailure>
 
 /// A test that begins with an expression.
 #[tactic(auto, unfolding(crate::specs::ReadConditions::sum_test))]
-fn sum_test(alloc: Global, tokens: &[Token], room: u8) -> Result<(Test, &[Token]), ParseFailure>
+fn sum_test(alloc: Global, tokens: &[Token], room: u8) -> Reading<'_, Test>
     ensures { HasGivenReading (λ x. (view_test_tree x.0, x.1.now)) result (sum_test room tokens.now) }
 {
     let (left, rest) = sum(alloc, tokens, room)?;
@@ -239,7 +230,7 @@ fn sum_test(alloc: Global, tokens: &[Token], room: u8) -> Result<(Test, &[Token]
 
 /// A test, where this many levels of nesting, one around it among them, may be opened.
 #[tactic(auto, unfolding(crate::specs::ReadConditions::test_in))]
-fn test(alloc: Global, tokens: &[Token], room: u8) -> Result<(Test, &[Token]), ParseFailure>
+fn test(alloc: Global, tokens: &[Token], room: u8) -> Reading<'_, Test>
     ensures { HasGivenReading (λ x. (view_test_tree x.0, x.1.now)) result (test_in room tokens.now) }
 {
     if room == 0 {
@@ -253,11 +244,7 @@ fn test(alloc: Global, tokens: &[Token], room: u8) -> Result<(Test, &[Token]), P
 }
 
 /// Tests joined by AND.
-fn conjunction(
-    alloc: Global,
-    tokens: &[Token],
-    room: u8,
-) -> Result<(Conjunction, &[Token]), ParseFailure>
+fn conjunction(alloc: Global, tokens: &[Token], room: u8) -> Reading<'_, Conjunction>
     ensures { HasGivenReading (λ x. (view_conjunction_tree x.0, x.1.now)) result (conjunction_in room tokens.now) }
 {
     let (first, mut rest) = test(alloc, tokens, room)?;
@@ -271,11 +258,7 @@ fn conjunction(
 }
 
 /// A condition.
-pub fn condition(
-    alloc: Global,
-    tokens: &[Token],
-    room: u8,
-) -> Result<(Condition, &[Token]), ParseFailure>
+pub fn condition(alloc: Global, tokens: &[Token], room: u8) -> Reading<'_, Condition>
     ensures { HasGivenReading (λ x. (view_condition_tree x.0, x.1.now)) result (condition_in room tokens.now) }
 {
     let (first, mut rest) = conjunction(alloc, tokens, room)?;

@@ -7,7 +7,7 @@ ghost use Rattle.ss_parse_expressions.specs.WordTables.{function_of};
 ghost use Rattle.ss_parse_expressions.specs.Reading.{HasGivenReading, word, begins_by, taken, begins_more};
 ghost use Rattle.ss_parse_expressions.specs.ReadExpressions.{sum_of_terms, product_of, sign_of_token, begins_sign, designator_of_word, begins_sum, arguments_with, enclosed_with, subscripts_with, named_with, call_with, parenthesised_with, factor_in_words, factor_with, further_factors_with, term_with, signed_term_with, first_term_with, further_terms_with, sum_with, sum_in};
 
-use crate::failure::ParseFailure;
+use crate::reading::Reading;
 use crate::steps::{alone, beside, joined};
 use crate::tokens::{
     begins_symbol, begins_word, expect_symbol, skip_separator, skip_symbol, syntax, too_deep,
@@ -24,7 +24,7 @@ fn begins_sign(tokens: &[Token]) -> bool
 }
 
 /// A sign.
-fn sign(tokens: &[Token]) -> Result<(Sign, &[Token]), ParseFailure>
+fn sign(tokens: &[Token]) -> Reading<'_, Sign>
     ensures { HasGivenReading (λ x. (x.0, x.1.now)) result (taken sign_of_token tokens.now) }
 {
     match tokens {
@@ -118,11 +118,7 @@ fn signed(alloc: Global, term: Term) -> Result<Expression, AllocError>
 /// An expression, where this many levels of nesting, itself among them, may be opened.
 #[cycle(expressions)]
 #[tactic(auto, unfolding(crate::specs::ReadExpressions::sum_in, crate::specs::ReadExpressions::sum_with))]
-pub fn sum(
-    alloc: Global,
-    tokens: &[Token],
-    room: u8,
-) -> Result<(Expression, &[Token]), ParseFailure>
+pub fn sum(alloc: Global, tokens: &[Token], room: u8) -> Reading<'_, Expression>
     ensures { HasGivenReading (λ x. (view_expression_tree x.0, x.1.now)) result (sum_in room tokens.now) }
 {
     if room == 0 {
@@ -136,11 +132,7 @@ pub fn sum(
 /// The first term of a sum, which may have a sign.
 #[cycle(expressions)]
 #[tactic(auto, unfolding(crate::specs::ReadExpressions::first_term_with))]
-fn first_term(
-    alloc: Global,
-    tokens: &[Token],
-    room: u8,
-) -> Result<(Expression, &[Token]), ParseFailure>
+fn first_term(alloc: Global, tokens: &[Token], room: u8) -> Reading<'_, Expression>
     ensures { HasGivenReading (λ x. (view_expression_tree x.0, x.1.now)) result (first_term_with (sum_in room) tokens.now) }
 {
     if begins_sign(tokens) {
@@ -154,7 +146,7 @@ fn first_term(
 /// A sign and a term.
 #[cycle(expressions)]
 #[tactic(auto, unfolding(crate::specs::ReadExpressions::signed_term_with))]
-fn signed_term(alloc: Global, tokens: &[Token], room: u8) -> Result<(Term, &[Token]), ParseFailure>
+fn signed_term(alloc: Global, tokens: &[Token], room: u8) -> Reading<'_, Term>
     ensures { HasGivenReading (λ x. (view_term x.0, x.1.now)) result (signed_term_with (sum_in room) tokens.now) }
 {
     let (sign, rest) = sign(tokens)?;
@@ -164,11 +156,7 @@ fn signed_term(alloc: Global, tokens: &[Token], room: u8) -> Result<(Term, &[Tok
 
 /// Further terms of a sum.
 #[cycle(expressions)]
-fn further_terms(
-    alloc: Global,
-    tokens: &[Token],
-    room: u8,
-) -> Result<(Vec<Term>, &[Token]), ParseFailure>
+fn further_terms(alloc: Global, tokens: &[Token], room: u8) -> Reading<'_, Vec<Term>>
     ensures { HasGivenReading (λ x. (map view_term x.0.items, x.1.now)) result (further_terms_with (sum_in room) tokens.now) }
 {
     let mut all = Vec::new(alloc);
@@ -184,7 +172,7 @@ fn further_terms(
 /// A factor and further ones.
 #[cycle(expressions)]
 #[tactic(auto, unfolding(crate::specs::ReadExpressions::term_with))]
-fn term(alloc: Global, tokens: &[Token], room: u8) -> Result<(Expression, &[Token]), ParseFailure>
+fn term(alloc: Global, tokens: &[Token], room: u8) -> Reading<'_, Expression>
     ensures { HasGivenReading (λ x. (view_expression_tree x.0, x.1.now)) result (term_with (sum_in room) tokens.now) }
 {
     let (first, rest) = factor(alloc, tokens, room)?;
@@ -194,11 +182,7 @@ fn term(alloc: Global, tokens: &[Token], room: u8) -> Result<(Expression, &[Toke
 
 /// Further factors of a product.
 #[cycle(expressions)]
-fn further_factors(
-    alloc: Global,
-    tokens: &[Token],
-    room: u8,
-) -> Result<(Vec<Expression>, &[Token]), ParseFailure>
+fn further_factors(alloc: Global, tokens: &[Token], room: u8) -> Reading<'_, Vec<Expression>>
     ensures { HasGivenReading (λ x. (map view_expression_tree x.0.items, x.1.now)) result (further_factors_with (sum_in room) tokens.now) }
 {
     let mut all = Vec::new(alloc);
@@ -214,7 +198,7 @@ fn further_factors(
 /// A factor.
 #[cycle(expressions)]
 #[tactic(auto, unfolding(crate::specs::ReadExpressions::factor_at, ss_tree::specs::View::view_expression_tree))]
-fn factor(alloc: Global, tokens: &[Token], room: u8) -> Result<(Expression, &[Token]), ParseFailure>
+fn factor(alloc: Global, tokens: &[Token], room: u8) -> Reading<'_, Expression>
     ensures { HasGivenReading (λ x. (view_expression_tree x.0, x.1.now)) result (factor_with (sum_in room) tokens.now) }
 {
     match tokens {
@@ -233,12 +217,7 @@ fn factor(alloc: Global, tokens: &[Token], room: u8) -> Result<(Expression, &[To
 /// A factor that begins with this word, which was taken.
 #[cycle(expressions)]
 #[tactic(auto)]
-fn factor_in_words(
-    alloc: Global,
-    word: Word,
-    tokens: &[Token],
-    room: u8,
-) -> Result<(Expression, &[Token]), ParseFailure>
+fn factor_in_words(alloc: Global, word: Word, tokens: &[Token], room: u8) -> Reading<'_, Expression>
     ensures { HasGivenReading (λ x. (view_expression_tree x.0, x.1.now)) result (factor_in_words (sum_in room) (designator_of_word word) (function_of word) tokens.now) }
 {
     if let Some(designator) = designator_of_word(word) {
@@ -258,7 +237,7 @@ fn named(
     designator: Designator,
     tokens: &[Token],
     room: u8,
-) -> Result<(Expression, &[Token]), ParseFailure>
+) -> Reading<'_, Expression>
     ensures { HasGivenReading (λ x. (view_expression_tree x.0, x.1.now)) result (named_with (sum_in room) designator tokens.now) }
 {
     let (subscripts, rest) = subscripts(alloc, tokens, room)?;
@@ -272,12 +251,7 @@ fn named(
 /// A call of a function, after the function's name.
 #[cycle(expressions)]
 #[tactic(auto, using(ss_tree::specs::Views::view_call_made))]
-fn call(
-    alloc: Global,
-    function: Function,
-    tokens: &[Token],
-    room: u8,
-) -> Result<(Expression, &[Token]), ParseFailure>
+fn call(alloc: Global, function: Function, tokens: &[Token], room: u8) -> Reading<'_, Expression>
     ensures { HasGivenReading (λ x. (view_expression_tree x.0, x.1.now)) result (call_with (sum_in room) function tokens.now) }
 {
     let (arguments, rest) = enclosed(alloc, tokens, room)?;
@@ -291,11 +265,7 @@ fn call(
 /// An expression in parentheses, after the opening one.
 #[cycle(expressions)]
 #[tactic(auto, unfolding(crate::specs::ReadExpressions::parenthesised_with, ss_tree::specs::View::view_expression_tree))]
-fn parenthesised(
-    alloc: Global,
-    tokens: &[Token],
-    room: u8,
-) -> Result<(Expression, &[Token]), ParseFailure>
+fn parenthesised(alloc: Global, tokens: &[Token], room: u8) -> Reading<'_, Expression>
     ensures { HasGivenReading (λ x. (view_expression_tree x.0, x.1.now)) result (parenthesised_with (sum_in room) tokens.now) }
 {
     let (inner, rest) = sum(alloc, tokens, room)?;
@@ -306,11 +276,7 @@ fn parenthesised(
 /// Subscripts, if there are any.
 #[cycle(expressions)]
 #[tactic(auto, unfolding(crate::specs::ReadExpressions::subscripts_with))]
-fn subscripts(
-    alloc: Global,
-    tokens: &[Token],
-    room: u8,
-) -> Result<(Vec<Expression>, &[Token]), ParseFailure>
+fn subscripts(alloc: Global, tokens: &[Token], room: u8) -> Reading<'_, Vec<Expression>>
     ensures { HasGivenReading (λ x. (map view_expression_tree x.0.items, x.1.now)) result (subscripts_with (sum_in room) tokens.now) }
 {
     if begins_symbol(tokens, Symbol::OpenParenthesis) {
@@ -323,11 +289,7 @@ fn subscripts(
 /// Expressions in parentheses.
 #[cycle(expressions)]
 #[tactic(auto, unfolding(crate::specs::ReadExpressions::enclosed_with))]
-fn enclosed(
-    alloc: Global,
-    tokens: &[Token],
-    room: u8,
-) -> Result<(Vec<Expression>, &[Token]), ParseFailure>
+fn enclosed(alloc: Global, tokens: &[Token], room: u8) -> Reading<'_, Vec<Expression>>
     ensures { HasGivenReading (λ x. (map view_expression_tree x.0.items, x.1.now)) result (enclosed_with (sum_in room) tokens.now) }
 {
     let rest = expect_symbol(tokens, Symbol::OpenParenthesis)?;
@@ -338,11 +300,7 @@ fn enclosed(
 
 /// Expressions with separators between.
 #[cycle(expressions)]
-pub fn sums(
-    alloc: Global,
-    tokens: &[Token],
-    room: u8,
-) -> Result<(Vec<Expression>, &[Token]), ParseFailure>
+pub fn sums(alloc: Global, tokens: &[Token], room: u8) -> Reading<'_, Vec<Expression>>
     ensures { HasGivenReading (λ x. (map view_expression_tree x.0.items, x.1.now)) result (arguments_with (sum_in room) tokens.now) }
 {
     let (first, mut rest) = sum(alloc, tokens, room)?;

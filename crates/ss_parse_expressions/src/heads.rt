@@ -9,9 +9,9 @@ ghost use Rattle.ss_parse_expressions.specs.ReadHeads.{begins_phrase, begins_gua
 use crate::classes::{WordClass, begins_class, expect_class};
 use crate::conditions::condition;
 use crate::expressions::sum;
-use crate::failure::ParseFailure;
 use crate::names::name;
 use crate::places::reference;
+use crate::reading::Reading;
 use crate::steps::{alone, beside, joined};
 use crate::tables::{begins_word_of, take_word_of};
 use crate::tokens::{after_first, begins_word, expect_symbol, expect_word, skip_symbol, skip_word};
@@ -31,7 +31,7 @@ fn begins_phrase(tokens: &[Token]) -> bool
 
 /// A phrase.
 #[tactic(auto, unfolding(crate::specs::ReadHeads::phrase_in))]
-fn phrase(alloc: Global, tokens: &[Token], room: u8) -> Result<(Phrase, &[Token]), ParseFailure>
+fn phrase(alloc: Global, tokens: &[Token], room: u8) -> Reading<'_, Phrase>
     ensures { HasGivenReading (λ x. (view_phrase_tree x.0, x.1.now)) result (phrase_in room tokens.now) }
 {
     let (kind, rest) = take_word_of::<PhraseWords>(tokens)?;
@@ -40,11 +40,7 @@ fn phrase(alloc: Global, tokens: &[Token], room: u8) -> Result<(Phrase, &[Token]
 }
 
 /// Phrases, each with a comma before it or not.
-fn phrases(
-    alloc: Global,
-    tokens: &[Token],
-    room: u8,
-) -> Result<(Vec<Phrase>, &[Token]), ParseFailure>
+fn phrases(alloc: Global, tokens: &[Token], room: u8) -> Reading<'_, Vec<Phrase>>
     ensures { HasGivenReading (λ x. (map view_phrase_tree x.0.items, x.1.now)) result (phrases_in room tokens.now) }
 {
     let mut all = Vec::new(alloc);
@@ -73,7 +69,7 @@ fn begins_next_guard(tokens: &[Token]) -> bool
 
 /// WHILE or UNTIL and its condition.
 #[tactic(auto, unfolding(crate::specs::ReadHeads::guard_in))]
-fn guard(alloc: Global, tokens: &[Token], room: u8) -> Result<(Guard, &[Token]), ParseFailure>
+fn guard(alloc: Global, tokens: &[Token], room: u8) -> Reading<'_, Guard>
     ensures { HasGivenReading (λ x. (view_guard_tree x.0, x.1.now)) result (guard_in room tokens.now) }
 {
     let (kind, rest) = take_word_of::<GuardWords>(tokens)?;
@@ -82,12 +78,7 @@ fn guard(alloc: Global, tokens: &[Token], room: u8) -> Result<(Guard, &[Token]),
 }
 
 /// This condition and further ones, each with a comma before it or not.
-fn guards(
-    alloc: Global,
-    first: Guard,
-    tokens: &[Token],
-    room: u8,
-) -> Result<(Vec<Guard>, &[Token]), ParseFailure>
+fn guards(alloc: Global, first: Guard, tokens: &[Token], room: u8) -> Reading<'_, Vec<Guard>>
     ensures { HasGivenReading (λ x. (map view_guard_tree x.0.items, x.1.now)) result (further_guards room (view_guard_tree first) tokens.now) }
 {
     let mut all = alone(alloc, first)?;
@@ -101,11 +92,7 @@ fn guards(
 }
 
 /// The step of a FOR, if there is one.
-fn step(
-    alloc: Global,
-    tokens: &[Token],
-    room: u8,
-) -> Result<(Option<Expression>, &[Token]), ParseFailure>
+fn step(alloc: Global, tokens: &[Token], room: u8) -> Reading<'_, Option<Expression>>
     ensures { HasGivenReading (λ x. (option_map view_expression_tree x.0, x.1.now)) result (step_in room tokens.now) }
 {
     if !begins_word(tokens, Word::By) {
@@ -117,7 +104,7 @@ fn step(
 
 /// The head of a FOR over numbers, after FOR.
 #[tactic(auto, unfolding(crate::specs::ReadHeads::range_in))]
-fn range(alloc: Global, tokens: &[Token], room: u8) -> Result<(Head, &[Token]), ParseFailure>
+fn range(alloc: Global, tokens: &[Token], room: u8) -> Reading<'_, Head>
     ensures { HasGivenReading (λ x. (view_head_tree x.0, x.1.now)) result (range_in room tokens.now) }
 {
     let variable = name(tokens)?;
@@ -140,7 +127,7 @@ fn range(alloc: Global, tokens: &[Token], room: u8) -> Result<(Head, &[Token]), 
 
 /// The member with which a loop over a set begins.
 #[tactic(auto, unfolding(crate::specs::ReadHeads::start_in))]
-fn start(alloc: Global, tokens: &[Token], room: u8) -> Result<(MemberStart, &[Token]), ParseFailure>
+fn start(alloc: Global, tokens: &[Token], room: u8) -> Reading<'_, MemberStart>
     ensures { HasGivenReading (λ x. (view_start_tree x.0, x.1.now)) result (start_in room tokens.now) }
 {
     if begins_word(tokens, Word::From) {
@@ -156,7 +143,7 @@ fn start(alloc: Global, tokens: &[Token], room: u8) -> Result<(MemberStart, &[To
 
 /// Whether a loop over a set goes in reverse order.
 #[tactic(auto, unfolding(crate::specs::ReadHeads::reverse))]
-fn reverse(tokens: &[Token]) -> Result<(bool, &[Token]), ParseFailure>
+fn reverse(tokens: &[Token]) -> Reading<'_, bool>
     ensures { HasGivenReading (λ x. (x.0, x.1.now)) result (reverse tokens.now) }
 {
     if !begins_word(tokens, Word::In) {
@@ -169,12 +156,7 @@ fn reverse(tokens: &[Token]) -> Result<(bool, &[Token]), ParseFailure>
 
 /// The head of a FOR over a set, after its variable.
 #[tactic(auto, unfolding(crate::specs::ReadHeads::members_in))]
-fn members(
-    alloc: Global,
-    variable: Name,
-    tokens: &[Token],
-    room: u8,
-) -> Result<(Head, &[Token]), ParseFailure>
+fn members(alloc: Global, variable: Name, tokens: &[Token], room: u8) -> Reading<'_, Head>
     ensures { HasGivenReading (λ x. (view_head_tree x.0, x.1.now)) result (members_in room variable tokens.now) }
 {
     let rest = expect_word(tokens, Word::In)?;
@@ -199,7 +181,7 @@ fn class_phrases(
     called: Option<Name>,
     tokens: &[Token],
     room: u8,
-) -> Result<(Head, &[Token]), ParseFailure>
+) -> Reading<'_, Head>
     ensures { HasGivenReading (λ x. (view_head_tree x.0, x.1.now)) result (apply (λ ps. class_tree class (called, ps)) (phrases_in room) tokens.now) }
 {
     let (phrases, rest) = phrases(alloc, tokens, room)?;
@@ -213,12 +195,7 @@ fn class_phrases(
 
 /// The head of a FOR over a class, after the class.
 #[tactic(auto, unfolding(crate::specs::ReadHeads::class_in))]
-fn class(
-    alloc: Global,
-    class: Name,
-    tokens: &[Token],
-    room: u8,
-) -> Result<(Head, &[Token]), ParseFailure>
+fn class(alloc: Global, class: Name, tokens: &[Token], room: u8) -> Reading<'_, Head>
     ensures { HasGivenReading (λ x. (view_head_tree x.0, x.1.now)) result (class_in room class tokens.now) }
 {
     if !begins_word(tokens, Word::Called) {
@@ -230,12 +207,7 @@ fn class(
 }
 
 /// The head of a FOR over a set or a class, after the name of its variable or its class.
-fn each_named(
-    alloc: Global,
-    name: Name,
-    tokens: &[Token],
-    room: u8,
-) -> Result<(Head, &[Token]), ParseFailure>
+fn each_named(alloc: Global, name: Name, tokens: &[Token], room: u8) -> Reading<'_, Head>
     ensures { HasGivenReading (λ x. (view_head_tree x.0, x.1.now)) result (each_named room name tokens.now) }
 {
     if begins_word(tokens, Word::In) {
@@ -247,7 +219,7 @@ fn each_named(
 
 /// The head of a FOR over a set or a class, after FOR.
 #[tactic(auto, unfolding(crate::specs::ReadHeads::each_in))]
-fn each(alloc: Global, tokens: &[Token], room: u8) -> Result<(Head, &[Token]), ParseFailure>
+fn each(alloc: Global, tokens: &[Token], room: u8) -> Reading<'_, Head>
     ensures { HasGivenReading (λ x. (view_head_tree x.0, x.1.now)) result (each_in room tokens.now) }
 {
     let rest = expect_class(tokens, WordClass::Each)?;
@@ -257,7 +229,7 @@ fn each(alloc: Global, tokens: &[Token], room: u8) -> Result<(Head, &[Token]), P
 
 /// The head of a FOR, after its first word.
 #[tactic(auto, unfolding(crate::specs::ReadHeads::for_in))]
-pub fn for_head(alloc: Global, tokens: &[Token], room: u8) -> Result<(Head, &[Token]), ParseFailure>
+pub fn for_head(alloc: Global, tokens: &[Token], room: u8) -> Reading<'_, Head>
     ensures { HasGivenReading (λ x. (view_head_tree x.0, x.1.now)) result (for_in room tokens.now) }
 {
     if begins_class(tokens, WordClass::Each) {
@@ -274,7 +246,7 @@ pub fn guarded_head(
     kind: GuardKind,
     tokens: &[Token],
     room: u8,
-) -> Result<(LoopHead, &[Token]), ParseFailure>
+) -> Reading<'_, LoopHead>
     ensures { HasGivenReading (λ x. (view_loop_head x.0, x.1.now)) result (guarded_in room kind tokens.now) }
 {
     let (condition, rest) = condition(alloc, tokens, room)?;

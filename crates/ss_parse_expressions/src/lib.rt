@@ -9,6 +9,7 @@ pub mod heads;
 pub mod names;
 pub mod nesting;
 pub mod places;
+pub mod reading;
 pub mod steps;
 pub mod tables;
 pub mod tokens;

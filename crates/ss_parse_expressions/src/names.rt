@@ -6,6 +6,7 @@ ghost use Rattle.ss_parse_expressions.specs.ReadWords.{begins_name, names, past_
 
 use crate::classes::{WordClass, skip_class};
 use crate::failure::ParseFailure;
+use crate::reading::Reading;
 use crate::steps::alone;
 use crate::tokens::{after_first, begins_symbol, begins_word, skip_separator, syntax};
 use ss_base::Name;
@@ -66,11 +67,7 @@ fn begins_more_listed(tokens: &[Token], articles: bool) -> bool
 }
 
 /// Names with separators between, each with an article before it where there may be one.
-fn listed(
-    alloc: Global,
-    tokens: &[Token],
-    articles: bool,
-) -> Result<(Vec<Name>, &[Token]), ParseFailure>
+fn listed(alloc: Global, tokens: &[Token], articles: bool) -> Reading<'_, Vec<Name>>
     ensures { HasGivenReading (λ x. (x.0.items, x.1.now)) result (list_of (λ ts. begins_name (past_article articles ts)) (λ ts. taken name_in_token (past_article articles ts)) tokens.now) }
 {
     let from = past_article(tokens, articles);
@@ -87,14 +84,14 @@ fn listed(
 }
 
 /// Names with separators between.
-pub fn names(alloc: Global, tokens: &[Token]) -> Result<(Vec<Name>, &[Token]), ParseFailure>
+pub fn names(alloc: Global, tokens: &[Token]) -> Reading<'_, Vec<Name>>
     ensures { HasGivenReading (λ x. (x.0.items, x.1.now)) result (names tokens.now) }
 {
     listed(alloc, tokens, false)
 }
 
 /// Names with separators between, each with an article before it or not.
-pub fn items(alloc: Global, tokens: &[Token]) -> Result<(Vec<Name>, &[Token]), ParseFailure>
+pub fn items(alloc: Global, tokens: &[Token]) -> Reading<'_, Vec<Name>>
     ensures { HasGivenReading (λ x. (x.0.items, x.1.now)) result (items tokens.now) }
 {
     listed(alloc, tokens, true)

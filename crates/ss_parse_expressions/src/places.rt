@@ -10,6 +10,7 @@ ghost use Rattle.ss_parse_expressions.specs.ReadPlaces.{subscript_row, subscript
 
 use crate::expressions::{designator_of_word, sum};
 use crate::failure::ParseFailure;
+use crate::reading::Reading;
 use crate::steps::{alone, beside, joined};
 use crate::tokens::{
     after_first, begins_symbol, begins_word, expect_symbol, skip_separator, skip_symbol, syntax,
@@ -51,11 +52,7 @@ fn plain_designator(tokens: &[Token]) -> Result<Designator, ParseFailure>
 
 /// A subscript in parentheses, if there is one.
 #[tactic(auto, unfolding(crate::specs::ReadPlaces::subscript_with))]
-fn subscript(
-    alloc: Global,
-    tokens: &[Token],
-    room: u8,
-) -> Result<(Option<Expression>, &[Token]), ParseFailure>
+fn subscript(alloc: Global, tokens: &[Token], room: u8) -> Reading<'_, Option<Expression>>
     ensures { HasGivenReading (λ x. (option_map view_expression_tree x.0, x.1.now)) result (maybe (begins opening) (subscript_with (sum_in room)) tokens.now) }
 {
     if !begins_symbol(tokens, Symbol::OpenParenthesis) {
@@ -81,7 +78,7 @@ fn subscripts_of(
 
 /// What a value is put into, where this many levels of nesting, itself among them, may be opened.
 #[tactic(auto, unfolding(crate::specs::ReadPlaces::named_place_in))]
-pub fn target(alloc: Global, tokens: &[Token], room: u8) -> Result<(Named, &[Token]), ParseFailure>
+pub fn target(alloc: Global, tokens: &[Token], room: u8) -> Reading<'_, Named>
     ensures { HasGivenReading (λ x. (view_named x.0, x.1.now)) result (target_in room tokens.now) }
 {
     if room == 0 {
@@ -99,11 +96,7 @@ pub fn target(alloc: Global, tokens: &[Token], room: u8) -> Result<(Named, &[Tok
 
 /// A reference to a set, where this many levels of nesting, itself among them, may be opened.
 #[tactic(auto, unfolding(crate::specs::ReadPlaces::named_place_in))]
-pub fn reference(
-    alloc: Global,
-    tokens: &[Token],
-    room: u8,
-) -> Result<(Named, &[Token]), ParseFailure>
+pub fn reference(alloc: Global, tokens: &[Token], room: u8) -> Reading<'_, Named>
     ensures { HasGivenReading (λ x. (view_named x.0, x.1.now)) result (reference_in room tokens.now) }
 {
     if room == 0 {
@@ -141,11 +134,7 @@ fn begins_more_targets(tokens: &[Token]) -> bool
 }
 
 /// Targets with separators between.
-pub fn targets(
-    alloc: Global,
-    tokens: &[Token],
-    room: u8,
-) -> Result<(Vec<Named>, &[Token]), ParseFailure>
+pub fn targets(alloc: Global, tokens: &[Token], room: u8) -> Reading<'_, Vec<Named>>
     ensures { HasGivenReading (λ x. (map view_named x.0.items, x.1.now)) result (targets_in room tokens.now) }
 {
     let (first, mut rest) = target(alloc, tokens, room)?;

@@ -4,7 +4,7 @@ ghost use Rattle.std.specs.Prelude.{◌≡◌, Option};
 ghost use Rattle.ss_lex.specs.declared.word.Word.{Word as WordSeen};
 ghost use Rattle.ss_parse_expressions.specs.Reading.{HasGivenReading, begins_by, in_table, taken};
 
-use crate::failure::ParseFailure;
+use crate::reading::Reading;
 use crate::tokens::syntax;
 use ss_lex::{Token, TokenKind, Word};
 
@@ -21,7 +21,7 @@ pub trait WordTable {
 }
 
 /// What the first token means, which has to be a word of the table.
-pub fn take_word_of<T: WordTable>(tokens: &[Token]) -> Result<(T::Means, &[Token]), ParseFailure>
+pub fn take_word_of<T: WordTable>(tokens: &[Token]) -> Reading<'_, T::Means>
     ensures { HasGivenReading (λ x. (x.0, x.1.now)) result (taken (in_table T.table) tokens.now) }
 {
     match tokens {

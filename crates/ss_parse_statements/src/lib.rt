@@ -2,6 +2,5 @@
 #![tactic(auto)]
 
 mod parts;
-pub mod reading;
 pub mod simple;
 pub mod statements;

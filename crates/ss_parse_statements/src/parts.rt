@@ -9,13 +9,13 @@ ghost use Rattle.ss_parse_expressions.specs.ReadPlaces.{target_in};
 ghost use Rattle.ss_parse_statements.specs.SpelledParts.{end_of};
 ghost use Rattle.ss_parse_statements.specs.ReadSimple.{equals, set_reader, called, positive_of, picture_token, items_in, trigger, pictures_at, given_in, yielding_in, position_in, when_in, due_in};
 
-use crate::reading::Reading;
 use ss_base::PictureLine;
 use ss_lex::{Symbol, Token, TokenKind, Word};
 use ss_parse_expressions::classes::{WordClass, begins_class, skip_class};
 use ss_parse_expressions::expressions::{sum, sums};
 use ss_parse_expressions::failure::ParseFailure;
 use ss_parse_expressions::places::{reference, target, targets};
+use ss_parse_expressions::reading::Reading;
 use ss_parse_expressions::steps::{beside, joined};
 use ss_parse_expressions::tables::WordTable;
 use ss_parse_expressions::tokens::{begins_word, expect_symbol, expect_word, skip_word, syntax};

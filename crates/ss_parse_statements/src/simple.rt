@@ -9,13 +9,13 @@ use crate::parts::{
     EndWords, called_target, called_value, given, given_and_due, items, pictures, place, positive,
     set_after, target_after, trigger, value_set, yielding,
 };
-use crate::reading::Reading;
 use ss_base::Line;
 use ss_lex::{Token, Word};
 use ss_parse_expressions::classes::{WordClass, expect_class, skip_class};
 use ss_parse_expressions::expressions::sum;
 use ss_parse_expressions::names::{name, names};
 use ss_parse_expressions::places::{target, targets};
+use ss_parse_expressions::reading::Reading;
 use ss_parse_expressions::steps::beside;
 use ss_parse_expressions::tables::{begins_word_of, take_word_of};
 use ss_parse_expressions::tokens::{after_first, begins_word, expect_word, skip_word, syntax};

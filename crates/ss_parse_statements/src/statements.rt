@@ -9,13 +9,13 @@ ghost use Rattle.ss_parse_expressions.specs.Reading.{HasGivenReading, word, afte
 ghost use Rattle.ss_parse_expressions.specs.ReadWords.{begins_noisy, expect_noisy};
 ghost use Rattle.ss_parse_statements.specs.ReadStatements.{nested_word, begins_form, begins_statement, begins_find_if, statements_with, else_with, branches_with, do_with, governed_with, body_with, find_words, if_with, loop_with, find_if_with, found_with, find_with, for_with, guarded_with, nested_in, statement_in, statements_in};
 
-use crate::reading::Reading;
 use crate::simple::simple_form;
 use ss_base::Line;
 use ss_lex::{Symbol, Token, TokenKind, Word};
 use ss_parse_expressions::conditions::condition;
 use ss_parse_expressions::failure::ParseFailure;
 use ss_parse_expressions::heads::{begins_guard, for_head, guarded_head};
+use ss_parse_expressions::reading::Reading;
 use ss_parse_expressions::steps::{alone, beside, joined};
 use ss_parse_expressions::tables::{begins_word_of, take_word_of};
 use ss_parse_expressions::tokens::{

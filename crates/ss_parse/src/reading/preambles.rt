@@ -13,13 +13,13 @@ use ss_base::{Line, Name};
 use ss_lex::{Symbol, Token, TokenKind, Word};
 use ss_parse_expressions::classes::{WordClass, skip_class};
 use ss_parse_expressions::names::{begins_more_names, items, name, names};
+use ss_parse_expressions::reading::Reading;
 use ss_parse_expressions::steps::{alone, beside, joined};
 use ss_parse_expressions::tables::{begins_word_of, take_word_of};
 use ss_parse_expressions::tokens::{
     after_first, begins_symbol, begins_word, expect_word, skip_separator, skip_word, syntax,
 };
 use ss_parse_expressions::words::{ModeWords, RankWords, StatisticWords};
-use ss_parse_statements::reading::Reading;
 use ss_parse_statements::statements::{begins_noisy, expect_noisy};
 use ss_tree::preamble::{
     ClassKind, Clause, ModeWord, NamedKey, NamedStatistic, PreambleStatement, SetOrder,
