@@ -4,8 +4,8 @@ use crate::fixes::Window;
 use explain_grammar::{Candidate, Open, has_word};
 use explain_pages::Part::{Capitals, Words};
 use explain_pages::{
-    Part, Stretch, bytes_of, is_first_of_line, kind_at, line_from, line_of, spelled, stretch_of,
-    word_at,
+    Part, Stretch, bytes_of, is_first_of_line, is_long, kind_at, line_from, line_of, spelled,
+    stretch_of, word_at,
 };
 use ss_lex::{Symbol, Token, TokenKind, Word};
 
@@ -129,8 +129,7 @@ impl<'a> Place<'a> {
     /// The part of the text in which changes are tried: from the section on, and so many bytes past the place, to the end of a
     /// line if that is near. None where the place is too far from where the section begins.
     pub fn window(&self) -> Option<Window<'a>> {
-        let is_long = self.text.len() > 100_000;
-        let most: usize = if is_long { 2_000 } else { 20_000 };
+        let most: usize = if is_long(self.text) { 2_000 } else { 20_000 };
         let start = match self.section {
             0 => 0,
             section => self.stretch(section).start,

@@ -285,14 +285,14 @@ fn add_of_section(page: &mut Page<'_>, read: &Read<'_>, number: usize, uses: &[U
 
 /// Adds notes on a program that breaks no rule. There are none where nothing looks like a mistake.
 pub fn add_notes(page: &mut Page<'_>, read: &Read<'_>) -> Made<()> {
+    add_start(page, read)?;
+    add_stops(page, read.program)?;
     for (number, uses) in read.uses.iter().enumerate() {
         if page.is_full() {
             return Ok(());
         }
         add_of_section(page, read, number, uses.as_slice())?;
     }
-    add_stops(page, read.program)?;
-    add_start(page, read)?;
     add_pictures(page, read.tokens)?;
     add_loops(page, read.program)?;
     add_subjects(page, read)

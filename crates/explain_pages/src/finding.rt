@@ -2,7 +2,7 @@
 
 use crate::page::Part::{Bytes, Line};
 use crate::page::{Made, Page, Part};
-use crate::places::{is_named, stretch_of};
+use crate::places::{is_long, is_named, stretch_of};
 use ss_base::Name;
 use ss_lex::tokens;
 use std::alloc::Global;
@@ -36,14 +36,10 @@ impl Page<'_> {
         self.show(line)
     }
 
-    /// Whether there are notes enough: 20,000 bytes of them, or 400 on a text of more than 100,000 bytes, since a line is looked for
-    /// from the beginning of the text.
+    /// Whether there are notes enough: 20,000 bytes of them, or 400 on a long text, since a line is looked for from the beginning of
+    /// the text.
     pub fn is_full(&self) -> bool {
-        let most: usize = if self.about.len() > 100_000 {
-            400
-        } else {
-            20_000
-        };
+        let most: usize = if is_long(self.about) { 400 } else { 20_000 };
         self.text.len() > most
     }
 

@@ -11,6 +11,11 @@ pub struct Stretch {
     pub end: usize,
 }
 
+/// Whether a text is so long, more than 100,000 bytes, that what is looked for in it is bounded more closely.
+pub fn is_long(text: &[u8]) -> bool {
+    text.len() > 100_000
+}
+
 /// The bytes of a stretch, as far as the text has them.
 pub fn bytes_of(text: &[u8], stretch: Stretch) -> &[u8] {
     let end = stretch.end.min(text.len());
