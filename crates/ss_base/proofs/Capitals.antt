@@ -1,11 +1,9 @@
 -- Bytes in capitals, in their room.
-use Rattle.std.proofs.Common.{◌≡◌, ℕ, suc, ◌+◌, ◌-◌, ◌<◌, ◌≤◌, true, List, [], ◌∷◌, ◌++◌, length, get_or, set, take, replicate, nat_le, Some, refl, sym, ap, subst, ◌∙◌, arith}
+use Rattle.std.proofs.Common.{◌≡◌, ℕ, suc, ◌+◌, ◌-◌, ◌<◌, ◌≤◌, List, [], ◌∷◌, ◌++◌, length, get_or, set, take, replicate, refl, sym, ap, ◌∙◌, arith}
 use Rattle.std.specs.Char.{to_ascii_uppercase}
 use Rattle.std.proofs.lemmas.Bool.Decides.{nat_tests}
-use Rattle.std.proofs.lemmas.List.{take_all, set_at, length-map, length-take-le, map_more}
-use Rattle.ss_base.specs.Names.{in_capitals, name_of, IsName}
-use Rattle.ss_base.specs.Spellings.{padded_spelling, IsSpellingRoom}
-use Rattle.ss_base.proofs.Rooms.{is_room, taken}
+use Rattle.std.proofs.lemmas.List.{set_at, length-map, length-take-le, map_more}
+use Rattle.ss_base.specs.Names.{in_capitals, IsName}
 
 upper_twice : (b : ℕ) → to_ascii_uppercase (to_ascii_uppercase b) ≡ to_ascii_uppercase b
 upper_twice b = grind (arith, nat_tests)
@@ -29,28 +27,8 @@ room_more bytes room i lt short e =
     append_assoc' [] y zs = refl
     append_assoc' (x ∷ xs) y zs = ap (λ l. x ∷ l) (append_assoc' xs y zs)
 
--- all are written
-pub room_whole : (bytes room : List ℕ) (i : ℕ) → i ≡ length bytes → room ≡ in_capitals (take i bytes) ++ replicate (34 - i) 0 → room ≡ padded_spelling (in_capitals bytes)
-room_whole bytes room i end e =
-    let n : i ≡ length (in_capitals bytes) = end ∙ sym (length-map bytes to_ascii_uppercase) in
-    e ∙ ap (λ l. in_capitals l ++ replicate (34 - i) 0) (take_all i bytes (omega arith))
-    ∙ ap (λ m. in_capitals bytes ++ replicate (34 - m) 0) n
-
--- then the room holds a spelling, which is that of the bytes in capitals
-pub capitals_fill : (bytes room : List ℕ) → room ≡ padded_spelling (in_capitals bytes) → IsSpellingRoom room (length bytes)
-capitals_fill bytes room e = subst (IsSpellingRoom room) (length-map bytes to_ascii_uppercase) (is_room (in_capitals bytes) room e)
-
-pub capitals_taken : (bytes room : List ℕ) → room ≡ padded_spelling (in_capitals bytes) → take (length bytes) room ≡ in_capitals bytes
-capitals_taken bytes room e = ap (λ n. take n room) (sym (length-map bytes to_ascii_uppercase)) ∙ taken (in_capitals bytes) room e
-
 -- bytes in capitals are a name, and that of the bytes
 pub capitals_are_name : (bytes : List ℕ) → 0 < length bytes → length bytes ≤ 32 → IsName (in_capitals bytes)
 capitals_are_name bytes some short =
     let n : length (in_capitals bytes) ≡ length bytes = length-map bytes to_ascii_uppercase in
     record { some = omega (arith, n); short = omega (arith, n); capitals = capitals_twice bytes }
-
-pub name_is : (bytes : List ℕ) → 0 < length bytes → length bytes ≤ 32 → Some (in_capitals bytes) ≡ name_of bytes
-name_is [] some short = absurd (omega arith)
-name_is (b ∷ bs) some short =
-    let test : nat_le (length (b ∷ bs)) 32 ≡ true = grind (arith, nat_tests) in
-    rw test refl

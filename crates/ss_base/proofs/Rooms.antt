@@ -27,8 +27,3 @@ pub derived_is_room : (letter : ℕ) (bytes room : List ℕ) (n : ℕ) → n ≡
 derived_is_room letter bytes room n is e =
     let k : suc (suc (length bytes)) ≡ n = omega arith in
     rw (← k) (is_room (letter ∷ 46 ∷ bytes) room e)
-
-pub derived_taken : (letter : ℕ) (bytes room : List ℕ) (n : ℕ) → n ≡ length bytes + 2 → room ≡ padded_spelling (letter ∷ 46 ∷ bytes) → take n room ≡ letter ∷ 46 ∷ bytes
-derived_taken letter bytes room n is e =
-    let k : suc (suc (length bytes)) ≡ n = omega arith in
-    rw (← k) (taken (letter ∷ 46 ∷ bytes) room e)

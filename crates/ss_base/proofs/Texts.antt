@@ -1,10 +1,10 @@
 -- Texts, the blanks at their end, and the zeros after them.
-use Rattle.std.proofs.Common.{◌≡◌, ℕ, ◌+◌, ◌-◌, ◌≤◌, ◌<◌, Bool, true, false, List, [], ◌∷◌, ◌++◌, length, take, drop, get_or, refl, ◌∙◌, ap, subst, cond, suc, zero}
-use Rattle.std.proofs.lemmas.Bool.{ne_eqb, and_from, and_parts, le-leb, leb-true}
+use Rattle.std.proofs.Common.{◌≡◌, ℕ, ◌+◌, ◌-◌, ◌≤◌, ◌<◌, Bool, true, false, List, [], ◌∷◌, ◌++◌, length, take, drop, get_or, refl, ◌∙◌, ap, cond, suc, zero}
+use Rattle.std.proofs.lemmas.Bool.{ne_eqb, and_from, and_parts, le-leb}
 use Rattle.std.proofs.lemmas.List.{take_more, drop-replicate}
-use Rattle.std.specs.Prelude.{◌≢◌, ◌==◌, nat_le, replicate, Some, None}
+use Rattle.std.specs.Prelude.{◌≢◌, ◌==◌, nat_le, replicate, Some}
 use Rattle.std.specs.List.{list_all}
-use Rattle.ss_base.specs.Values.{text_limit, is_text_byte, in_front, without_end_blanks, IsText, text_of}
+use Rattle.ss_base.specs.Values.{text_limit, is_text_byte, in_front, without_end_blanks, text_of}
 use Rattle.ss_base.specs.Room.{before_zero, padded_text, IsTextRoom}
 
 -- a blank at the end is dropped
@@ -83,19 +83,3 @@ placed-value bytes text copied h is k same =
     let e = before_zero-padded (without_end_blanks bytes) (text_limit - length (without_end_blanks bytes)) (without_end_blanks-printable bytes h) in
     let small : nat_le (length (without_end_blanks bytes)) text_limit ≡ true = le-leb _ _ (rw is at k) in
     rw (placed bytes text copied is same, e, h, small) refl
-
--- the text of a text's bytes is this text
-pub text_of-text : (text : List ℕ) → IsText text → text_of text ≡ Some text
-text_of-text text h =
-    let small : nat_le (length text) text_limit ≡ true = le-leb _ _ h.short in rw (h.trimmed, h.printable, small) refl
-
--- the text of any bytes is a text
-pub text_of-is_text : (bytes text : List ℕ) → text_of bytes ≡ Some text → IsText text
-text_of-is_text bytes text h = by_tests (list_all is_text_byte bytes) (nat_le (length (without_end_blanks bytes)) text_limit) refl refl where
-  by_tests : (p q : Bool) → list_all is_text_byte bytes ≡ p → nat_le (length (without_end_blanks bytes)) text_limit ≡ q → IsText text
-  by_tests true true e f =
-      let same : Some (without_end_blanks bytes) ≡ Some text = rw (e, f) at h in
-      let is : without_end_blanks bytes ≡ text = cc in
-      subst IsText is (record { printable = without_end_blanks-printable bytes e; short = leb-true _ _ f; trimmed = without_end_blanks-again bytes })
-  by_tests true false e f = let none : None ≡ Some text = rw (e, f) at h in cc
-  by_tests false q e f = let none : None ≡ Some text = rw e at h in cc
