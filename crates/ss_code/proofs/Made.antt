@@ -14,47 +14,36 @@ use Rattle.ss_program.specs.View.{view_program, view_routine, view_event, view_b
 use Rattle.ss_program.specs.WellTyped.{IsWellTyped, IsTypedRoutine, IsTypedEvent}
 use Rattle.ss_code_instructions.specs.declared.entry.SectionEntry.{SectionEntry}
 use Rattle.ss_code_instructions.specs.declared.instruction.Instruction.{Instruction as Running}
-use Rattle.ss_code_instructions.specs.Carried.{RunningLines, main_entry}
+use Rattle.ss_code_instructions.specs.Carried.{RunningLines}
 use Rattle.ss_code_instructions.specs.Laws.{HasSize}
 use Rattle.ss_code_instructions.specs.Running.{HasLandings}
 use Rattle.ss_code_instructions.specs.Size.{code_size}
-use Rattle.ss_code_instructions.specs.Translation.{code_of, main_code, section_code, main_scope, routines_code, events_code}
+use Rattle.ss_code_instructions.specs.Translation.{code_of, routines_code, events_code}
 use Rattle.ss_code_instructions.specs.Translation as z
 use Rattle.ss_code_instructions.specs.Walks.{WalksSift}
 use Rattle.ss_code_generator.specs.declared.generator.Generator.{Generator}
 use Rattle.ss_code_pieces.specs.declared.piece.LinedInstruction.{LinedInstruction}
 use Rattle.ss_code_pieces.specs.Lined.{Lined, no_code, instructions_in, lines_in}
 use Rattle.ss_code_generator.specs.Emitted.{Final, IsAround, HasPrints, HasAdded}
-use Rattle.ss_code_generator.specs.Printed.{HasPrinted}
-use Rattle.ss_code.specs.Running.{Said, said_by, Generated, IsFor, HasFrameOf, AreAllFramed}
+use Rattle.ss_code.specs.Running.{Said, said_by, Generated, IsFor, AreAllFramed}
 use Rattle.ss_code.specs.Sections.{IsDeepened, AreAllDeepened, HasPutSection, HasPutRoutines, HasPutEvents}
 use Rattle.ss_code.specs.Sifted.{AreAllAlike}
 use Rattle.ss_code_generator.proofs.Emitting.{piece_long}
 use Rattle.ss_code.proofs.Alike.{all_alike_long}
 use Rattle.ss_code_generator.proofs.Bodies.{has_prints_old}
-use Rattle.ss_code.proofs.Sections.{around_less}
+use Rattle.ss_code.proofs.Sections.{put_around}
 use Rattle.ss_code.proofs.Whole.{Parts, all_added, routines_begin, events_begin, is_code}
 use Rattle.ss_code.proofs.Nodes.{code_small}
 
--- what is known once all sections are put
-pub record Known (p : Program) (g : Generator) (c1 c2 c3 : Lined) (p1 p2 p3 : List RunningLines) (main : SectionEntry) (routines events : List SectionEntry) : Type 0 where
-  pub parts : Parts p g c1 c2 c3 p1 p2 p3
-  pub fixed : (rest : List Value) × (g.constants.items ≡ Whole (pos 0) ∷ Whole (pos 1) ∷ rest)
-  pub main_begins : HasFrameOf 0 (main_entry (code_of p)) main
-  pub routines_begin : AreAllFramed 0 (code_of p).routines routines
-  pub events_begin : AreAllFramed 0 (code_of p).events events
-
 -- how all of it was made
-pub record All (g0 g1 g2 g3 : Generator) (c0 c1 c2 c3 : Lined) (p0 p1 p2 p3 : List RunningLines) (main : SectionEntry) (routines events : List SectionEntry) : Type 0 where
+pub record All (g0 g1 g2 g3 : Generator) (c1 c2 c3 : Lined) (p1 p2 p3 : List RunningLines) (main : SectionEntry) (routines events : List SectionEntry) : Type 0 where
   pub constants : g0.constants.items ≡ Whole (pos 0) ∷ (Whole (pos 1) ∷ [])
-  pub code : c0 ≡ no_code
-  pub prints : p0 ≡ []
-  pub puts_main : HasPutSection g0 g1 c0 c1 p0 p1 (record { place = length c0; given = []; yielding = 0; others = g0.program.now.locals.items }) (view_body g0.program.now.main.items) main
+  pub puts_main : HasPutSection g0 g1 no_code c1 [] p1 (record { place = length no_code; given = []; yielding = 0; others = g0.program.now.locals.items }) (view_body g0.program.now.main.items) main
   pub puts_routines : HasPutRoutines g1 g2 c1 c2 p1 p2 (map view_routine g1.program.now.routines.items) routines
   pub puts_events : HasPutEvents g2 g3 c2 c3 p2 p3 (map view_event g2.program.now.events.items) events
   pub small : g3.deepest < 2 ^ 32
 
-module _ (g0 g1 g2 g3 : Generator) (c0 c1 c2 c3 : Lined) (p0 p1 p2 p3 : List RunningLines) (main : SectionEntry) (routines events : List SectionEntry) (a : All g0 g1 g2 g3 c0 c1 c2 c3 p0 p1 p2 p3 main routines events) where
+module _ {g0 g1 g2 g3 : Generator} {c1 c2 c3 : Lined} {p1 p2 p3 : List RunningLines} {main : SectionEntry} {routines events : List SectionEntry} (a : All g0 g1 g2 g3 c1 c2 c3 p1 p2 p3 main routines events) where
   abbrev program : Program
   program = view_program g0.program.now
 
@@ -97,10 +86,10 @@ module _ (g0 g1 g2 g3 : Generator) (c0 c1 c2 c3 : Lined) (p0 p1 p2 p3 : List Run
     }
 
     around2 : IsAround final g2
-    around2 = around_less final g2 g3 events_there.puts.constants.0 events_there.puts.constants.1 events_there.puts.depth events_there.puts.program around3
+    around2 = put_around events_there.puts around3
 
     around1 : IsAround final g1
-    around1 = around_less final g1 g2 routines_there.puts.constants.0 routines_there.puts.constants.1 routines_there.puts.depth routines_there.puts.program around2
+    around1 = put_around routines_there.puts around2
 
     has3 : HasPrints final p3
     has3 = ([], sym (append-nil p3))
@@ -111,12 +100,6 @@ module _ (g0 g1 g2 g3 : Generator) (c0 c1 c2 c3 : Lined) (p0 p1 p2 p3 : List Run
     has1 : HasPrints final p1
     has1 = has_prints_old final p1 p2 _ routines_there.puts.prints has2
 
-    main_adds : HasAdded final no_code c1 (main_code program)
-    main_adds =
-        let made : HasAdded final c0 c1 (section_code (main_scope program) (length p0) program.main) = (a.puts_main.puts true).adds final around1 has1 typed.main in
-        subst (λ (c : Lined). HasAdded final c c1 (main_code program)) a.code
-        (subst (λ (l : List RunningLines). HasAdded final c0 c1 (section_code (main_scope program) (length l) program.main)) a.prints made)
-
     good_routines : Every (IsTypedRoutine (view_program g1.program.now)) program.routines
     good_routines = subst (λ (h : Held). Every (IsTypedRoutine (view_program h)) program.routines) (sym same1) typed.routines
 
@@ -125,29 +108,17 @@ module _ (g0 g1 g2 g3 : Generator) (c0 c1 c2 c3 : Lined) (p0 p1 p2 p3 : List Run
 
     all_parts : Parts program g3 c1 c2 c3 p1 p2 p3
     all_parts = record {
-      main = main_adds;
+      main = (a.puts_main.puts true).adds final around1 has1 typed.main;
       routines = subst (λ (h : Held). HasAdded final c1 c2 (routines_code (view_program h) (length p1) program.routines)) same1 (routines_there.puts.adds final around2 has2 good_routines);
       events = subst (λ (h : Held). HasAdded final c2 c3 (events_code (view_program h) (length p2) program.events)) same2 (events_there.puts.adds final around3 has3 good_events);
-      main_prints = subst (λ (l : List RunningLines). HasPrinted l p1 (z.block_prints program.main)) a.prints (a.puts_main.puts true).prints;
+      main_prints = (a.puts_main.puts true).prints;
       routine_prints = routines_there.puts.prints;
       event_prints = events_there.puts.prints;
     }
 
-    pub known : Known program g3 c1 c2 c3 p1 p2 p3 main routines events
-    known =
-        let rs = subst (λ (h : Held). AreAllFramed 0 (z.routine_entries (view_program h) (length c1) (length p1) program.routines) routines) same1 (routines_there.begin final around2 has2 good_routines) in
-        let es = subst (λ (h : Held). AreAllFramed 0 (z.event_entries (view_program h) (length c2) (length p2) program.events) events) same2 (events_there.begin final around3 has3 good_events) in
-        record {
-          parts = all_parts;
-          fixed = fixed;
-          main_begins = subst (λ (c : Lined). HasFrameOf 0 (record { place = length c; given = []; yielding = 0; others = program.locals }) main) a.code a.puts_main.begins;
-          routines_begin = routines_begin program g3 c1 c2 c3 p1 p2 p3 all_parts routines rs;
-          events_begin = events_begin program g3 c1 c2 c3 p1 p2 p3 all_parts events es;
-        }
-
     -- there are as many instructions as places
     pub all_long : length c3 ≡ length (code_of program).places
-    all_long = piece_long final c3 (code_of program).places (all_added program g3 c1 c2 c3 p1 p2 p3 all_parts)
+    all_long = piece_long (all_added all_parts)
 
     -- a small program is never one whose code is too long
     pub small_enough : HasSize → nodes program ≤ 16384 → length c3 ≤ 1048576
@@ -158,10 +129,11 @@ module _ (g0 g1 g2 g3 : Generator) (c0 c1 c2 c3 : Lined) (p0 p1 p2 p3 : List Run
     -- the running code is that of the program
     pub is_made : (instructions : List Running) (main1 : SectionEntry) (routines1 events1 : List SectionEntry) (said : Said) (globals : List Mode) → AreAllAlike (instructions_in c3) instructions → WalksSift (length program.globals + length g3.constants.items) instructions → HasLandings (code_of program) → length c3 ≤ 1048576 → IsDeepened g3.deepest main main1 → AreAllDeepened g3.deepest routines routines1 → AreAllDeepened g3.deepest events events1 → said ≡ said_by program → globals ≡ program.globals → IsFor program (record { run = record { instructions = instructions; lines = (lines_in c3); constants = g3.constants.items; prints = p3; main = main1; routines = routines1; events = events1; depth = g3.deepest }; said = said; globals = globals })
     is_made instructions main1 routines1 events1 said globals alike sifts lands short dm drs des says modes =
-        let k = known in
+        let rs = subst (λ (h : Held). AreAllFramed 0 (z.routine_entries (view_program h) (length c1) (length p1) program.routines) routines) same1 (routines_there.begin final around2 has2 good_routines) in
+        let es = subst (λ (h : Held). AreAllFramed 0 (z.event_entries (view_program h) (length c2) (length p2) program.events) events) same2 (events_there.begin final around3 has3 good_events) in
         let few : length instructions ≤ 1048576 = omega (arith, short, all_alike_long (instructions_in c3) instructions alike, length-map c3 (λ (x : LinedInstruction). x.instruction)) in
         record {
-          code = is_code program g3 c1 c2 c3 p1 p2 p3 k.parts instructions main main1 routines routines1 events events1 alike sifts lands k.fixed few k.main_begins dm k.routines_begin drs k.events_begin des;
+          code = is_code all_parts instructions main main1 routines routines1 events events1 alike sifts lands fixed few a.puts_main.begins dm (routines_begin all_parts routines rs) drs (events_begin all_parts events es) des;
           said = says;
           globals = modes;
         }
@@ -179,28 +151,26 @@ pub all_made : {g0 g1 g2 g3 : Generator} {c0 c1 c2 c3 : Lined} {p0 p1 p2 p3 : Li
     → HasPutEvents g2 g3 c2 c3 p2 p3 (map view_event g2.program.now.events.items) events
     → IsDeepened g3.deepest main deep
     → g0.constants.items ≡ Whole (pos 0) ∷ (Whole (pos 1) ∷ []) → c0 ≡ no_code → p0 ≡ []
-    → All g0 g1 g2 g3 c0 c1 c2 c3 p0 p1 p2 p3 main routines events
+    → All g0 g1 g2 g3 c1 c2 c3 p1 p2 p3 main routines events
 all_made {g3 = g3} {main = main} {deep = deep} puts_main puts_routines puts_events deepened constants code prints = record {
   constants = constants;
-  code = code;
-  prints = prints;
-  puts_main = puts_main;
+  puts_main = rw (code, prints) at puts_main;
   puts_routines = puts_routines;
   puts_events = puts_events;
   small = few_cells g3.deepest main deep deepened;
 }
 
-module _ {g0 g1 g2 g3 : Generator} {c0 c1 c2 c3 : Lined} {p0 p1 p2 p3 : List RunningLines} {main : SectionEntry} {routines events : List SectionEntry} (a : All g0 g1 g2 g3 c0 c1 c2 c3 p0 p1 p2 p3 main routines events) (held : Held) (same : g0.program.now ≡ held) (typed : IsWellTyped (view_program held)) where
+module _ {g0 g1 g2 g3 : Generator} {c1 c2 c3 : Lined} {p1 p2 p3 : List RunningLines} {main : SectionEntry} {routines events : List SectionEntry} (a : All g0 g1 g2 g3 c1 c2 c3 p1 p2 p3 main routines events) (held : Held) (same : g0.program.now ≡ held) (typed : IsWellTyped (view_program held)) where
   typed_here : IsWellTyped (view_program g0.program.now)
   typed_here = subst (λ (h : Held). IsWellTyped (view_program h)) (sym same) typed
 
   pub code_long : length c3 ≡ length (code_of (view_program held)).places
-  code_long = all_long g0 g1 g2 g3 c0 c1 c2 c3 p0 p1 p2 p3 main routines events a typed_here ∙ ap (λ (h : Held). length (code_of (view_program h)).places) same
+  code_long = all_long a typed_here ∙ ap (λ (h : Held). length (code_of (view_program h)).places) same
 
   pub never_long : HasSize → nodes (view_program held) ≤ 16384 → length c3 ≤ 1048576
   never_long size few =
       let here : nodes (view_program g0.program.now) ≡ nodes (view_program held) = ap (λ (h : Held). nodes (view_program h)) same in
-      small_enough g0 g1 g2 g3 c0 c1 c2 c3 p0 p1 p2 p3 main routines events a typed_here size (omega (arith, here, few))
+      small_enough a typed_here size (omega (arith, here, few))
 
   abbrev pub compiled : (instructions : List Running) (main1 : SectionEntry) (routines1 events1 : List SectionEntry) (said : Said) (globals : List Mode) (lines : List Line) (depth : ℕ) → Generated
   compiled instructions main1 routines1 events1 said globals lines depth = record { run = record { instructions = instructions; lines = lines; constants = g3.constants.items; prints = p3; main = main1; routines = routines1; events = events1; depth = depth }; said = said; globals = globals }
@@ -211,6 +181,6 @@ module _ {g0 g1 g2 g3 : Generator} {c0 c1 c2 c3 : Lined} {p0 p1 p2 p3 : List Run
       let modes' : globals ≡ g0.program.now.globals.items = modes ∙ sym (ap (λ (h : Held). h.globals.items) same) in
       let sifts' : WalksSift (length g0.program.now.globals.items + length g3.constants.items) instructions = subst (λ k. WalksSift k instructions) (low_is ∙ ap (λ (l : List Mode). length l + length g3.constants.items) modes') sifts in
       let here : IsFor (view_program held) (compiled instructions main1 routines1 events1 said globals (lines_in c3) g3.deepest) = subst (λ (h : Held). IsFor (view_program h) (compiled instructions main1 routines1 events1 said globals (lines_in c3) g3.deepest)) same
-      (is_made g0 g1 g2 g3 c0 c1 c2 c3 p0 p1 p2 p3 main routines events a typed_here instructions main1 routines1 events1 said globals alike' sifts' (subst (λ (h : Held). HasLandings (code_of (view_program h))) (sym same) lands) short dm drs des (says ∙ sym (ap (λ (h : Held). said_by (view_program h)) same)) modes') in
+      (is_made a typed_here instructions main1 routines1 events1 said globals alike' sifts' (subst (λ (h : Held). HasLandings (code_of (view_program h))) (sym same) lands) short dm drs des (says ∙ sym (ap (λ (h : Held). said_by (view_program h)) same)) modes') in
       subst (λ (ls : List Line). IsFor (view_program held) (compiled instructions main1 routines1 events1 said globals ls depth)) (sym lines_is)
       (subst (λ k. IsFor (view_program held) (compiled instructions main1 routines1 events1 said globals (lines_in c3) k)) (sym depth_is) here)

@@ -1,35 +1,28 @@
 -- How long the code of a program is: at most 64 instructions for each of its nodes.
-use Rattle.std.proofs.Common.{ℕ, zero, suc, ◌+◌, ◌*◌, ◌≤◌, Bool, true, false, List, [], ◌∷◌, Option, Some, None, arith}
+use Rattle.std.proofs.Common.{ℕ, ◌+◌, ◌*◌, ◌≤◌, Bool, true, List, [], ◌∷◌, Option, arith}
 use Rattle.ss_program.specs.declared.expression.Variable.{Variable}
 use Rattle.ss_base.specs.declared.words.GuardKind.{GuardKind}
-use Rattle.ss_base.specs.declared.words.GuardKind.TheVariants as guards
 use Rattle.ss_base.specs.declared.words.PhraseKind.{PhraseKind}
-use Rattle.ss_base.specs.declared.words.PhraseKind.TheVariants as kinds
-use Rattle.ss_program.specs.Program.{Expression, Constant, Fetch, Attribute, OfSet, OfMember, TimeOf, FigureOf, Signed, Unary, Calculate, SetOwner, TheSystem, Entity, Test, Compare, DataEnded, Empty, Member, Condition, Head, Numbers, Members, Each, Start, AtEnd, From, After, Phrase, Guard, Place, ToVariable, ToAttribute, ToCount, InputTarget, Position, BeforeMember, AfterMember, When, At, In, Now, Restart, PrintItem, AValue, AMean, AMeanOf, Statement, Let, Change, Call, Read, If, Loop, For, Find, Create, Destroy, File, RemoveEnd, Remove, ScheduleNew, Schedule, Cancel, Reset, Print, Skip, Block, Done, Then, Routine, Event, Program}
+use Rattle.ss_program.specs.Program.{Expression, Attribute, OfSet, OfMember, TimeOf, FigureOf, Signed, Unary, Calculate, SetOwner, Test, Condition, Head, Start, Phrase, Guard, Place, ToVariable, ToAttribute, ToCount, InputTarget, Position, BeforeMember, AfterMember, When, Restart, PrintItem, Statement, If, Loop, For, Find, Create, File, RemoveEnd, Remove, ScheduleNew, Schedule, Block, Done, Then, Routine, Event, Program}
 use Rattle.ss_program.specs.Nodes.{total, option_nodes, expression_nodes, subscript_nodes, set_nodes, test_nodes, alternative_nodes, condition_nodes, guard_nodes, phrase_nodes, place_nodes, target_nodes, start_nodes, head_nodes, position_nodes, when_nodes, restart_nodes, item_nodes, statement_nodes, block_nodes, routine_nodes, event_nodes, nodes}
-use Rattle.ss_code_instructions.specs.Facts.{is_watched, must_look, needs_look, expression_of, may_fault, neighbour_of}
+use Rattle.ss_code_instructions.specs.Facts.{is_watched, needs_look, expression_of, may_fault, neighbour_of}
 use Rattle.ss_code_instructions.specs.Size.{one_if, one_if_some, expression_size, operand_size, operand_cell_count, values_size, looked_size, any_size, test_size, tests_size, alternatives_size, condition_size, guard_size, guards_size, phrase_size, phrases_size}
 use Rattle.ss_code_instructions.specs.Size as z
 
 one_small : (b : Bool) → one_if b ≤ 1
-one_small true = omega arith
-one_small false = omega arith
+one_small b = grind arith
 
 some_small : (n : ℕ) → one_if_some n ≤ 1
-some_small zero = omega arith
-some_small (suc n) = omega arith
+some_small n = grind arith
 
 -- ## Expressions
 
 -- an operand, where its expression is no longer than its nodes say
 operand_under : (e : Expression) → expression_size e ≤ expression_nodes e → operand_size e ≤ subscript_nodes e
-operand_under (Constant v) h = omega arith
-operand_under (Fetch x) h = omega arith
-operand_under _ h = h
+operand_under e h = grind arith
 
 subscript_under : (e : Expression) → subscript_nodes e ≤ expression_nodes e
-subscript_under (Fetch x) = omega arith
-subscript_under _ = omega arith
+subscript_under e = grind arith
 
 expression_small : (e : Expression) → expression_size e ≤ expression_nodes e
 expression_small (Attribute class field e) = omega (arith, operand_under e (expression_small e))
@@ -50,9 +43,7 @@ operand_within e = omega (arith, operand_small e, subscript_under e)
 
 -- an expression that takes a cell, as a subscript
 meant_small : (e : Expression) → expression_size e ≤ 1 + subscript_nodes e
-meant_small (Constant v) = omega arith
-meant_small (Fetch x) = omega arith
-meant_small e = omega (arith, expression_small e)
+meant_small e = grind (arith, expression_small e)
 
 values_small : (es : List Expression) → values_size es ≤ total expression_nodes es
 values_small [] = omega arith
@@ -62,56 +53,45 @@ looked_small : (b : Bool) (e : Expression) → looked_size b e ≤ 1 + subscript
 looked_small b e = omega (arith, operand_small e, one_small b)
 
 owner_under : (o : SetOwner) → any_size (expression_of o) + 1 ≤ set_nodes o
-owner_under TheSystem = omega arith
-owner_under (Entity e) = omega (arith, operand_small e)
+owner_under o = grind (arith, operand_small)
 
 -- ## Conditions
 
 test_small : (x : Test) → test_size x ≤ test_nodes x
-test_small (Compare relation a b) = omega (arith, operand_within a, operand_within b)
-test_small (DataEnded negated) = omega arith
-test_small (Empty negated set o) = omega (arith, owner_under o)
-test_small (Member negated set e o) = omega (arith, looked_small (may_fault (expression_of o)) e, subscript_under e, owner_under o)
+test_small x = grind (arith, operand_within, owner_under, looked_small, subscript_under)
 
 tests_small : (xs : List Test) → tests_size xs ≤ total test_nodes xs
 tests_small [] = omega arith
 tests_small (x ∷ xs) = omega (arith, test_small x, tests_small xs)
 
 test_there : (x : Test) → 1 ≤ test_nodes x
-test_there (DataEnded negated) = omega arith
-test_there _ = omega arith
+test_there x = grind arith
 
 alternative_there : (xs : List Test) → 1 ≤ alternative_nodes xs
-alternative_there [] = omega arith
-alternative_there (x ∷ xs) = omega (arith, test_there x)
+alternative_there xs = grind (arith, test_there)
 
 alternative_small : (xs : List Test) → tests_size xs ≤ alternative_nodes xs
-alternative_small [] = omega arith
-alternative_small (x ∷ xs) = omega (arith, test_small x, tests_small xs)
+alternative_small xs = grind (arith, test_small, tests_small)
 
 alternatives_small : (xs : List Test) (others : List (List Test)) → alternatives_size xs others ≤ 2 * (alternative_nodes xs + total alternative_nodes others)
 alternatives_small xs [] = omega (arith, alternative_small xs)
 alternatives_small xs (ys ∷ others) = omega (arith, alternative_small xs, alternative_there xs, alternatives_small ys others)
 
 condition_small : (c : Condition) → condition_size c ≤ 2 * condition_nodes c
-condition_small [] = omega arith
-condition_small (xs ∷ others) = omega (arith, alternatives_small xs others)
+condition_small c = grind (arith, alternatives_small)
 
 condition_there : (c : Condition) → 1 ≤ condition_nodes c
-condition_there [] = omega arith
-condition_there (xs ∷ others) = omega (arith, alternative_there xs)
+condition_there c = grind (arith, alternative_there)
 
 guard_small : (k : GuardKind) (c : Condition) → guard_size k c ≤ 3 * condition_nodes c
-guard_small guards.While c = omega (arith, condition_small c)
-guard_small guards.Until c = omega (arith, condition_small c, condition_there c)
+guard_small k c = grind (arith, condition_small c, condition_there c)
 
 guards_small : (gs : List Guard) → guards_size gs ≤ 3 * total guard_nodes gs
 guards_small [] = omega arith
 guards_small (g ∷ gs) = omega (arith, guard_small g.kind g.condition, guards_small gs)
 
 phrase_small : (k : PhraseKind) (c : Condition) → phrase_size k c ≤ 2 * (1 + condition_nodes c)
-phrase_small kinds.With c = omega (arith, condition_small c)
-phrase_small _ c = omega (arith, condition_small c)
+phrase_small k c = grind (arith, condition_small c)
 
 phrases_small : (ps : List Phrase) (turn : ℕ) → phrases_size ps turn ≤ 2 * total phrase_nodes ps + turn
 phrases_small [] turn = omega arith
@@ -120,30 +100,23 @@ phrases_small (x ∷ xs) turn = omega (arith, phrase_small x.kind x.condition, p
 -- ## Assignments
 
 place_there : (x : Place) → 1 ≤ place_nodes x
-place_there (ToVariable x) = omega arith
-place_there _ = omega arith
+place_there x = grind arith
 
 cells_small : (e : Expression) → operand_cell_count e ≤ 1
-cells_small (Constant v) = omega arith
-cells_small _ = omega arith
+cells_small e = grind arith
 
 module _ (p : Program) where
   kept_small : (x : Variable) → z.kept_size p x ≤ 1
   kept_small x = one_small (is_watched p.statistics x)
 
   let_variable_small : (b : Bool) (e : Expression) → z.let_variable_size p b e ≤ 1 + expression_nodes e
-  let_variable_small true e = omega (arith, operand_within e)
-  let_variable_small false e = omega (arith, expression_small e)
+  let_variable_small b e = grind (arith, operand_within e, expression_small e)
 
   let_small : (x : Place) (e : Expression) → z.let_size p x e ≤ 2 * (place_nodes x + expression_nodes e)
-  let_small (ToVariable x) e = omega (arith, let_variable_small (is_watched p.statistics x) e)
-  let_small (ToAttribute class field r) e = omega (arith, looked_small (must_look class r e) r, operand_within e)
-  let_small (ToCount c) e = omega (arith, operand_within e)
+  let_small x e = grind (arith, let_variable_small, looked_small, operand_within)
 
   change_small : (x : Place) (e : Expression) → z.change_size p x e ≤ 3 * (place_nodes x + expression_nodes e)
-  change_small (ToVariable x) e = omega (arith, operand_within e, kept_small x)
-  change_small (ToAttribute class field r) e = omega (arith, operand_within e, operand_small r)
-  change_small (ToCount c) e = omega (arith, operand_within e)
+  change_small x e = grind (arith, operand_within, operand_small, kept_small)
 
   to_place_small : (x : Place) (source : ℕ) → z.to_place_size p x source ≤ source + place_nodes x + 2
   to_place_small (ToVariable x) source = omega (arith, kept_small x)
@@ -155,8 +128,7 @@ module _ (p : Program) where
   reads_small (x ∷ xs) = omega (arith, to_place_small x.place 1, place_there x.place, reads_small xs)
 
   give_small : (x : Place) → z.give_size p x ≤ 2 * place_nodes x
-  give_small (ToAttribute class field r) = omega (arith, operand_small r)
-  give_small _ = omega arith
+  give_small x = grind (arith, operand_small)
 
   gives_small : (xs : List Place) → z.gives_size p xs ≤ 2 * total place_nodes xs
   gives_small [] = omega arith
@@ -165,22 +137,16 @@ module _ (p : Program) where
   -- ## Loops
 
   step_small : (c : Option Expression) → z.step_size p c ≤ 1 + option_nodes expression_nodes c
-  step_small None = omega arith
-  step_small (Some e) = omega (arith, expression_small e)
+  step_small c = grind (arith, expression_small)
 
   owner_small : (o : SetOwner) → z.owner_size p o ≤ set_nodes o
-  owner_small TheSystem = omega arith
-  owner_small (Entity e) = meant_small e
+  owner_small o = grind (arith, meant_small)
 
   start_small : (s : Start) → z.start_size p s ≤ 1 + start_nodes s
-  start_small AtEnd = omega arith
-  start_small (From e) = omega (arith, expression_small e)
-  start_small (After e) = omega (arith, expression_small e)
+  start_small s = grind (arith, expression_small)
 
   head_small : (head : Head) → z.head_size p head ≤ head_nodes head
-  head_small (Numbers x a b c) = omega (arith, expression_small a, expression_small b, step_small c)
-  head_small (Each x class) = omega arith
-  head_small (Members x set o start reverse) = omega (arith, owner_small o, start_small start)
+  head_small head = grind (arith, expression_small, step_small, owner_small, start_small)
 
   for_small : (head : Head) (turn : ℕ) → z.for_size p head turn ≤ head_nodes head + 5 + turn
   for_small head turn = omega (arith, head_small head, kept_small (z.head_variable p head))
@@ -196,31 +162,24 @@ module _ (p : Program) where
   file_small e x o = omega (arith, looked_small (needs_look (neighbour_of x) (expression_of o)) e, subscript_under e, beside_small x, owner_under o)
 
   when_small : (w : When) → z.when_size p w ≤ 1 + when_nodes w
-  when_small (At e) = omega (arith, operand_within e)
-  when_small (In e) = omega (arith, operand_within e)
-  when_small Now = omega arith
+  when_small w = grind (arith, operand_within)
 
   place_small : (x : Place) → z.place_size p x ≤ place_nodes x
   place_small (ToAttribute class field r) = looked_small true r
   place_small _ = omega arith
 
   notice_small : (x : Place) → z.notice_size p x ≤ 4
-  notice_small (ToVariable x) = omega (arith, kept_small x)
-  notice_small (ToAttribute class field r) = omega (arith, cells_small r)
-  notice_small (ToCount c) = omega arith
+  notice_small x = grind (arith, kept_small, cells_small)
 
   restart_small : (e : Option Expression) → any_size e + 1 ≤ 1 + option_nodes subscript_nodes e
-  restart_small None = omega arith
-  restart_small (Some e) = omega (arith, operand_small e)
+  restart_small e = grind (arith, operand_small)
 
   restarts_small : (rs : List Restart) → z.restarts_size p rs ≤ total restart_nodes rs
   restarts_small [] = omega arith
   restarts_small (r ∷ rs) = omega (arith, restart_small r.of, restarts_small rs)
 
   item_small : (x : PrintItem) → z.item_size p x ≤ 2 * item_nodes x
-  item_small (AValue e) = omega (arith, expression_small e)
-  item_small (AMean k) = omega arith
-  item_small (AMeanOf k e) = omega (arith, meant_small e)
+  item_small x = grind (arith, expression_small, meant_small)
 
   items_small : (xs : List PrintItem) → z.items_size p xs ≤ 2 * total item_nodes xs
   items_small [] = omega arith
@@ -230,26 +189,17 @@ module _ (p : Program) where
 
   mutual
     statement_small : (s : Statement) → z.statement_size p s ≤ 64 * statement_nodes s
-    statement_small (Let l x e) = omega (arith, let_small x e)
-    statement_small (Change l sign x e) = omega (arith, change_small x e)
-    statement_small (Call l routine given yielding) = omega (arith, values_small given, gives_small yielding)
-    statement_small (Read l targets) = omega (arith, reads_small targets)
     statement_small (If l c a b) = omega (arith, condition_small c, block_small a, block_small b, some_small (z.block_size p b))
     statement_small (Loop l gs a) = omega (arith, guards_small gs, block_small a)
     statement_small (For l head ps a) = omega (arith, for_small head (phrases_size ps (z.block_size p a)), phrases_small ps (z.block_size p a), block_small a)
     statement_small (Find l head ps a b) = omega (arith, for_small head (phrases_size ps 1), phrases_small ps 1, block_small a, block_small b)
-    statement_small (Create l class x) = omega (arith, to_place_small x 1)
-    statement_small (Destroy l class e) = omega (arith, operand_within e)
     statement_small (File l set e x o) = omega (arith, file_small e x o)
     statement_small (RemoveEnd l end set x o) = omega (arith, to_place_small x (any_size (expression_of o) + 1), owner_under o)
     statement_small (Remove l set e o) = omega (arith, looked_small (may_fault (expression_of o)) e, subscript_under e, owner_under o)
     statement_small (ScheduleNew l class x given w) = omega (arith, place_small x, values_small given, when_small w, notice_small x)
     statement_small (Schedule l class e given w) = omega (arith, looked_small true e, subscript_under e, values_small given, when_small w)
-    statement_small (Cancel l class e) = omega (arith, operand_within e)
-    statement_small (Reset l restarts) = omega (arith, restarts_small restarts)
-    statement_small (Print l items pictures) = omega (arith, items_small items)
-    statement_small (Skip l e) = omega (arith, operand_within e)
-    statement_small _ = omega arith
+    statement_small (Create l class x) = omega (arith, to_place_small x 1)
+    statement_small _ = omega (arith, let_small, change_small, values_small, gives_small, reads_small, restarts_small, items_small, operand_within)
 
     block_small : (b : Block) → z.block_size p b ≤ 64 * block_nodes b
     block_small Done = omega arith

@@ -16,7 +16,7 @@ use Rattle.ss_code_generator.specs.Emitted.{Final, IsAround, IsLocated, HasPrint
 use Rattle.ss_code_generator.specs.Printed.{HasPrinted, statement_site, HasPrintedBy}
 use Rattle.ss_code.specs.Running.{HasFrameOf, AreAllFramed}
 use Rattle.ss_code.specs.Sections.{scope_of_section, HasPut, HasPutSection, HasPutRoutines, HasPutEvents}
-use Rattle.ss_code_generator.proofs.Emitting.{runs_long, adds_none, adds_then, adds_piece, adds_same}
+use Rattle.ss_code_generator.proofs.Emitting.{around_less, runs_long, adds_none, adds_then, adds_piece, adds_same}
 use Rattle.ss_code_generator.proofs.PrintLines.{prints_then, prints_long}
 use Rattle.ss_code_generator.proofs.Bodies.{has_prints_old}
 use Rattle.ss_code_generator.proofs.Listed.{every_split}
@@ -36,7 +36,7 @@ section_adds g0 g1 g2 c0 c1 own p0 p1 s b made same program locals is f around p
       high = refl;
       deep = flat;
     } in
-    adds_piece f c0 c1 own (section_code s (length p0) b) is (made.code.adds f t tt around located (prints, good))
+    adds_piece is (made.code.adds f t tt around located (prints, good))
 
 -- ## One section more
 
@@ -116,18 +116,8 @@ section_begins e entry place given yielding others room = record { place = place
 
 -- ## One after another
 
-pub around_less : (f : Final) (g0 g1 : Generator) (more : List Value) → g1.constants.items ≡ g0.constants.items ++ more → g0.deepest ≤ g1.deepest → g1.program.now ≡ g0.program.now → IsAround f g1 → IsAround f g0
-around_less f g0 g1 more constants depth program a = record {
-  program = sym (ap view_program program) ∙ a.program;
-  typed = a.typed;
-  fixed = a.fixed;
-  constants = (
-    more ++ a.constants.0,
-    a.constants.1 ∙ ap (λ (l : List Value). l ++ a.constants.0) constants ∙ append_assoc g0.constants.items more a.constants.0,
-  );
-  depth = omega (arith, depth, a.depth);
-  small = a.small;
-}
+pub put_around : {f : Final} {g0 g1 : Generator} {c0 c1 : Lined} {p0 p1 : List RunningLines} {Good : Type 0} {ls : List Lines} {c : ℕ → List Placed} → HasPut g0 g1 c0 c1 p0 p1 Good ls c → IsAround f g1 → IsAround f g0
+put_around h around = around_less h.constants.0 h.constants.1 h.depth h.program around
 
 adds_long : (f : Final) (a b : Lined) (c : List Placed) → HasAdded f a b c → length b ≡ length a + length c
 adds_long f a b c h = ap length h.added ∙ length-append a h.more ∙ ap (λ n. length a + n) (runs_long f c h.more h.run)
@@ -153,12 +143,12 @@ module _ {X : Type 0} (body : X → Block) (given : X → List Mode) (yielding :
         let same : view_program g1.program.now ≡ whole = ap view_program m.program in
         let long : length p1 ≡ length p0 + length (lines xs) = prints_long p0 p1 (lines xs) m.prints in
         let typed : IsTypedBlock (scope_in (view_program g1.program.now) x) (body x) = subst (λ (p : Program). IsTypedBlock (scope_in p x) (body x)) (sym same) (good_body whole x good) in
-        adds_same f c1 c2 (code_in (view_program g1.program.now) (length p1) x) (code_in whole (length p0 + length (lines xs)) x) (ap (λ (p : Program). code_in p (length p1) x) same ∙ ap (λ k. code_in whole k x) long) (k.adds f around has typed)
+        adds_same (ap (λ (p : Program). code_in p (length p1) x) same ∙ ap (λ k. code_in whole k x) long) (k.adds f around has typed)
 
     before_adds : (f : Final) → IsAround f g2 → HasPrints f p2 → Every (Good whole) xs → HasAdded f c0 c1 (codes whole (length p0) xs)
     before_adds f around has good =
         let k = n.puts false in
-        m.adds f (around_less f g1 g2 k.constants.0 k.constants.1 k.depth k.program around) (has_prints_old f p1 p2 (block_prints (body x)) k.prints has) good
+        m.adds f (put_around k around) (has_prints_old f p1 p2 (block_prints (body x)) k.prints has) good
 
     sections_put : HasPut g0 g2 c0 c2 p0 p2 (Every (Good whole) (xs ++ x ∷ [])) (lines (xs ++ x ∷ [])) (λ first. codes whole first (xs ++ x ∷ []))
     sections_put =
@@ -172,8 +162,8 @@ module _ {X : Type 0} (body : X → Block) (given : X → List Mode) (yielding :
           program = k.program ∙ m.program;
           adds = λ f around has good.
               let both = every_split (Good whole) xs x good in
-              adds_same f c0 c2 (codes whole (length p0) xs ++ code_in whole (length p0 + length (lines xs)) x) (codes whole (length p0) (xs ++ x ∷ [])) (sym (codes_more whole (length p0) xs x))
-              (adds_then f c0 c1 c2 (codes whole (length p0) xs) (code_in whole (length p0 + length (lines xs)) x) (before_adds f around has both.0) (last_adds f around has both.1));
+              adds_same (sym (codes_more whole (length p0) xs x))
+              (adds_then (before_adds f around has both.0) (last_adds f around has both.1));
           prints = subst (HasPrinted p0 p2) (sym (lines_more xs x)) (prints_then p0 p1 p2 (lines xs) (block_prints (body x)) m.prints k.prints);
         }
 
@@ -181,38 +171,38 @@ module _ {X : Type 0} (body : X → Block) (given : X → List Mode) (yielding :
     sections_begin begin f around has good =
         let k = n.puts false in
         let both = every_split (Good whole) xs x good in
-        let old : AreAllFramed 0 (starts whole (length c0) (length p0) xs) entries = begin f (around_less f g1 g2 k.constants.0 k.constants.1 k.depth k.program around) (has_prints_old f p1 p2 (block_prints (body x)) k.prints has) both.0 in
+        let old : AreAllFramed 0 (starts whole (length c0) (length p0) xs) entries = begin f (put_around k around) (has_prints_old f p1 p2 (block_prints (body x)) k.prints has) both.0 in
         let place : length c1 ≡ length c0 + length (codes whole (length p0) xs) = adds_long f c0 c1 (codes whole (length p0) xs) (before_adds f around has both.0) in
         let new : HasFrameOf 0 (entry_at (length c0 + length (codes whole (length p0) xs)) x) entry = subst (λ k. HasFrameOf 0 (entry_at k x) entry) place n.begins in
         subst (λ (es : List EntryPoint). AreAllFramed 0 es (entries ++ entry ∷ [])) (sym (starts_more whole (length c0) (length p0) xs x))
         (begin_more 0 (starts whole (length c0) (length p0) xs) entries (entry_at (length c0 + length (codes whole (length p0) xs)) x) entry old new)
 
 -- no section
-nothing_put : (g : Generator) (c : Lined) (prints : List RunningLines) (Good : Type 0) → HasPut g g c c prints prints Good [] (λ first. [])
-nothing_put g c prints Good = record {
+nothing_put : {g : Generator} {c : Lined} {prints : List RunningLines} {Good : Type 0} → HasPut g g c c prints prints Good [] (λ first. [])
+nothing_put {g} {prints = prints} = record {
   constants = ([], sym (append-nil g.constants.items));
   depth = omega arith;
   program = refl;
-  adds = λ f around has good. adds_none f c;
+  adds = λ f around has good. adds_none;
   prints = ([], sym (append-nil prints), refl);
 }
 
 -- the routines
-pub no_routines_put : (g : Generator) (c : Lined) (prints : List RunningLines) → HasPutRoutines g g c c prints prints [] []
-no_routines_put g c prints = record { puts = nothing_put g c prints _; begin = λ f around has good. tt }
+pub no_routines_put : {g : Generator} {c : Lined} {prints : List RunningLines} → HasPutRoutines g g c c prints prints [] []
+no_routines_put = record { puts = nothing_put; begin = λ f around has good. tt }
 
-pub routines_put : (g0 g1 g2 : Generator) (c0 c1 c2 : Lined) (p0 p1 p2 : List RunningLines) (rs : List Routine) (r : Routine) (entries : List SectionEntry) (entry : SectionEntry) → HasPutRoutines g0 g1 c0 c1 p0 p1 rs entries → HasPutSection g1 g2 c1 c2 p1 p2 (routine_entry (length c1) r) r.body entry → HasPutRoutines g0 g2 c0 c2 p0 p2 (rs ++ r ∷ []) (entries ++ entry ∷ [])
-routines_put g0 g1 g2 c0 c1 c2 p0 p1 p2 rs r entries entry m n = record {
-  puts = sections_put (λ (x : Routine). x.body) (λ (x : Routine). x.given) (λ (x : Routine). length x.yielding) (λ (x : Routine). x.yielding ++ x.others) routines_code routines_prints routine_entries IsTypedRoutine (λ p x good. good) routines_code_more routines_prints_more routine_entries_more g0 g1 g2 c0 c1 c2 p0 p1 p2 rs r entries entry m.puts n;
-  begin = sections_begin (λ (x : Routine). x.body) (λ (x : Routine). x.given) (λ (x : Routine). length x.yielding) (λ (x : Routine). x.yielding ++ x.others) routines_code routines_prints routine_entries IsTypedRoutine (λ p x good. good) routines_code_more routines_prints_more routine_entries_more g0 g1 g2 c0 c1 c2 p0 p1 p2 rs r entries entry m.puts n m.begin;
+pub routines_put : {g0 g1 g2 : Generator} {c0 c1 c2 : Lined} {p0 p1 p2 : List RunningLines} {rs : List Routine} (r : Routine) {entries : List SectionEntry} {entry : SectionEntry} → HasPutRoutines g0 g1 c0 c1 p0 p1 rs entries → HasPutSection g1 g2 c1 c2 p1 p2 (routine_entry (length c1) r) r.body entry → HasPutRoutines g0 g2 c0 c2 p0 p2 (rs ++ r ∷ []) (entries ++ entry ∷ [])
+routines_put {rs = rs} r {entries} m n = record {
+  puts = sections_put (λ (x : Routine). x.body) (λ (x : Routine). x.given) (λ (x : Routine). length x.yielding) (λ (x : Routine). x.yielding ++ x.others) routines_code routines_prints routine_entries IsTypedRoutine (λ p x good. good) routines_code_more routines_prints_more routine_entries_more _ _ _ _ _ _ _ _ _ rs r entries _ m.puts n;
+  begin = sections_begin (λ (x : Routine). x.body) (λ (x : Routine). x.given) (λ (x : Routine). length x.yielding) (λ (x : Routine). x.yielding ++ x.others) routines_code routines_prints routine_entries IsTypedRoutine (λ p x good. good) routines_code_more routines_prints_more routine_entries_more _ _ _ _ _ _ _ _ _ rs r entries _ m.puts n m.begin;
 }
 
 -- and those of events
-pub no_events_put : (g : Generator) (c : Lined) (prints : List RunningLines) → HasPutEvents g g c c prints prints [] []
-no_events_put g c prints = record { puts = nothing_put g c prints _; begin = λ f around has good. tt }
+pub no_events_put : {g : Generator} {c : Lined} {prints : List RunningLines} → HasPutEvents g g c c prints prints [] []
+no_events_put = record { puts = nothing_put; begin = λ f around has good. tt }
 
-pub events_put : (g0 g1 g2 : Generator) (c0 c1 c2 : Lined) (p0 p1 p2 : List RunningLines) (es : List Event) (e : Event) (entries : List SectionEntry) (entry : SectionEntry) → HasPutEvents g0 g1 c0 c1 p0 p1 es entries → HasPutSection g1 g2 c1 c2 p1 p2 (event_entry (length c1) e) e.body entry → HasPutEvents g0 g2 c0 c2 p0 p2 (es ++ e ∷ []) (entries ++ entry ∷ [])
-events_put g0 g1 g2 c0 c1 c2 p0 p1 p2 es e entries entry m n = record {
-  puts = sections_put (λ (x : Event). x.body) (λ (x : Event). x.given) (λ (x : Event). 0) (λ (x : Event). x.others) events_code events_prints event_entries IsTypedEvent (λ p x good. good.body) events_code_more events_prints_more event_entries_more g0 g1 g2 c0 c1 c2 p0 p1 p2 es e entries entry m.puts n;
-  begin = sections_begin (λ (x : Event). x.body) (λ (x : Event). x.given) (λ (x : Event). 0) (λ (x : Event). x.others) events_code events_prints event_entries IsTypedEvent (λ p x good. good.body) events_code_more events_prints_more event_entries_more g0 g1 g2 c0 c1 c2 p0 p1 p2 es e entries entry m.puts n m.begin;
+pub events_put : {g0 g1 g2 : Generator} {c0 c1 c2 : Lined} {p0 p1 p2 : List RunningLines} {es : List Event} (e : Event) {entries : List SectionEntry} {entry : SectionEntry} → HasPutEvents g0 g1 c0 c1 p0 p1 es entries → HasPutSection g1 g2 c1 c2 p1 p2 (event_entry (length c1) e) e.body entry → HasPutEvents g0 g2 c0 c2 p0 p2 (es ++ e ∷ []) (entries ++ entry ∷ [])
+events_put {es = es} e {entries} m n = record {
+  puts = sections_put (λ (x : Event). x.body) (λ (x : Event). x.given) (λ (x : Event). 0) (λ (x : Event). x.others) events_code events_prints event_entries IsTypedEvent (λ p x good. good.body) events_code_more events_prints_more event_entries_more _ _ _ _ _ _ _ _ _ es e entries _ m.puts n;
+  begin = sections_begin (λ (x : Event). x.body) (λ (x : Event). x.given) (λ (x : Event). 0) (λ (x : Event). x.others) events_code events_prints event_entries IsTypedEvent (λ p x good. good.body) events_code_more events_prints_more event_entries_more _ _ _ _ _ _ _ _ _ es e entries _ m.puts n m.begin;
 }

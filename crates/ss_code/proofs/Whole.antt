@@ -62,8 +62,6 @@ entry_of depth e old new b d few =
     let given : new.given.items ≡ e.given = ap (λ (x : SectionEntry). x.given.items) d.same ∙ b.given in
     let others : new.others.items ≡ e.others = ap (λ (x : SectionEntry). x.others.items) d.same ∙ b.others in
     let yielding : new.yielding ≡ e.yielding = ap (λ (x : SectionEntry). x.yielding) d.same ∙ b.yielding in
-    let longs : length new.given.items ≡ length e.given = ap length given in
-    let rest : length new.others.items ≡ length e.others = ap length others in
     record {
       place = ap (λ (x : SectionEntry). x.place) d.same ∙ b.place;
       given = given;
@@ -71,8 +69,8 @@ entry_of depth e old new b d few =
       others = others;
       room = room;
       sized = record {
-        variables = omega (arith, room, longs, rest);
-        yields = omega (arith, few, yielding, rest);
+        variables = omega (arith, room, ap length given, ap length others);
+        yields = omega (arith, few, yielding, ap length others);
         small = d.small;
       };
     }
@@ -81,7 +79,7 @@ entries_of : (depth : ℕ) (es : List EntryPoint) (olds news : List SectionEntry
 entries_of depth [] [] [] b d y = tt
 entries_of depth (e ∷ es) (o ∷ os) (n ∷ ns) b d y = (entry_of depth e o n b.0 d.0 y.0, entries_of depth es os ns b.1 d.1 y.1)
 entries_of depth [] [] _ b d y = absurd d
-entries_of depth (e ∷ es) (o ∷ os) _ b d y = absurd d
+entries_of depth (e ∷ es) (o ∷ os) [] b d y = absurd d
 entries_of depth _ _ news b d y = absurd b
 
 routines_yield : (p : Program) (at first : ℕ) (rs : List Routine) → Every Yields (routine_entries p at first rs)
@@ -107,7 +105,7 @@ pub record Parts (p : Program) (g : Generator) (c1 c2 c3 : Lined) (p1 p2 p3 : Li
   pub routine_prints : HasPrinted p1 p2 (routines_prints p.routines)
   pub event_prints : HasPrinted p2 p3 (events_prints p.events)
 
-module _ (p : Program) (g : Generator) (c1 c2 c3 : Lined) (p1 p2 p3 : List RunningLines) (parts : Parts p g c1 c2 c3 p1 p2 p3) where
+module _ {p : Program} {g : Generator} {c1 c2 c3 : Lined} {p1 p2 p3 : List RunningLines} (parts : Parts p g c1 c2 c3 p1 p2 p3) where
   abbrev final : Final
   final = record { program = p; constants = g.constants.items; prints = p3; depth = g.deepest }
 
@@ -117,12 +115,14 @@ module _ (p : Program) (g : Generator) (c1 c2 c3 : Lined) (p1 p2 p3 : List Runni
   second_long : length p2 ≡ prints_before_events p
   second_long = prints_long p1 p2 (routines_prints p.routines) parts.routine_prints ∙ ap (λ n. n + length (routines_prints p.routines)) first_long
 
+  routines_added : HasAdded final c1 c2 (all_routines p)
+  routines_added = adds_same (ap (λ n. routines_code p n p.routines) first_long) parts.routines
+
   -- all places, one after the other
   pub all_added : HasAdded final no_code c3 (code_of p).places
   all_added =
-      let rs : HasAdded final c1 c2 (all_routines p) = adds_same final c1 c2 (routines_code p (length p1) p.routines) (all_routines p) (ap (λ n. routines_code p n p.routines) first_long) parts.routines in
-      let es : HasAdded final c2 c3 (all_events p) = adds_same final c2 c3 (events_code p (length p2) p.events) (all_events p) (ap (λ n. events_code p n p.events) second_long) parts.events in
-      adds_then final no_code c1 c3 (main_code p) (all_routines p ++ all_events p) parts.main (adds_then final c1 c2 c3 (all_routines p) (all_events p) rs es)
+      let es : HasAdded final c2 c3 (all_events p) = adds_same (ap (λ n. events_code p n p.events) second_long) parts.events in
+      adds_then parts.main (adds_then routines_added es)
 
   all_printed : map lines_of_running p3 ≡ (code_of p).prints
   all_printed =
@@ -133,14 +133,12 @@ module _ (p : Program) (g : Generator) (c1 c2 c3 : Lined) (p1 p2 p3 : List Runni
   -- where the sections begin
   pub routines_begin : (entries : List SectionEntry) → AreAllFramed 0 (routine_entries p (length c1) (length p1) p.routines) entries → AreAllFramed 0 (code_of p).routines entries
   routines_begin entries h =
-      let at : length c1 ≡ length (main_code p) = piece_long final c1 (main_code p) parts.main in
+      let at : length c1 ≡ length (main_code p) = piece_long parts.main in
       subst (λ (es : List EntryPoint). AreAllFramed 0 es entries) (ap (λ k. routine_entries p k (length p1) p.routines) at ∙ ap (λ k. routine_entries p (length (main_code p)) k p.routines) first_long) h
 
   pub events_begin : (entries : List SectionEntry) → AreAllFramed 0 (event_entries p (length c2) (length p2) p.events) entries → AreAllFramed 0 (code_of p).events entries
   events_begin entries h =
-      let rs : HasAdded final c1 c2 (all_routines p) = adds_same final c1 c2 (routines_code p (length p1) p.routines) (all_routines p) (ap (λ n. routines_code p n p.routines) first_long) parts.routines in
-      let both : HasAdded final no_code c2 (main_code p ++ all_routines p) = adds_then final no_code c1 c2 (main_code p) (all_routines p) parts.main rs in
-      let at : length c2 ≡ length (main_code p) + length (all_routines p) = piece_long final c2 (main_code p ++ all_routines p) both ∙ length-append (main_code p) (all_routines p) in
+      let at : length c2 ≡ length (main_code p) + length (all_routines p) = piece_long (adds_then parts.main routines_added) ∙ length-append (main_code p) (all_routines p) in
       subst (λ (es : List EntryPoint). AreAllFramed 0 es entries) (ap (λ k. event_entries p k (length p2) p.events) at ∙ ap (λ k. event_entries p (length (main_code p) + length (all_routines p)) k p.events) second_long) h
 
   -- the running code is that of the program; some walks in it may sift

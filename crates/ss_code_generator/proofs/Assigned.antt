@@ -1,6 +1,6 @@
 -- What the generator emits where something is assigned.
 use Rattle.std.proofs.Common.{◌≡◌, ℕ, ◌≤◌, Bool, true, false, List, [], ◌∷◌, ◌++◌, Some, None, refl, sym, ap, ◌∙◌, subst, append-nil, if◌then◌else◌}
-use Rattle.ss_code_generator.proofs.Common.{above, Address, after_place, Alpha, assignment, AttributeSpot, code_of, Expression, field_mode, Final, Global, HasPrintModes, height, Integer, is_kept, IsAttribute, IsRunBy, IsSiteOperand, IsVariable, IsWatchedAs, landed_code, landing, Mode, mode_here, moving, next, OfAttribute, Place, place, place_code, Program, Site, storing, to_place_code, ToVariable, TypedScope, Variable, VariableSpot, watch}
+use Rattle.ss_code_generator.proofs.Common.{above, Address, after_place, Alpha, assignment, AttributeSpot, code_of, Expression, field_mode, Final, HasPrintModes, height, Integer, is_kept, IsAttribute, IsRunBy, IsSiteOperand, IsVariable, IsWatchedAs, landed_code, landing, Mode, mode_here, moving, next, OfAttribute, Place, place, place_code, Program, Site, storing, to_place_code, ToVariable, TypedScope, Variable, VariableSpot, watch}
 use Rattle.ss_code_instructions.specs.Instructions.{Operand, Placed, Taken, Target, Into}
 use Rattle.ss_code_instructions.specs.Instructions as i
 use Rattle.ss_code_generator.proofs.Forms as forms
@@ -19,10 +19,6 @@ to_place_parts t _ m source = refl
 
 -- ## Variables
 
--- what is assigned to a variable that a statistic watches, and to another one
-pub assignment_by : (u : Site) (x : Variable) (y : Operand) (kept : Bool) → is_kept u x ≡ kept → assignment u x y ≡ (if kept then i.Keep y x else i.Move y (Into x))
-assignment_by u x y kept e = ap (λ (b : Bool). if b then i.Keep y x else i.Move y (Into x)) e
-
 pub kept_at : (t u : Site) (x : Variable) (b : Bool) → t.scope ≡ u.scope → is_kept t x ≡ b → is_kept u x ≡ b
 kept_at t u x b same e = sym (ap (λ (s : TypedScope). is_kept (record { scope = s; line = u.line; cells = u.cells }) x) same) ∙ e
 
@@ -30,7 +26,7 @@ kept_at t u x b same e = sym (ap (λ (s : TypedScope). is_kept (record { scope =
 pub move_runs : (f : Final) (t u : Site) (x : Variable) (y : Operand) (s : VariableSpot) (from : Address) → IsVariable t x s → s.watched ≡ None → t.scope ≡ u.scope → IsSiteOperand f u y from → mode_here (code_of f.program) f.constants (place u (assignment u x y)) y ≡ Some s.mode → height u ≤ f.depth → IsRunBy f (place u (assignment u x y)) (moving s.mode from s.address)
 move_runs f t u x y s from v watched same at mode deep =
     let w : is_kept t x ≡ false = subst (IsWatchedAs (is_kept t x) x) watched v.watched in
-    let e : assignment u x y ≡ i.Move y (Into x) = assignment_by u x y false (kept_at t u x false same w) in
+    let e : assignment u x y ≡ i.Move y (Into x) = ap (λ (b : Bool). if b then i.Keep y x else i.Move y (Into x)) (kept_at t u x false same w) in
     record {
       carries = forms.moves (code_of f.program) f.constants (place u (assignment u x y)) s.mode from s.address (y, at, (mode, (Into x, v.at, e)));
       deep = deep;
@@ -54,10 +50,3 @@ module _ (f : Final) (t u : Site) (class field : ℕ) (e : Expression) (s : Attr
         deep = deep;
         shown = tt;
       }
-
--- ## Where a value comes at first
-
-pub lands_kept : (t u : Site) (x : Variable) (s : VariableSpot) (k : ℕ) → IsVariable t x s → s.watched ≡ Some k → t.scope ≡ u.scope → landing u (ToVariable x) ≡ next u
-lands_kept t u x s k v watched same =
-    let w : (is_kept t x ≡ true) × (x ≡ Global k) = subst (IsWatchedAs (is_kept t x) x) watched v.watched in
-    ap (λ (b : Bool). if b then next u else Into x) (kept_at t u x true same w.0)

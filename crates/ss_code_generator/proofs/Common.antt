@@ -11,7 +11,7 @@ pub use Rattle.ss_code_generator.specs.Calculations.{with_operations}
 pub use Rattle.ss_code_generator.specs.Emitted.{AreNumbers, Final, HasAdded, HasBorne, HasEmitted, HasEmittedAround, HasEmittedAroundBoth, HasEmittedTo, HasGenerated, HasGrown, HasNoMore, HasPrintModes, HasReadBy, HasReadOperand, IsAround, IsInteger, IsLocated, IsRead, IsRunBy, IsSiteBearer, IsSiteOperand, IsSiteTarget, IsTyped}
 pub use Rattle.ss_code_generator.specs.Filings.{filing_instruction}
 pub use Rattle.ss_code_generator.specs.Items.{IsTypedItem, running_kind}
-pub use Rattle.ss_code_generator.specs.Looped.{HasKeptOwner, HasTakenItems, HasTakenLoopItem, begin_of, is_after, item_loop_code, loop_width}
+pub use Rattle.ss_code_generator.specs.Looped.{HasTakenItems, HasTakenLoopItem, item_loop_code, loop_width}
 pub use Rattle.ss_code_generator.specs.Printed.{HasEmittedBlock, HasPrinted, HasPrintedLines, line_or_none}
 pub use Rattle.ss_code_generator.specs.Spots.{Assignment, HasAssigned, HasAssignedLanded, HasHeldMode, HasTargetRoom, IsAttribute, IsSpot, IsTypedPlace, IsVariable, IsWatchedAs, Taking, landed_code, landing, spot_cells}
 pub use Rattle.ss_code_generator.specs.declared.generator.Generator.{Generator}
@@ -23,15 +23,15 @@ pub use Rattle.ss_code_instructions.proofs.Stacked.{values_high}
 pub use Rattle.ss_code_instructions.specs.Carried.{IsCarriedOut, IsInFrame, RunningLines, lines_of_running, mode_here}
 pub use Rattle.ss_code_instructions.specs.Facts.{expression_of, must_look, watch}
 pub use Rattle.ss_code_instructions.specs.Forms.{asking_member, asking_set, calculating, comparing, fetching, moving, reading, removing, storing}
-pub use Rattle.ss_code_instructions.specs.Instructions.{Bearer, Constant, Held, Instruction, Leave, Lines, Operand, Placed, Read, Stays, Taken, Target}
-pub use Rattle.ss_code_instructions.specs.Translation.{Site, above, after, after_bearer, after_place, after_values, assignment, bearer, bearer_code, change_code, code_of, condition_code, creates_code, entity_code, expression_code, expression_mode, file_code, for_code, gives_code, guards_code, height, is_kept, let_code, next, operand, operand_code, or_integer, phrases_code, place, place_code, reads_code, remove_code, remove_end_code, restarts_code, schedule_code, schedule_new_code, stay, take_code, tests_code, to_place_code, values_code, with_operand}
+pub use Rattle.ss_code_instructions.specs.Instructions.{Bearer, Constant, Held, Instruction, Leave, Lines, Operand, Placed, Stays, Taken, Target}
+pub use Rattle.ss_code_instructions.specs.Translation.{Site, above, after, after_bearer, after_place, after_values, assignment, bearer, bearer_code, code_of, condition_code, creates_code, entity_code, expression_code, expression_mode, guards_code, height, is_kept, next, operand, operand_code, or_integer, phrases_code, place, place_code, reads_code, remove_end_code, restarts_code, stay, take_code, tests_code, to_place_code, values_code, with_operand}
 pub use Rattle.ss_code_instructions.specs.declared.address.Address.{Address}
 pub use Rattle.ss_code_instructions.specs.declared.item.ItemKind.{ItemKind}
 pub use Rattle.ss_code_pieces.specs.Lined.{Lined, no_code, on_line}
 pub use Rattle.ss_code_pieces.specs.Preamble.{filing_of, scope_for_modes}
 pub use Rattle.ss_code_pieces.specs.declared.facts.Ordering.{Ordering}
 pub use Rattle.ss_meaning.specs.Values.{operator_of}
-pub use Rattle.ss_program.specs.Program.{AMean, AMeanOf, AValue, Each, Expression, InputTarget, Place, PrintItem, Program, Restart, TheSystem, ToAttribute, ToCount, ToVariable}
+pub use Rattle.ss_program.specs.Program.{AMean, AMeanOf, AValue, Expression, InputTarget, Place, PrintItem, Program, Restart, ToAttribute, ToCount, ToVariable}
 pub use Rattle.ss_program.specs.View.{view_body, view_condition, view_conjunction, view_guard, view_head, view_item, view_owner, view_phrase, view_place, view_program, view_restart, view_target, view_test, view_when}
 unfoldable pub use Rattle.ss_program.specs.View.{view_expression}
 pub use Rattle.ss_program.specs.WellTyped.{CanTakeMode, HasMode, IsTypedCondition, IsTypedHead, IsTypedOwner, IsTypedPhrase, IsTypedRestart, IsTypedStatement, IsTypedTest, TypedScope, field_mode, mode_at}

@@ -1,34 +1,28 @@
 -- What the generator emits for a PRINT.
 use Rattle.std.proofs.Common.{◌≡◌, ℕ, suc, false, ◌+◌, ◌<◌, ◌≤◌, ◌^◌, List, [], ◌∷◌, ◌++◌, length, map, Some, refl, sym, ap, ◌∙◌, arith, append_assoc, append-nil}
-use Rattle.ss_code_generator.proofs.Common.{Address, AMean, AMeanOf, AValue, Expression, Final, Generator, HasEmitted, HasGenerated, HasGrown, HasPrintedLines, Instruction, IsLocated, IsTyped, ItemKind, Lined, Mode, on_line, Placed, PrintItem, Program, scope_for_modes, slice_get, Stays, TypedScope}
+use Rattle.ss_code_generator.proofs.Common.{Address, AMean, AMeanOf, AValue, Expression, Generator, HasEmitted, HasGenerated, HasGrown, HasPrintedLines, IsLocated, IsTyped, ItemKind, Lined, Mode, on_line, Placed, PrintItem, Program, scope_for_modes, slice_get, Stays, TypedScope}
 use Rattle.std.specs.List.{AllByRecursion as Every}
 use Rattle.ss_code_instructions.specs.Carried.{IsInFrame, RunningLines, lines_of_running, kind_of_item, item_modes, onto}
-use Rattle.ss_code_instructions.specs.Translation.{above, expression_code, expression_mode, height, next, place, Site, item_code, item_cells, items_code, items_cells, after_items, item_kind, lines_of_items as lines_said, with_cells}
+use Rattle.ss_code_instructions.specs.Translation.{above, expression_code, expression_mode, height, next, Site, item_code, item_cells, items_code, items_cells, after_items, item_kind, with_cells}
 use Rattle.ss_base.specs.declared.layout.Mode.TheVariants as modes
 use Rattle.ss_code_instructions.specs.declared.instruction.Instruction.TheVariants as r
 use Rattle.ss_code_instructions.specs.Instructions as i
 use Rattle.ss_code_generator.specs.declared.generator.Site.{Site as Here}
 use Rattle.ss_code_generator.specs.Items.{value_kind, running_kind, item_width, IsTypedItem}
-use Rattle.ss_code_generator.proofs.Emitting.{around_old, grows_same, grows_then, stands_old, stands_above, adds_none, adds_then, adds_one, adds_same, emits}
+use Rattle.ss_code_generator.proofs.Emitting.{around_old, grows_same, grows_then, stands_old, stands_new, stands_above, makes_later, adds_none, adds_then, adds_one, adds_same, emits}
 use Rattle.ss_code_generator.proofs.Modes.{mode_by}
-use Rattle.ss_code_generator.proofs.Operands.{cell_at_site}
+use Rattle.ss_code_generator.proofs.Operands.{number_at, cell_at_site}
 use Rattle.ss_code_generator.proofs.Listed.{every_split}
 use Rattle.ss_code_generator.proofs.Spotted.{program_at}
 
 -- ## Items
 
-pub mean_of_looked : (old mid new : Generator) (p q v : Lined) (here : Here) (k : ℕ) (e : Expression) (cell : Address) → HasEmitted old mid p q here (IsTyped e) (λ t. expression_code t (next t) e) → HasGrown mid new → IsInFrame (length new.locals.items + here.height) cell → here.height < new.deepest → v ≡ q ++ on_line here.line (r.LookMean k cell) ∷ [] → HasEmitted old new p v here (IsTypedItem (AMeanOf k e)) (λ t. item_code t (AMeanOf k e))
-mean_of_looked old mid new p q v here k e cell m g at room is =
-    emits (grows_then old mid new m.grows g) (λ f t u around located good.
-    let mine = around_old f mid new g around in
-    let there = stands_old f mid new here t g located in
-    let typed : IsTyped e t.scope = (modes.Integer, good) in
-    let w : Site = above t modes.Integer in
-    let high : height w ≡ height t + 1 = omega arith in
-    let deep : height w ≤ f.depth = omega (arith, high, located.high, room, around.depth) in
-    adds_then f p q v (expression_code t (next t) e) (place w (i.LookMean k (Some (Stays (height t)))) ∷ []) (m.adds f t tt mine there typed)
-    (adds_one f q v here.line (place w (i.LookMean k (Some (Stays (height t))))) (r.LookMean k cell) is located.line
-    (record { carries = (Some (Stays (height t)), cell_at_site f new here t cell located at, refl); deep = deep; shown = tt })))
+pub mean_of_looked : {old mid new : Generator} {p q v : Lined} {here : Here} (k : ℕ) (e : Expression) {cell : Address} → HasEmitted old mid p q here (IsTyped e) (λ t. expression_code t (next t) e) → HasGrown mid new → IsInFrame (length new.locals.items + here.height) cell → here.height < new.deepest → v ≡ q ++ on_line here.line (r.LookMean k cell) ∷ [] → HasEmitted old new p v here (IsTypedItem (AMeanOf k e)) (λ t. item_code t (AMeanOf k e))
+mean_of_looked k e m g at room is =
+    emits (grows_then m.grows g) (λ f t u around located good.
+    let high : height (above t modes.Integer) ≡ height t + 1 = omega arith in
+    let deep : height (above t modes.Integer) ≤ f.depth = omega (arith, high, located.high, room, around.depth) in
+    adds_then ((makes_later g m).adds f t tt around located (modes.Integer, good)) (adds_one is located.line (record { carries = (Some (Stays (height t)), cell_at_site located at, refl); deep = deep; shown = tt })))
 
 -- ## Several items
 
@@ -42,10 +36,10 @@ abbrev pub MakesAll : (old new : Generator) → (before after : Lined) → Here 
 MakesAll old new before after here xs =
     HasGenerated old new before after here (λ f t (u : Unit {0}). Every (λ x. IsTypedItem x t.scope) xs) (λ t u. items_code t xs) (λ f t u. height (after_items t xs) ≤ f.depth)
 
-pub no_items : (g : Generator) (p : Lined) (here : Here) → MakesItems g g p p here here []
-no_items g p here = record {
-  grows = grows_same g;
-  adds = λ f t u around located good. adds_none f p;
+pub no_items : {g : Generator} {p : Lined} {here : Here} → MakesItems g g p p here here []
+no_items = record {
+  grows = grows_same;
+  adds = λ f t u around located good. adds_none;
   more = λ f t u around located good. located;
 }
 
@@ -64,31 +58,21 @@ item_high s (AValue e) ms = let n : suc (length ms) ≡ length ms + 1 = omega ar
 item_high s (AMean k) ms = let n : length ms ≡ length ms + 0 = omega arith in n
 item_high s (AMeanOf k e) ms = let n : suc (length ms) ≡ length ms + 1 = omega arith in n
 
-pub items_more : (old mid new : Generator) (p q v : Lined) (here one two : Here) (xs : List PrintItem) (x : PrintItem) (n : ℕ) → MakesItems old mid p q here one xs → HasEmitted mid new q v one (IsTypedItem x) (λ t. item_code t x) → n ≡ item_width x → one.height + n ≤ new.deepest → two.line ≡ one.line → (one.height + n < 2 ^ 64 → two.height ≡ one.height + n) → MakesItems old new p v here two (xs ++ x ∷ [])
-items_more old mid new p q v here one two xs x n m k wide room line up = record {
-  grows = grows_then old mid new m.grows k.grows;
+pub items_more : {old mid new : Generator} {p q v : Lined} {here one two : Here} (xs : List PrintItem) (x : PrintItem) {n : ℕ} → MakesItems old mid p q here one xs → HasEmitted mid new q v one (IsTypedItem x) (λ t. item_code t x) → n ≡ item_width x → one.height + n ≤ new.deepest → two.line ≡ one.line → (one.height + n < 2 ^ 64 → two.height ≡ one.height + n) → MakesItems old new p v here two (xs ++ x ∷ [])
+items_more xs x {n} m k wide room line up = record {
+  grows = grows_then m.grows k.grows;
   adds = λ f t u around located good.
-      let mine = around_old f mid new k.grows around in
-      let there = stands_old f mid new here t k.grows located in
       let both = every_split (λ (y : PrintItem). IsTypedItem y t.scope) xs x good in
-      let on = m.more f t tt mine there both.0 in
-      adds_same f p v (items_code t xs ++ item_code (after_items t xs) x) (items_code t (xs ++ x ∷ [])) (sym (items_code_more t xs x))
-      (adds_then f p q v (items_code t xs) (item_code (after_items t xs) x) (m.adds f t tt mine there both.0)
-      (k.adds f (after_items t xs) tt around (stands_on f (after_items t xs) on) both.1));
+      let m' = makes_later k.grows m in
+      adds_same (sym (items_code_more t xs x)) (adds_then (m'.adds f t tt around located both.0) (k.adds f (after_items t xs) tt around (stands_new k.grows (m'.more f t tt around located both.0)) both.1));
   more = λ f t u around located good.
-      let mine = around_old f mid new k.grows around in
-      let there = stands_old f mid new here t k.grows located in
       let both = every_split (λ (y : PrintItem). IsTypedItem y t.scope) xs x good in
-      let on = m.more f t tt mine there both.0 in
+      let on = stands_new k.grows ((makes_later k.grows m).more f t tt around located both.0) in
       let w : Site = after_items t xs in
       let z : Site = after_items t (xs ++ x ∷ []) in
       let high : height z ≡ height w + n = ap length (items_cells_more t.scope xs x t.cells) ∙ item_high t.scope x w.cells ∙ ap (λ j. height w + j) (sym wide) in
-      let deep : height z ≤ f.depth = omega (arith, high, on.high, room, around.depth) in
-      stands_above f new one two w z n around.small (stands_on f w on) line up refl refl high deep;
+      stands_above n around.small on line up refl refl high (omega (arith, high, on.high, room, around.depth));
 }
-  where
-    stands_on : (f : Final) (w : Site) → IsLocated f mid one w → IsLocated f new one w
-    stands_on f w h = record { program = h.program; locals = h.locals ∙ sym k.grows.locals; line = h.line; high = h.high; deep = h.deep }
 
 -- ## What a PRINT shows
 
@@ -131,34 +115,28 @@ at_front [] v rest = refl
 at_front (x ∷ before) v rest = at_front before v rest
 
 -- the PRINT after its items
-pub printed : (old mid new : Generator) (p q v : Lined) (here : Here) (old_prints new_prints : List RunningLines) (xs : List PrintItem) (pictures : List (List ℕ)) (made : RunningLines) (n cell : ℕ) → HasGrown old mid → MakesAll mid new p q here xs → made ≡ record { pictures = pictures; items = map (running_kind (scope_for_modes old.program.now old.locals.items)) xs } → new_prints ≡ old_prints ++ made ∷ [] → n ≡ length old_prints → cell ≡ length new.locals.items + here.height → v ≡ q ++ on_line here.line (r.Print n cell) ∷ [] → HasPrintedLines old new p v here old_prints new_prints xs pictures
-printed old mid new p q v here old_prints new_prints xs pictures made n cell g m is_made prints is_n is_cell is =
-    let s : TypedScope = scope_for_modes old.program.now old.locals.items in
-    let said : lines_of_running made ≡ lines_said xs pictures =
-    ap (λ (l : RunningLines). lines_of_running l) is_made ∙ ap (λ (ks : List i.ItemKind). record { pictures = pictures; items = ks }) (kinds_said s xs) in
-    record {
-      code = emits (grows_then old mid new g m.grows) (λ f t u around located fits.
-          let grown = grows_then old mid new g m.grows in
-          let before = around_old f old new grown around in
-          let there_old = stands_old f old new here t grown located in
-          let on = m.more f t tt around located fits.1 in
-          let w : Site = after_items t xs in
-          let ins : Instruction = i.Print (length old_prints) (height t) in
-          let there : cell ≡ length t.scope.locals + height t = is_cell ∙ sym (ap (λ (ms : List Mode). length ms + height t) located.locals ∙ ap (λ j. length new.locals.items + j) located.high) in
-          let found : f.prints ≡ old_prints ++ (made ∷ fits.0.0) = fits.0.1 ∙ ap (λ (l : List RunningLines). l ++ fits.0.0) prints ∙ append_assoc old_prints (made ∷ []) fits.0.0 in
-          let at : slice_get f.prints (length old_prints) ≡ Some made = ap (λ (l : List RunningLines). slice_get l (length old_prints)) found ∙ at_front old_prints made fits.0.0 in
-          let kinds : map (running_kind t.scope) xs ≡ made.items = kinds_by t.scope s.program s.locals xs (program_at f old here t before there_old) there_old.locals ∙ sym (ap (λ (l : RunningLines). l.items) is_made) in
-          let cells : w.cells ≡ onto (item_modes made.items) t.cells = cells_onto t.scope xs t.cells ∙ ap (λ (ks : List ItemKind). onto (item_modes ks) t.cells) kinds in
-          adds_then f p q v (items_code t xs) (place w ins ∷ []) (m.adds f t tt around located fits.1)
-          (adds_one f q v here.line (place w ins) (r.Print n cell) is located.line
-          (record { carries = (height t, there, ap (λ (j : ℕ). i.Print j (height t)) (sym is_n)); deep = on; shown = (made, at, (t.cells, cells)) })));
-      prints = (made ∷ [], prints, ap (λ (l : i.Lines). l ∷ []) said);
-    }
+pub printed : {old mid new : Generator} {p q v : Lined} {here : Here} {old_prints new_prints : List RunningLines} (xs : List PrintItem) (pictures : List (List ℕ)) {made : RunningLines} {n cell : ℕ} → HasGrown old mid → MakesAll mid new p q here xs → made ≡ record { pictures = pictures; items = map (running_kind (scope_for_modes old.program.now old.locals.items)) xs } → new_prints ≡ old_prints ++ made ∷ [] → n ≡ length old_prints → cell ≡ length new.locals.items + here.height → v ≡ q ++ on_line here.line (r.Print n cell) ∷ [] → HasPrintedLines old new p v here old_prints new_prints xs pictures
+printed {old = old} {old_prints = old_prints} xs pictures {made} g m is_made prints is_n is_cell is = record {
+  code = emits (grows_then g m.grows) (λ f t u around located fits.
+      let grown = grows_then g m.grows in
+      let there_old = stands_old grown located in
+      let found : f.prints ≡ old_prints ++ (made ∷ fits.0.0) = fits.0.1 ∙ ap (λ (l : List RunningLines). l ++ fits.0.0) prints ∙ append_assoc old_prints (made ∷ []) fits.0.0 in
+      let at : slice_get f.prints (length old_prints) ≡ Some made = ap (λ (l : List RunningLines). slice_get l (length old_prints)) found ∙ at_front old_prints made fits.0.0 in
+      let kinds : map (running_kind t.scope) xs ≡ made.items = kinds_by t.scope _ _ xs (program_at (around_old grown around) there_old) there_old.locals ∙ sym (ap (λ (l : RunningLines). l.items) is_made) in
+      let cells : (after_items t xs).cells ≡ onto (item_modes made.items) t.cells = cells_onto t.scope xs t.cells ∙ ap (λ (ks : List ItemKind). onto (item_modes ks) t.cells) kinds in
+      adds_then (m.adds f t tt around located fits.1) (adds_one is located.line
+      (record { carries = (height t, number_at located is_cell, ap (λ (j : ℕ). i.Print j (height t)) (sym is_n)); deep = m.more f t tt around located fits.1; shown = (made, at, (t.cells, cells)) })));
+  prints = (
+    made ∷ [],
+    prints,
+    ap (λ (l : RunningLines). lines_of_running l ∷ []) is_made ∙ ap (λ (ks : List i.ItemKind). record { pictures = pictures; items = ks } ∷ []) (kinds_said (scope_for_modes old.program.now old.locals.items) xs),
+  );
+}
 
 -- all items
-pub items_done : (old mid new : Generator) (p q : Lined) (here next : Here) (xs : List PrintItem) → HasGrown old mid → MakesItems mid new p q here next xs → MakesAll old new p q here xs
-items_done old mid new p q here next xs g m = record {
-  grows = grows_then old mid new g m.grows;
+pub items_done : {old mid new : Generator} {p q : Lined} {here next : Here} (xs : List PrintItem) → HasGrown old mid → MakesItems mid new p q here next xs → MakesAll old new p q here xs
+items_done xs g m = record {
+  grows = grows_then g m.grows;
   adds = m.adds;
   more = λ f t u around located good. (m.more f t u around located good).deep;
 }

@@ -34,8 +34,8 @@ mode_by s p locals (Attribute class field e) q l = ap (λ (r : Program). or_inte
 mode_by s p locals _ q l = refl
 
 -- the mode that the generator found, before it went on
-pub mode_found : (f : Final) (old new : Generator) (here : Here) (t : Site) (e : Expression) (n m : Mode) → HasGrown old new → m ≡ expression_mode (scope_for_modes old.program.now old.locals.items) e → IsAround f new → IsLocated f new here t → HasMode t.scope e n → n ≡ m
-mode_found f old new here t e n m g is around located h =
+pub mode_found : {f : Final} {old new : Generator} {here : Here} {t : Site} (e : Expression) {n m : Mode} → HasGrown old new → m ≡ expression_mode (scope_for_modes old.program.now old.locals.items) e → IsAround f new → IsLocated f new here t → HasMode t.scope e n → n ≡ m
+mode_found {old = old} {t = t} e {n} g is around located h =
     let program : t.scope.program ≡ view_program old.program.now = located.program ∙ sym around.program ∙ ap view_program g.program in
     sym (mode_so t.scope e n h) ∙ mode_by t.scope (view_program old.program.now) old.locals.items e program (located.locals ∙ g.locals) ∙ sym is
 

@@ -18,27 +18,26 @@ not_both p class field e f = differ (sym e ∙ f)
     differ : Some Alpha ≡ Some Integer → ⊥
     differ q = cc
 
+-- what they watch is a number
+watched_typed : (p : Program) (x : Subject) (ss : List Statistic) → Every (λ s. IsTypedSubject p s.subject) ss → watch ss x ≡ true → IsTypedSubject p x
+watched_typed p x [] good h = absurd (true≢false (sym h))
+watched_typed p x (s ∷ ss) good h = by (same_subject s.subject x) refl h (watched_typed p x ss good.1)
+  where
+    by : (b : Bool) → same_subject s.subject x ≡ b → (if b then true else watch ss x) ≡ true → (watch ss x ≡ true → IsTypedSubject p x) → IsTypedSubject p x
+    by false q h rest = rest h
+    by true q h rest = subst (λ (y : Subject). IsTypedSubject p y) (same_subject_is s.subject x q) good.0
+
 -- no statistic watches a text
 pub text_unwatched : (p : Program) (class field : ℕ) → field_mode p class field ≡ Some Alpha → (ss : List Statistic) → Every (λ s. IsTypedSubject p s.subject) ss → watch ss (OfAttribute class field) ≡ false
-text_unwatched p class field e [] good = refl
-text_unwatched p class field e (s ∷ ss) good = by (same_subject s.subject (OfAttribute class field)) refl (text_unwatched p class field e ss good.1)
+text_unwatched p class field e ss good = by (watch ss (OfAttribute class field)) refl
   where
-    by : (b : Bool) → same_subject s.subject (OfAttribute class field) ≡ b → watch ss (OfAttribute class field) ≡ false → (if b then true else watch ss (OfAttribute class field)) ≡ false
-    by false q rest = rest
-    by true q rest = absurd (not_both p class field e (subst (λ (x : Subject). IsTypedSubject p x) (same_subject_is s.subject (OfAttribute class field) q) good.0))
-
--- a variable that they watch is a number
-variable_watched : (p : Program) (k : ℕ) (ss : List Statistic) → Every (λ s. IsTypedSubject p s.subject) ss → watch ss (OfVariable k) ≡ true → slice_get p.globals k ≡ Some Integer
-variable_watched p k [] good h = absurd (true≢false (sym h))
-variable_watched p k (s ∷ ss) good h = by (same_subject s.subject (OfVariable k)) refl h (variable_watched p k ss good.1)
-  where
-    by : (b : Bool) → same_subject s.subject (OfVariable k) ≡ b → (if b then true else watch ss (OfVariable k)) ≡ true → (watch ss (OfVariable k) ≡ true → slice_get p.globals k ≡ Some Integer) → slice_get p.globals k ≡ Some Integer
-    by false q h rest = rest h
-    by true q h rest = (subst (λ (x : Subject). IsTypedSubject p x) (same_subject_is s.subject (OfVariable k) q) good.0).0
+    by : (b : Bool) → watch ss (OfAttribute class field) ≡ b → watch ss (OfAttribute class field) ≡ false
+    by false q = q
+    by true q = absurd (not_both p class field e (watched_typed p (OfAttribute class field) ss good q))
 
 pub kept_integer : (p : Program) → IsWellTyped p → (s : TypedScope) → s.program ≡ p → (x : Variable) → is_watched s.program.statistics x ≡ true → mode_at s x ≡ Some Integer
 kept_integer p typed s same (Global k) w =
-    ap (λ (q : Program). slice_get q.globals k) same ∙ variable_watched p k p.statistics typed.statistics (sym (ap (λ (q : Program). watch q.statistics (OfVariable k)) same) ∙ w)
+    ap (λ (q : Program). slice_get q.globals k) same ∙ (watched_typed p (OfVariable k) p.statistics typed.statistics (sym (ap (λ (q : Program). watch q.statistics (OfVariable k)) same) ∙ w)).0
 kept_integer p typed s same (Local k) w = absurd (true≢false (sym w))
 
 -- N. of a class is one too

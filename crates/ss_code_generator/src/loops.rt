@@ -31,8 +31,7 @@ pub fn cells_of(head: &Head) -> usize
     ensures { result ≡ loop_width (view_head head.now) }
 {
     match head {
-        Head::Numbers { .. } => NUMBER_CELLS,
-        Head::Each { .. } => NUMBER_CELLS,
+        Head::Numbers { .. } | Head::Each { .. } => NUMBER_CELLS,
         Head::Members { owner, .. } => match owner {
             SetOwner::TheSystem => MEMBER_CELLS,
             SetOwner::Entity { .. } => MEMBER_CELLS + 1,
@@ -101,7 +100,7 @@ pub struct SetLoop<'a> {
     pub reverse: bool,
 }
 
-/// The cases of a FIND: the head of its loop, and the phrases.
+/// The cases that a loop goes through: its head, and the phrases.
 #[derive(Clone, Copy)]
 pub struct Cases<'a> {
     pub head: &'a Head,

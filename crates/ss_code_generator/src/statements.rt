@@ -22,7 +22,6 @@ use ss_code_pieces::lines::Lines;
 use ss_code_pieces::piece::{Piece, as_index};
 use ss_program::condition::Condition;
 use ss_program::expression::Expression;
-use ss_program::head::{Head, Phrase};
 use ss_program::statement::{Place, Statement};
 use std::alloc::AllocError;
 
@@ -166,7 +165,10 @@ impl Generator<'_> {
                 phrases,
                 body,
                 ..
-            } => self.for_statement(code, prints, site, head, phrases, body),
+            } => {
+                let phrases = phrases.as_slice();
+                self.for_statement(code, prints, site, Cases { head, phrases }, body)
+            }
             Statement::Find {
                 head,
                 phrases,
@@ -249,17 +251,16 @@ impl Generator<'_> {
         code: &mut Piece,
         prints: &mut Vec<Lines>,
         site: Site,
-        head: &Head,
-        phrases: &[Phrase],
+        cases: Cases<'_>,
         body: &[Statement],
     ) -> Result<(), AllocError>
-        ensures { OnOk result (HasEmittedStatement self.old self.new code.old code.new site.height prints.old.items prints.new.items (For site.line (view_head head.now) (map view_phrase phrases.now) (view_body body.now))) }
+        ensures { OnOk result (HasEmittedStatement self.old self.new code.old code.new site.height prints.old.items prints.new.items (For site.line (view_head cases.entry.head.now) (map view_phrase cases.entry.phrases.now) (view_body body.now))) }
     {
-        let above = site.above(cells_of(head));
+        let above = site.above(cells_of(cases.head));
         self.reach(above.height);
         let inner = self.body(prints, above.height, body)?;
-        let turn = self.phrases(above, phrases, inner)?;
-        self.for_loop(code, site, head, turn)
+        let turn = self.phrases(above, cases.phrases, inner)?;
+        self.for_loop(code, site, cases.head, turn)
     }
 
     // One statement after another, above so many cells.

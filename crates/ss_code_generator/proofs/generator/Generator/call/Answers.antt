@@ -7,4 +7,4 @@ pub returns : goal.returns
 returns c =
     let es = map view_expression c.args.given.now in
     let room : c.args.site.height + length es ≤ c.values.new.self.deepest = omega (arith, c.in_ok-values.ensures.room, length-map c.args.given.now view_expression) in
-    on_ok_weaker c.gives.result (called c.args.self.now c.values.new.self c.gives.new.self c.args.code.now c.values.new.code c.put.new.self c.gives.new.code c.args.site c.args.site.line c.args.routine c.in_ok-cell.cell es (map view_place c.args.yielding.now) c.in_ok-values.ensures.code room c.in_ok-cell.ensures (rw c.in_ok-routine.ensures at c.in_ok-put.ensures)) c.gives.ensures
+    on_ok_weaker c.gives.result (called c.args.site.line c.args.routine es (map view_place c.args.yielding.now) c.in_ok-values.ensures.code room c.in_ok-cell.ensures (rw c.in_ok-routine.ensures at c.in_ok-put.ensures)) c.gives.ensures

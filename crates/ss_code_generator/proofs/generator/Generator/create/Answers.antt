@@ -8,5 +8,5 @@ use Rattle.ss_code_generator.proofs.generator.Generator.create.Goals as goal
 pub returns : goal.returns
 returns c =
     let to = c.in_ok-to in
-    on_ok_weaker c.take.result (to_place_made c.args.self.now c.looked_spot.new.self c.landing.new.self c.args.code.now c.looked_spot.new.code c.put.new.self c.take.new.code c.args.site c.above-above.result (view_place c.args.place.now) Integer c.in_ok-spot.spot to.to (r.Create c.args.class to.to) (λ z. i.Create c.args.class z) c.in_ok-spot.ensures c.above-above.ensures.line (rw c.cells.ensures at c.above-above.ensures.height) to.ensures.grows to.ensures.at (λ f u z at. (z, at, refl)) (λ prints cells z. tt)
-    (rw c.in_ok-class.ensures at c.in_ok-put.ensures)) c.take.ensures
+    on_ok_weaker c.take.result (to_place_made (view_place c.args.place.now) Integer c.in_ok-spot.spot to.to (r.Create c.args.class to.to) (λ z. i.Create c.args.class z) c.in_ok-spot.ensures c.above-above.ensures.line (rw c.cells.ensures at c.above-above.ensures.height) to.ensures.grows to.ensures.at
+    (λ f u z at. (z, at, refl)) (λ prints cells z. tt) (rw c.in_ok-class.ensures at c.in_ok-put.ensures)) c.take.ensures

@@ -4,4 +4,4 @@ use Rattle.ss_code_generator.proofs.generator.Generator.give.Goals as goal
 
 pub returns : goal.returns
 returns c =
-    on_ok_weaker c.assign.result (given_made c.args.self.now c.cell.new.self c.spot.new.self c.args.code.now c.spot.new.code c.assign.new.code c.args.site c.above-above.result c.above.result (view_place c.args.place.now) c.in_ok-spot.spot c.in_ok-from.from c.in_ok-from.ensures.grows c.in_ok-from.ensures.at c.in_ok-from.ensures.room c.above-above.ensures.line c.above-above.ensures.height c.in_ok-spot.ensures c.above.ensures.line (rw c.cells.ensures at c.above.ensures.height)) c.assign.ensures
+    on_ok_weaker c.assign.result (given_made (view_place c.args.place.now) c.in_ok-spot.spot c.in_ok-from.from c.in_ok-from.ensures.grows c.in_ok-from.ensures.at c.in_ok-from.ensures.room c.above-above.ensures.line c.above-above.ensures.height c.in_ok-spot.ensures c.above.ensures.line (rw c.cells.ensures at c.above.ensures.height)) c.assign.ensures

@@ -14,8 +14,8 @@ loop-i-preserved c =
     let below : l.i < length xs = c.loop-i-test.true in
     let is : slice_get ps l.i ≡ Some (view_place item) = slice_get-map view_place xs l.i ∙ ap (option_map view_place) (slice_get_read xs (length xs) l.i item refl below c.index-places-i.is) in
     record {
-      code = gives_more c.args.self.now l.self c.give.new.self c.args.code.now l.code c.give.new.code c.args.site c.above.result ps l.i (length xs) (view_place item) is (sym (length-map xs view_place)) below c.above.ensures.line c.above.ensures.height l.invariant.room l.invariant.code c.in_ok-give.ensures;
-      room = λ f around. l.invariant.room f (around_old f l.self c.give.new.self c.in_ok-give.ensures.grows around);
+      code = gives_more ps l.i is (sym (length-map xs view_place)) below c.above.ensures.line c.above.ensures.height l.invariant.room l.invariant.code c.in_ok-give.ensures;
+      room = λ f around. l.invariant.room f (around_old c.in_ok-give.ensures.grows around);
     }
 
 pub returns : goal.returns
@@ -23,4 +23,4 @@ returns c =
     let l = c.loop-i in
     let xs = c.args.places.now in
     let end : l.i ≡ length (map view_place xs) = omega (arith, c.loop-i-test.false, l.auto.i-end, length-map xs view_place) in
-    gives_all c.args.self.now l.self c.args.code.now l.code c.args.site (map view_place xs) l.i end l.invariant.code
+    gives_all (map view_place xs) end l.invariant.code

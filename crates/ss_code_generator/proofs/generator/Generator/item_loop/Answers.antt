@@ -5,5 +5,5 @@ use Rattle.ss_code_generator.proofs.generator.Generator.item_loop.Goals as goal
 
 pub returns : goal.returns
 returns c =
-    on_ok_weaker c.forget.result (λ forgets.
-    items_looped c.args.self.now c.reach.new.self c.args.code.now c.put.new.self c.append.new.self c.forget.new.code c.args.site c.above-above.result c.args.class c.in_ok-cell.cell c.in_ok-skip.skip c.in_ok-spot.spot c.args.turn.now c.in_ok-items.items c.args.variable c.above-above.ensures.line c.above-above.ensures.height c.reach.ensures.grows c.reach.ensures.room c.in_ok-cell.ensures c.in_ok-spot.ensures c.in_ok-items.ensures (c.in_ok-skip.ensures ∙ c.len.ensures.value) (rw c.begin_items.ensures at c.in_ok-put.ensures) c.in_ok-append.ensures forgets) c.forget.ensures
+    on_ok_weaker c.forget.result (items_looped c.args.class c.above-above.ensures.line c.above-above.ensures.height c.reach.ensures.grows c.reach.ensures.room c.in_ok-cell.ensures c.in_ok-spot.ensures c.in_ok-items.ensures (c.in_ok-skip.ensures ∙ c.len.ensures.value)
+    (rw c.begin_items.ensures at c.in_ok-put.ensures) c.in_ok-append.ensures) c.forget.ensures

@@ -6,9 +6,8 @@ use Rattle.ss_code_generator.proofs.generator.Generator.notice_values.Goals as g
 
 pub returns-clause-code : goal.returns-clause-code
 returns-clause-code c =
-    let es = map view_expression c.args.given.now in
-    let many : length c.args.given.now ≡ length es = sym (length-map c.args.given.now view_expression) in
-    on_ok_weaker c.time.result (values_timed c.args.self.now c.values.new.self c.time.new.self c.args.code.now c.values.new.code c.time.new.code c.args.site c.above.result es (view_when c.args.when.now) c.in_ok-values.ensures.code (rw many at c.in_ok-values.ensures.room) c.above.ensures.line (rw many at c.above.ensures.height)) c.time.ensures.code
+    let many = sym (length-map c.args.given.now view_expression) in
+    on_ok_weaker c.time.result (values_timed (map view_expression c.args.given.now) (view_when c.args.when.now) c.in_ok-values.ensures.code (rw many at c.in_ok-values.ensures.room) c.above.ensures.line (rw many at c.above.ensures.height)) c.time.ensures.code
 
 pub returns-clause-room : goal.returns-clause-room
 returns-clause-room c =

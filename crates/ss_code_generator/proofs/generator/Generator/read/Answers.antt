@@ -9,5 +9,5 @@ pub returns : goal.returns
 returns c =
     let m = c.args.target.now.mode in
     let to = c.in_ok-to in
-    on_ok_weaker c.take.result (to_place_made c.args.self.now c.looked_spot.new.self c.landing.new.self c.args.code.now c.looked_spot.new.code c.put.new.self c.take.new.code c.args.site c.above-above.result (view_place c.args.target.now.place) m c.in_ok-spot.spot to.to (reading m to.to) (λ z. i.Read m z) c.in_ok-spot.ensures c.above-above.ensures.line (rw c.cells.ensures at c.above-above.ensures.height) to.ensures.grows to.ensures.at
+    on_ok_weaker c.take.result (to_place_made (view_place c.args.target.now.place) m c.in_ok-spot.spot to.to (reading m to.to) (λ z. i.Read m z) c.in_ok-spot.ensures c.above-above.ensures.line (rw c.cells.ensures at c.above-above.ensures.height) to.ensures.grows to.ensures.at
     (λ f u z at. forms.reads_word (code_of f.program) f.constants (place u (i.Read m z)) m to.to (z, at, refl)) (λ prints cells z. tt) (rw c.read_of.ensures at c.in_ok-put.ensures)) c.take.ensures

@@ -5,5 +5,5 @@ use Rattle.ss_code_generator.proofs.generator.Generator.remove_end.Goals as goal
 pub returns : goal.returns
 returns c =
     on_ok_weaker c.take.result
-    (end_removed c.args.self.now c.looked_spot.new.self c.owner.new.self c.landing.new.self c.args.code.now c.looked_spot.new.code c.owner.new.code c.put.new.self c.take.new.code c.args.site c.above-above.result (view_place c.args.place.now) c.in_ok-spot.spot c.args.from.end c.args.from.set (view_owner c.args.owner.now) c.in_ok-owner.field-0 c.in_ok-to.to c.is_count_watched-noted.result
-    c.in_ok-spot.ensures c.above-above.ensures.line (rw c.cells.ensures at c.above-above.ensures.height) c.in_ok-owner.ensures c.in_ok-to.ensures.grows c.in_ok-to.ensures.at c.is_count_watched-noted.ensures (rw (c.remove_by.ensures, c.in_ok-set.ensures) at c.in_ok-put.ensures)) c.take.ensures
+    (end_removed (view_place c.args.place.now) c.in_ok-spot.spot c.args.from.end c.args.from.set (view_owner c.args.owner.now) c.in_ok-to.to c.in_ok-spot.ensures c.above-above.ensures.line (rw c.cells.ensures at c.above-above.ensures.height) c.in_ok-owner.ensures c.in_ok-to.ensures.grows c.in_ok-to.ensures.at c.is_count_watched-noted.ensures
+    (rw (c.remove_by.ensures, c.in_ok-set.ensures) at c.in_ok-put.ensures)) c.take.ensures

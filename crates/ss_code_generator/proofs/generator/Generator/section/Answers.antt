@@ -3,5 +3,4 @@ use Rattle.ss_code_generator.proofs.Bodies.{section_said}
 use Rattle.ss_code_generator.proofs.generator.Generator.section.Goals as goal
 
 pub returns : goal.returns
-returns c =
-    section_said c.args.self.now c.body.new.self c.in_ok-code.code c.put.new.self c.args.prints.now.items c.body.new.prints.items (view_body c.args.body.now) c.in_ok-code.ensures c.in_ok-put.ensures
+returns c = section_said (view_body c.args.body.now) c.in_ok-code.ensures c.in_ok-put.ensures

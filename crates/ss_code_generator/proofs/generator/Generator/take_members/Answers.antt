@@ -3,5 +3,4 @@ use Rattle.ss_code_generator.proofs.Rounds.{members_taken}
 use Rattle.ss_code_generator.proofs.generator.Generator.take_members.Goals as goal
 
 pub returns : goal.returns
-returns c =
-    members_taken c.args.self.now c.take_item.new.code c.append_copy.new.self c.put.new.self c.args.turn.now c.args.site c.args.walk c.in_ok-back.back (rw c.new-code.ensures at c.in_ok-take_item.ensures) c.in_ok-append_copy.ensures (c.in_ok-back.ensures ∙ c.len.ensures.value) c.in_ok-put.ensures
+returns c = members_taken c.args.walk (rw c.new-code.ensures at c.in_ok-take_item.ensures) c.in_ok-append_copy.ensures (c.in_ok-back.ensures ∙ c.len.ensures.value) c.in_ok-put.ensures
