@@ -1,8 +1,7 @@
 //! The rule on counts of arguments.
 
-ghost use Rattle.std.specs.Prelude.{◌≡◌, ◌==◌, ℕ, true, nat_le, length, get_or, []};
+ghost use Rattle.std.specs.Prelude.{◌≡◌, ℕ, true, nat_le, length, get_or, []};
 ghost use Rattle.std.specs.Option.{option_map_or};
-ghost use Rattle.ss_names.specs.declared.entry.RoutineSection.{RoutineSection as Section};
 ghost use Rattle.ss_names_declarations.specs.Earliest.{unless};
 ghost use Rattle.ss_names_declarations.specs.NameTable.{place_in, value_for};
 ghost use Rattle.ss_check_rules.specs.declared.error.CheckError.TheVariants as e;
@@ -31,26 +30,6 @@ pub(crate) fn routine_named(names: &Names, routine: &Name) -> Option<RoutineSect
     names.routines.get(routine).copied()
 }
 
-// Whether a CALL gives so many values, where the name is that of a routine.
-fn is_given(found: usize, routine: Option<RoutineSection>) -> bool
-    ensures { result ≡ option_map_or (λ (r : Section). found == r.given) routine true }
-{
-    match routine {
-        Some(routine) => found == routine.given,
-        None => true,
-    }
-}
-
-// Whether a CALL takes so many values, where the name is that of a routine.
-fn is_yielded(found: usize, routine: Option<RoutineSection>) -> bool
-    ensures { result ≡ option_map_or (λ (r : Section). found == r.yielding) routine true }
-{
-    match routine {
-        Some(routine) => found == routine.yielding,
-        None => true,
-    }
-}
-
 // Whether a class has so many attributes at least, where the name is that of one.
 fn has_attributes(names: &Names, found: usize, class: &Name) -> bool
     ensures { result ≡ option_map_or (λ (n : ℕ). nat_le found (length (get_or names.now.fields n []))) (place_in names.now.classes class.now) true }
@@ -67,8 +46,14 @@ fn suits_count(names: &Names, found: usize, wanted: &CountNeed) -> bool
 {
     match wanted {
         CountNeed::Arguments(function) => found == argument_count(*function),
-        CountNeed::Given(routine) => is_given(found, routine_named(names, routine)),
-        CountNeed::Yielded(routine) => is_yielded(found, routine_named(names, routine)),
+        CountNeed::Given(routine) => match routine_named(names, routine) {
+            Some(section) => found == section.given,
+            None => true,
+        },
+        CountNeed::Yielded(routine) => match routine_named(names, routine) {
+            Some(section) => found == section.yielding,
+            None => true,
+        },
         CountNeed::Attributes(class) => has_attributes(names, found, class),
     }
 }
