@@ -18,7 +18,7 @@ use Rattle.ss_program.specs.declared.statement.Statement.TheVariants as made
 use Rattle.ss_program.specs.Program.{Statement, Then}
 use Rattle.ss_program.specs.View.{block_of, view_body, view_item, view_statement as view_made}
 use Rattle.ss_names_meaning.specs.Answers.{◌>>=◌, each, HasFailed, of_two}
-use Rattle.ss_names_meaning.specs.Statements.{find, find_by, if_over, resolved_loop, simple_statement, statement, statements}
+use Rattle.ss_names_meaning.specs.Statements.{find_by, if_over, resolved_loop, simple_statement, statement, statements}
 
 -- ---- statements that have statements in them
 
@@ -41,12 +41,6 @@ unfolding simple_statement view_statement_tree
 print_fails c t line v ps es e is f h =
     let shown : HasFailed e (each (item c) (map view_expression_tree v.items)) = subst (λ l. HasFailed e (each (item c) (map view_expression_tree l))) f h in
     rw is (fails_then (each (item c) (map view_expression_tree v.items)) _ e shown)
-
--- FIND without an IF
-pub find_is : (c : Scope) (t : Parsed) (line : Line) (x : HeadParsed) (a b : Vec Made) → t ≡ parsed.Find line x → a.items ≡ [] → b.items ≡ [] →
-    find line c (view_head_tree x) (view_body a.items) (view_body b.items) ≡ simple_statement c (view_statement_tree t)
-unfolding simple_statement view_statement_tree
-find_is c t line x a b is e f = rw (is, e, f) refl
 
 -- ---- the bodies in a statement
 
