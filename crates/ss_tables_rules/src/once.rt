@@ -45,35 +45,26 @@ pub enum Once {
 fn if_class(names: &Names, class: &Name, once: Once) -> Option<Once>
     ensures { result ≡ if_class names.now class.now once }
 {
-    if has_entry(&names.classes, class) {
-        Some(once)
-    } else {
-        None
-    }
+    has_entry(&names.classes, class).then_some(once)
 }
 
 // The DEFINE of a set, where the name is that of a set.
 fn if_set(names: &Names, set: &Name) -> Option<Once>
     ensures { result ≡ (if is_one_of names.now.set_names set.now then Some (o.Order set.now) else None) }
 {
-    if names.set_names.contains(set) {
-        Some(Once::Order { set: *set })
-    } else {
-        None
-    }
+    names
+        .set_names
+        .contains(set)
+        .then_some(Once::Order { set: *set })
 }
 
 // The mode of an attribute, where the name is that of an attribute.
 fn if_attribute(names: &Names, attribute: &Name) -> Option<Once>
     ensures { result ≡ (if is_some (value_for names.now.attributes attribute.now) then Some (o.Mode attribute.now) else None) }
 {
-    if has_entry(&names.attributes, attribute) {
-        Some(Once::Mode {
-            attribute: *attribute,
-        })
-    } else {
-        None
-    }
+    has_entry(&names.attributes, attribute).then_some(Once::Mode {
+        attribute: *attribute,
+    })
 }
 
 /// What a declaration says that may be said once. A DEFINE of no set, and a priority, BREAK or EVENT of no class, are refused
