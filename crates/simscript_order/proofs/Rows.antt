@@ -1,7 +1,6 @@
 -- What the getters of the matches answer, by the rows of the matches.
-use Rattle.std.proofs.Common.{◌≡◌, ◌∙◌, ℕ, Bool, List, Option, Some, None, Result, Ok, Err, true, false, arith, refl, ap, option_map}
+use Rattle.std.proofs.Common.{◌≡◌, ◌∙◌, ℕ, Bool, List, Option, Some, None, Result, Ok, Err, true, false, arith, refl, ap}
 use Rattle.std.specs.Prelude.{option_and_then, if◌then◌else◌}
-use Rattle.std.specs.Borrow.{Bor}
 use Rattle.std.specs.Str.Parse.{ParsesUnsigned, digits_value, without_leading_plus}
 use Rattle.clap.specs.Words.{ReadsOne, Text, first_of, first_value, one_of, one_text, rows_of}
 use Rattle.clap.specs.ValueTests.{accepts}
@@ -11,9 +10,8 @@ use Rattle.clap.proofs.WalkLemmas.{first_value-rows, one_text-rows}
 use Rattle.simscript_order.specs.CommandLine.{tick_reader, ticks_in}
 
 -- `get_str`
-pub text_read : (f : Found) (id : Text) (r : Option (Bor Text)) → option_map (λ s. s.now) r ≡ first_value f id
-    → option_map (λ s. s.now) r ≡ first_of id (rows_of f)
-text_read f id r e = e ∙ first_value-rows f id
+pub text_read : (f : Found) (id : Text) → first_value f id ≡ first_of id (rows_of f)
+text_read f id = first_value-rows f id
 
 module _ {E : Type 0} (G : List ℕ → Result ℕ E → Type 0) (only : (u : List ℕ) (x : Result ℕ E) → G u x → ParsesUnsigned 64 10 u x) where
   -- a text is read as ticks exactly where the reader of ticks takes it

@@ -24,6 +24,7 @@ pub enum Order<'a> {
 }
 
 // The file that the matches name.
+#[tactic(auto, using(crate::proofs::Rows::text_read))]
 fn file_of<'a>(matches: &ArgMatches<'a>) -> Option<&'a str>
     ensures { option_map (λ name. name.now) result ≡ first_of (codes "FILE") (rows_of (found_of matches.now)) }
 {
@@ -31,6 +32,7 @@ fn file_of<'a>(matches: &ArgMatches<'a>) -> Option<&'a str>
 }
 
 // The file of the input data, if the matches name one.
+#[tactic(auto, using(crate::proofs::Rows::text_read))]
 fn input_of<'a>(matches: &ArgMatches<'a>) -> Option<&'a str>
     ensures { option_map (λ name. name.now) result ≡ first_of (codes "input") (rows_of (found_of matches.now)) }
 {

@@ -1,17 +1,14 @@
 -- The resolved form of a program that breaks no rule.
-use Rattle.std.proofs.Common.{◌≡◌, ◌≤◌, List, map, Option, Some, None, sym, ap, subst, ◌∙◌}
+use Rattle.std.proofs.Common.{◌≡◌, ◌≤◌, Option, Some, None, sym, ap, subst, ◌∙◌}
 use Rattle.ss_tree.specs.Nodes.{tree_nodes}
 use Rattle.ss_tree.specs.Tree.{ProgramTree}
 use Rattle.ss_tables_rules.specs.Broken.{refusal_of_declarations as declared_refusal}
 use Rattle.ss_check_rules.specs.declared.error.CheckError.{CheckError}
 use Rattle.ss_check_rules.specs.declared.error.CheckError.TheVariants as errors
-use Rattle.ss_names.specs.Table.{Table, table}
-use Rattle.ss_names_scopes.specs.Locals.{Moded, locals_of}
 use Rattle.ss_program.specs.declared.sections.Program.{Program as ProgramValue}
 use Rattle.ss_program.specs.Nodes.{nodes}
 use Rattle.ss_program.specs.View.{view_program}
 use Rattle.ss_program.specs.WellTyped.{IsWellTyped}
-use Rattle.ss_names_meaning.specs.Resolved.{resolved, resolved_with_locals}
 use Rattle.ss_check_laws.specs.ProgramLaws.{ProgramsResolve}
 use Rattle.ss_check_laws.specs.SizeLaws.{ProgramsStaySmall}
 use Rattle.ss_check.specs.Checking.{HasProgram, IsReportedBreach, resolved_program, refusal_of}
@@ -21,12 +18,6 @@ use Rattle.std.specs.Option.{option_map}
 pub reports : (e : CheckError) (found : Option CheckError) → found ≡ Some e → IsReportedBreach e found
 reports errors.Memory found h = tt
 reports e found h = h
-
--- resolving by the table and the local variables that were found is resolving by the tree
-pub found_so : (t : Table) (p : ProgramTree) (locals : List Moded) (found : Option ProgramValue) → locals ≡ map (locals_of t) p.sections → t ≡ table p →
-    option_map view_program found ≡ resolved_with_locals t locals p.sections → option_map view_program found ≡ resolved_program p
-found_so t p locals found e f h =
-    h ∙ ap (λ z. resolved_with_locals t z p.sections) e ∙ ap (λ (z : Table). resolved z p.sections) f
 
 pub typed : ProgramsResolve → (p : ProgramTree) (found : Option ProgramValue) (r : ProgramValue) → declared_refusal p ≡ None → refusal_of p ≡ None →
     option_map view_program found ≡ resolved_program p → found ≡ Some r → IsWellTyped (view_program r)

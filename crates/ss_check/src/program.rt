@@ -2,12 +2,15 @@
 
 ghost use Rattle.std.specs.Prelude.{◌≡◌, map, IfOk};
 ghost use Rattle.std.specs.List.{list_all, position};
-ghost use Rattle.ss_tree.specs.View.{view_section};
+ghost use Rattle.ss_tree.specs.View.{view_program_tree, view_section};
+ghost use Rattle.ss_names.specs.Table.{table};
+ghost use Rattle.ss_names_scopes.specs.Locals.{locals_of};
 ghost use Rattle.ss_program.specs.View.{view_program};
 ghost use Rattle.std.specs.Option.{option_map};
 ghost use Rattle.ss_names_meaning.specs.Answers.{HasGiven};
 ghost use Rattle.ss_names_meaning.specs.Resolved.{is_known, main_from, resolved_with_locals};
 ghost use Rattle.ss_names_scopes.specs.Scopes.{is_main_section};
+ghost use Rattle.ss_check.specs.Checking.{resolved_program};
 ghost use Rattle.ss_check.specs.View.{locals_in, parts_in, sections_in, table_of_sections, view_parts};
 
 use crate::sections::{Parts, ProgramSections};
@@ -97,7 +100,9 @@ pub(crate) fn resolve(
     names: &Names,
     locals: &[Locals],
 ) -> Result<Option<Resolved>, AllocError>
-    ensures { IfOk result (λ p. option_map view_program p ≡ resolved_with_locals names.now locals.now (map view_section program.now.sections.items)) }
+    requires names { names.now ≡ table (view_program_tree program.now) }
+    requires locals { locals.now ≡ map (locals_of names.now) (map view_section program.now.sections.items) }
+    ensures { IfOk result (λ p. option_map view_program p ≡ resolved_program (view_program_tree program.now)) }
 {
     let all = ProgramSections {
         alloc,

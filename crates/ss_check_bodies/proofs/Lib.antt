@@ -1,5 +1,4 @@
 mod Common
 mod Nested
-mod Over
 mod Seen
 mod Trees

@@ -1,81 +1,30 @@
 -- Expressions whose parts lie in rows, by lists.
-use Rattle.std.proofs.Common.{◌≡◌, ℕ, zero, suc, ◌+◌, ◌<◌, ◌≤◌, List, [], ◌∷◌, ◌++◌, length, get_or, take, map, Option, Some, None, refl, sym, ap, subst, ◌∙◌, arith}
-use Rattle.ss_check_bodies.proofs.Common.{fold, map-append, Memory, ResolveError, Scope, take_more, Unresolved, view_expression_tree, view_term}
-use Rattle.std.proofs.lemmas.List.Sums.{fold-append}
+use Rattle.std.proofs.Common.{◌≡◌, ◌<◌, ◌≤◌, List, [], ◌∷◌, length, get_or, map, Option, Some, None, refl, sym, ap, ◌∙◌, arith}
+use Rattle.ss_check_bodies.proofs.Common.{fails_then, fold, ResolveError, Scope, view_expression_tree, view_term}
+use Rattle.std.proofs.lemmas.List.Folds.{fold-map}
 use Rattle.std.specs.Global.{Vec, Box}
 use Rattle.ss_base.specs.declared.words.Sign.{Sign as SignWord}
 use Rattle.ss_tree.specs.declared.expression.Function.{Function}
-use Rattle.ss_tree.specs.declared.expression.Named.{Named}
 use Rattle.ss_tree.specs.declared.expression.Expression.{Expression as Parsed}
 use Rattle.ss_tree.specs.declared.expression.Expression.TheVariants as variants
 use Rattle.ss_tree.specs.declared.expression.Term.{Term}
-use Rattle.ss_tree.specs.Tree.{ExpressionTree, named, call, expression_row, term_row}
-use Rattle.ss_tree.specs.Views.{view_named_made, view_call_made, view_product_made, view_sum_made}
+use Rattle.ss_tree.specs.Tree.{ExpressionTree, call, expression_row, term_row}
+use Rattle.ss_tree.specs.Views.{view_call_made, view_product_made, view_sum_made}
 use Rattle.ss_program.specs.declared.expression.Operation.{Operation}
+use Rattle.ss_base.specs.declared.words.Operator.{Operator}
 use Rattle.ss_base.specs.declared.words.Operator.TheVariants.{Multiply}
 use Rattle.ss_program.specs.declared.expression.Expression.{Expression as Made}
 use Rattle.ss_program.specs.declared.expression.Expression.TheVariants as made
 use Rattle.ss_program.specs.Program.{Expression, Calculate}
 use Rattle.ss_program.specs.View.{view_expression as view_made}
-use Rattle.ss_program.specs.Views.{with_operation, view_calculate_made}
-use Rattle.ss_names_meaning.specs.Answers.{◌>>=◌, HasFailed}
+use Rattle.ss_program.specs.Views.{view_calculate_made}
+use Rattle.ss_names_meaning.specs.Answers.{◌>>=◌, each, HasFailed, of_one, of_two}
 use Rattle.ss_names_meaning.specs.Expressions.{resolved_operator, expression, subscript, one, two, factors, terms}
-use Rattle.ss_names_meaning.proofs.Steps.{none_after, some_after}
-
--- ---- the items of a vector
-
-pub named_is : (t : Parsed) (p : Named) (es : List Parsed) → t ≡ variants.Named p → es ≡ p.subscripts.items →
-    named p.designator (expression_row (map view_expression_tree es)) ≡ view_expression_tree t
-named_is t p es e h = rw (e, h) (sym (view_named_made p))
+use Rattle.ss_check_bodies.specs.Results.{factor, further_term, operation_seen}
 
 pub call_is : (t : Parsed) (f : Function) (v : Vec Parsed) (es : List Parsed) → t ≡ variants.Call f v → es ≡ v.items →
     call f (expression_row (map view_expression_tree es)) ≡ view_expression_tree t
 call_is t f v es e h = rw (e, h) (sym (view_call_made f v))
-
-product_is : (c : Scope) (b : Box Parsed) (v : Vec Parsed) →
-    expression c (view_expression_tree (variants.Product b v)) ≡ (expression c (view_expression_tree b.value) >>= λ left. factors c left (expression_row (map view_expression_tree v.items)))
-unfolding expression
-product_is c b v = ap (expression c) (view_product_made b v)
-
-sum_is : (c : Scope) (b : Box Parsed) (v : Vec Term) →
-    expression c (view_expression_tree (variants.Sum b v)) ≡ (expression c (view_expression_tree b.value) >>= λ left. terms c left (term_row (map view_term v.items)))
-unfolding expression
-sum_is c b v = ap (expression c) (view_sum_made b v)
-
--- the second step of two failed
-second_fails : {A B : Type 0} (r : Option A) (next : A → Option B) (x : A) (e : ResolveError) → r ≡ Some x → ((y : A) → HasFailed e (next y)) → HasFailed e (r >>= next)
-second_fails r next x Memory h k = tt
-second_fails r next x Unresolved h k = none_after r next k
-
-pub product_fails : (c : Scope) (t : Parsed) (b : Box Parsed) (v : Vec Parsed) (es : List Parsed) (x : Expression) (e : ResolveError) →
-    t ≡ variants.Product b v → es ≡ v.items → expression c (view_expression_tree b.value) ≡ Some x →
-    ((left : Expression) → HasFailed e (factors c left (expression_row (map view_expression_tree es)))) → HasFailed e (expression c (view_expression_tree t))
-product_fails c t b v es x e is listed h k =
-    let all : (left : Expression) → HasFailed e (factors c left (expression_row (map view_expression_tree v.items))) = subst (λ l. (left : Expression) → HasFailed e (factors c left (expression_row (map view_expression_tree l)))) listed k in
-    rw (is, product_is c b v) (second_fails (expression c (view_expression_tree b.value)) (λ left. factors c left (expression_row (map view_expression_tree v.items))) x e h all)
-
-pub sum_fails : (c : Scope) (t : Parsed) (b : Box Parsed) (v : Vec Term) (es : List Term) (x : Expression) (e : ResolveError) →
-    t ≡ variants.Sum b v → es ≡ v.items → expression c (view_expression_tree b.value) ≡ Some x →
-    ((left : Expression) → HasFailed e (terms c left (term_row (map view_term es)))) → HasFailed e (expression c (view_expression_tree t))
-sum_fails c t b v es x e is listed h k =
-    let all : (left : Expression) → HasFailed e (terms c left (term_row (map view_term v.items))) = subst (λ l. (left : Expression) → HasFailed e (terms c left (term_row (map view_term l)))) listed k in
-    rw (is, sum_is c b v) (second_fails (expression c (view_expression_tree b.value)) (λ left. terms c left (term_row (map view_term v.items))) x e h all)
-
-pub product_made : (c : Scope) (t : Parsed) (b : Box Parsed) (v : Vec Parsed) (es : List Parsed) (x : Box Made) (xs : Vec Operation) →
-    t ≡ variants.Product b v → es ≡ v.items → expression c (view_expression_tree b.value) ≡ Some (view_made x.value) →
-    ((left : Expression) → factors c left (expression_row (map view_expression_tree es)) ≡ Some (fold with_operation left xs.items)) →
-    expression c (view_expression_tree t) ≡ Some (view_made (made.Calculate x xs))
-product_made c t b v es x xs is listed h k =
-    let all : factors c (view_made x.value) (expression_row (map view_expression_tree v.items)) ≡ Some (fold with_operation (view_made x.value) xs.items) = subst (λ l. factors c (view_made x.value) (expression_row (map view_expression_tree l)) ≡ Some (fold with_operation (view_made x.value) xs.items)) listed (k (view_made x.value)) in
-    rw (is, product_is c b v, h) (all ∙ ap (λ z. Some z) (sym (view_calculate_made x xs)))
-
-pub sum_made : (c : Scope) (t : Parsed) (b : Box Parsed) (v : Vec Term) (es : List Term) (x : Box Made) (xs : Vec Operation) →
-    t ≡ variants.Sum b v → es ≡ v.items → expression c (view_expression_tree b.value) ≡ Some (view_made x.value) →
-    ((left : Expression) → terms c left (term_row (map view_term es)) ≡ Some (fold with_operation left xs.items)) →
-    expression c (view_expression_tree t) ≡ Some (view_made (made.Calculate x xs))
-sum_made c t b v es x xs is listed h k =
-    let all : terms c (view_made x.value) (term_row (map view_term v.items)) ≡ Some (fold with_operation (view_made x.value) xs.items) = subst (λ l. terms c (view_made x.value) (term_row (map view_term l)) ≡ Some (fold with_operation (view_made x.value) xs.items)) listed (k (view_made x.value)) in
-    rw (is, sum_is c b v, h) (all ∙ ap (λ z. Some z) (sym (view_calculate_made x xs)))
 
 -- ---- subscripts and arguments
 
@@ -128,93 +77,48 @@ more_than_two c (u ∷ v ∷ w ∷ es) a = refl
 
 -- ---- further factors and terms
 
-factors_more : (c : Scope) (es : List ExpressionTree) (e : ExpressionTree) (left r x : Expression) →
-    factors c left (expression_row es) ≡ Some r → expression c e ≡ Some x → factors c left (expression_row (es ++ e ∷ [])) ≡ Some (Calculate Multiply r x)
-unfolding expression factors
-factors_more c [] e left r x h k =
-    let same : left ≡ r = cc in
-    rw (k, same) refl
-factors_more c (f ∷ es) e left r x h k =
-    some_after (expression c f) (λ y. factors c (Calculate Multiply left y) (expression_row es)) (λ y. factors c (Calculate Multiply left y) (expression_row (es ++ e ∷ []))) r (Calculate Multiply r x) h
-    (λ y q. factors_more c es e (Calculate Multiply left y) r x q k)
+-- the operations on what is on the left, one after the other
+abbrev joined : Expression → List (Operator × Expression) → Expression
+joined left ops = fold (λ (l : Expression) (p : Operator × Expression). Calculate p.0 l p.1) left ops
 
-terms_more : (c : Scope) (es : List (SignWord × ExpressionTree)) (e : SignWord × ExpressionTree) (left r x : Expression) →
-    terms c left (term_row es) ≡ Some r → expression c e.1 ≡ Some x → terms c left (term_row (es ++ e ∷ [])) ≡ Some (Calculate (resolved_operator e.0) r x)
-unfolding expression terms
-terms_more c [] e left r x h k =
-    let same : left ≡ r = cc in
-    rw (k, same) refl
-terms_more c (f ∷ es) e left r x h k =
-    some_after (expression c f.1) (λ y. terms c (Calculate (resolved_operator f.0) left y) (term_row es)) (λ y. terms c (Calculate (resolved_operator f.0) left y) (term_row (es ++ e ∷ []))) r (Calculate (resolved_operator e.0) r x) h
-    (λ y q. terms_more c es e (Calculate (resolved_operator f.0) left y) r x q k)
+unfoldable pub further_of : Option Expression → Option (List (Operator × Expression)) → Option Expression
+further_of r q = r >>= λ left. q >>= λ ops. Some (joined left ops)
 
-factors_none : (c : Scope) (xs : List Parsed) (i : ℕ) (d : Parsed) (left : Expression) → i < length xs →
-    expression c (view_expression_tree (get_or xs i d)) ≡ None → factors c left (expression_row (map view_expression_tree xs)) ≡ None
-unfolding expression factors
-factors_none c [] i d left lt h = absurd (omega (arith, lt))
-factors_none c (x ∷ xs) zero d left lt h = rw h refl
-factors_none c (x ∷ xs) (suc i) d left lt h =
-    none_after (expression c (view_expression_tree x)) (λ y. factors c (Calculate Multiply left y) (expression_row (map view_expression_tree xs))) (λ y. factors_none c xs i d (Calculate Multiply left y) (omega (arith, lt)) h)
+joined_more : (r : Option Expression) (op : Operator) (q : Option (List (Operator × Expression))) (rest : Expression → Option Expression) (left : Expression) →
+    ((l : Expression) → rest l ≡ (q >>= λ ops. Some (joined l ops))) →
+    (r >>= λ x. rest (Calculate op left x)) ≡ (of_two (of_one {B = Operator × Expression} r (λ x. (op, x))) q (λ y ys. y ∷ ys) >>= λ ops. Some (joined left ops))
+joined_more None op q rest left h = refl
+joined_more (Some x) op None rest left h = h (Calculate op left x)
+joined_more (Some x) op (Some ops) rest left h = h (Calculate op left x)
 
-terms_none : (c : Scope) (xs : List Term) (i : ℕ) (d : Term) (left : Expression) → i < length xs →
-    expression c (view_expression_tree (get_or xs i d).value) ≡ None → terms c left (term_row (map view_term xs)) ≡ None
-unfolding expression terms
-terms_none c [] i d left lt h = absurd (omega (arith, lt))
-terms_none c (x ∷ xs) zero d left lt h = rw h refl
-terms_none c (x ∷ xs) (suc i) d left lt h =
-    none_after (expression c (view_expression_tree x.value)) (λ y. terms c (Calculate (resolved_operator x.sign) left y) (term_row (map view_term xs))) (λ y. terms_none c xs i d (Calculate (resolved_operator x.sign) left y) (omega (arith, lt)) h)
+factors_are : (c : Scope) (es : List ExpressionTree) (left : Expression) → factors c left (expression_row es) ≡ (each (factor c) es >>= λ ops. Some (joined left ops))
+unfolding expression factors each
+factors_are c [] left = refl
+factors_are c (e ∷ es) left = joined_more (expression c e) Multiply (each (factor c) es) (λ l. factors c l (expression_row es)) left (λ l. factors_are c es l)
 
-pub factors_fail : (c : Scope) (xs : List Parsed) (i : ℕ) (x : Parsed) (e : ResolveError) (left : Expression) → i < length xs → x ≡ get_or xs i x →
-    HasFailed e (expression c (view_expression_tree x)) → HasFailed e (factors c left (expression_row (map view_expression_tree xs)))
-factors_fail c xs i x Memory left lt is h = tt
-factors_fail c xs i x Unresolved left lt is h = factors_none c xs i x left lt (subst (λ y. expression c (view_expression_tree y) ≡ None) is h)
+terms_are : (c : Scope) (ts : List (SignWord × ExpressionTree)) (left : Expression) → terms c left (term_row ts) ≡ (each (further_term c) ts >>= λ ops. Some (joined left ops))
+unfolding expression terms each
+terms_are c [] left = refl
+terms_are c (t ∷ ts) left = joined_more (expression c t.1) (resolved_operator t.0) (each (further_term c) ts) (λ l. terms c l (term_row ts)) left (λ l. terms_are c ts l)
 
-pub terms_fail : (c : Scope) (xs : List Term) (i : ℕ) (x : Term) (e : ResolveError) (left : Expression) → i < length xs → x ≡ get_or xs i x →
-    HasFailed e (expression c (view_expression_tree x.value)) → HasFailed e (terms c left (term_row (map view_term xs)))
-terms_fail c xs i x Memory left lt is h = tt
-terms_fail c xs i x Unresolved left lt is h = terms_none c xs i x left lt (subst (λ (y : Term). expression c (view_expression_tree y.value) ≡ None) is h)
+pub product_is : (c : Scope) (t : Parsed) (b : Box Parsed) (v : Vec Parsed) (es : List Parsed) → t ≡ variants.Product b v → es ≡ v.items →
+    expression c (view_expression_tree t) ≡ further_of (expression c (view_expression_tree b.value)) (each (factor c) (map view_expression_tree es))
+unfolding expression further_of
+product_is c t b v es is listed =
+    rw (is, listed) (ap (expression c) (view_product_made b v) ∙ (λ i. expression c (view_expression_tree b.value) >>= λ left. factors_are c (map view_expression_tree v.items) left i))
 
-pub no_factors : (c : Scope) (ops : List Operation) → ops ≡ [] → (left : Expression) → factors c left (expression_row []) ≡ Some (fold with_operation left ops)
-unfolding expression factors
-no_factors c ops e left = rw e refl
+pub sum_is : (c : Scope) (t : Parsed) (b : Box Parsed) (v : Vec Term) (es : List Term) → t ≡ variants.Sum b v → es ≡ v.items →
+    expression c (view_expression_tree t) ≡ further_of (expression c (view_expression_tree b.value)) (each (further_term c) (map view_term es))
+unfolding expression further_of
+sum_is c t b v es is listed =
+    rw (is, listed) (ap (expression c) (view_sum_made b v) ∙ (λ i. expression c (view_expression_tree b.value) >>= λ left. terms_are c (map view_term v.items) left i))
 
-pub no_terms : (c : Scope) (ops : List Operation) → ops ≡ [] → (left : Expression) → terms c left (term_row []) ≡ Some (fold with_operation left ops)
-unfolding expression terms
-no_terms c ops e left = rw e refl
+pub further_fails : (r : Option Expression) (q : Option (List (Operator × Expression))) (x : Expression) (e : ResolveError) → r ≡ Some x → HasFailed e q → HasFailed e (further_of r q)
+unfolding further_of
+further_fails r q x e is h = rw is (fails_then q (λ ops. Some (joined x ops)) e h)
 
--- one operation more
-fold_next : (left r : Expression) (old new : List Operation) (o : Operation) → new ≡ old ++ o ∷ [] → fold with_operation left old ≡ r →
-    fold with_operation left new ≡ with_operation r o
-fold_next left r old new o e h = ap (fold with_operation left) e ∙ fold-append with_operation left old (o ∷ []) ∙ ap (λ z. with_operation z o) h
-
-pub factors_next : (c : Scope) (xs : List Parsed) (i : ℕ) (x : Parsed) (old new : List Operation) (o : Operation) →
-    i < length xs → x ≡ get_or xs i x → new ≡ old ++ o ∷ [] → o.operator ≡ Multiply →
-    ((left : Expression) → factors c left (expression_row (map view_expression_tree (take i xs))) ≡ Some (fold with_operation left old)) →
-    expression c (view_expression_tree x) ≡ Some (view_made o.operand) →
-    (left : Expression) → factors c left (expression_row (map view_expression_tree (take (i + 1) xs))) ≡ Some (fold with_operation left new)
-factors_next c xs i x old new o lt is e m h g left =
-    let before = map view_expression_tree (take i xs) in
-    let taken : map view_expression_tree (take (i + 1) xs) ≡ before ++ view_expression_tree x ∷ [] =
-    ap (map view_expression_tree) (take_more xs i x lt) ∙ map-append view_expression_tree (take i xs) (get_or xs i x ∷ []) ∙ ap (λ z. before ++ view_expression_tree z ∷ []) (sym is) in
-    let grown : fold with_operation left new ≡ with_operation (fold with_operation left old) o = fold_next left (fold with_operation left old) old new o e refl in
-    rw (taken, grown, m) (factors_more c before (view_expression_tree x) left (fold with_operation left old) (view_made o.operand) (h left) g)
-
-pub terms_next : (c : Scope) (xs : List Term) (i : ℕ) (x : Term) (old new : List Operation) (o : Operation) →
-    i < length xs → x ≡ get_or xs i x → new ≡ old ++ o ∷ [] → o.operator ≡ resolved_operator x.sign →
-    ((left : Expression) → terms c left (term_row (map view_term (take i xs))) ≡ Some (fold with_operation left old)) →
-    expression c (view_expression_tree x.value) ≡ Some (view_made o.operand) →
-    (left : Expression) → terms c left (term_row (map view_term (take (i + 1) xs))) ≡ Some (fold with_operation left new)
-terms_next c xs i x old new o lt is e m h g left =
-    let before = map view_term (take i xs) in
-    let taken : map view_term (take (i + 1) xs) ≡ before ++ view_term x ∷ [] =
-    ap (map view_term) (take_more xs i x lt) ∙ map-append view_term (take i xs) (get_or xs i x ∷ []) ∙ ap (λ z. before ++ view_term z ∷ []) (sym is) in
-    let grown : fold with_operation left new ≡ with_operation (fold with_operation left old) o = fold_next left (fold with_operation left old) old new o e refl in
-    rw (taken, grown, m) (terms_more c before (view_term x) left (fold with_operation left old) (view_made o.operand) (h left) g)
-
--- ---- an operation by itself
-
-pub calculated : (left right : Made) (x : Box Made) (xs : Vec Operation) (o : Operation) (before : List Operation) → x.value ≡ left → before ≡ [] → xs.items ≡ before ++ o ∷ [] → o.operand ≡ right →
-    Calculate o.operator (view_made left) (view_made right) ≡ view_made (made.Calculate x xs)
-calculated left right x xs o before a b d e =
-    let one : xs.items ≡ o ∷ [] = d ∙ ap (λ l. l ++ o ∷ []) b in
-    rw (view_calculate_made x xs, one, a, ← e) refl
+pub further_made : (r : Option Expression) (q : Option (List (Operator × Expression))) (x : Box Made) (xs : Vec Operation) →
+    r ≡ Some (view_made x.value) → q ≡ Some (map operation_seen xs.items) → further_of r q ≡ Some (view_made (made.Calculate x xs))
+unfolding further_of
+further_made r q x xs is h =
+    rw (is, h) (ap (λ z. Some z) (fold-map (λ (l : Expression) (p : Operator × Expression). Calculate p.0 l p.1) operation_seen (view_made x.value) xs.items ∙ sym (view_calculate_made x xs)))

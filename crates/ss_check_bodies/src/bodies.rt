@@ -19,7 +19,7 @@ use ss_tree::statement::{FindOutcome, Statement};
 
 impl Resolver<'_> {
     // An IF around its sides.
-    #[tactic(auto, unfolding(ss_program::specs::View::view_statement))]
+    #[tactic(auto, using(ss_program::specs::Views::view_if_made))]
     fn resolve_if(
         &self,
         line: Line,
@@ -57,7 +57,7 @@ impl Resolver<'_> {
 
     // A statement.
     #[cycle(nesting)]
-    #[tactic(auto, unfolding(ss_names_meaning::specs::Statements::statement, ss_tree::specs::View::view_statement_tree))]
+    #[tactic(auto, unfolding(ss_names_meaning::specs::Statements::statement, ss_tree::specs::View::view_statement_tree), using(ss_tree::specs::Views::view_if_tree_made, ss_tree::specs::Views::view_loop_tree_made, ss_tree::specs::Views::view_find_if_made))]
     fn resolve_statement(&self, tree: &Statement) -> Result<Resolved, ResolveError>
         ensures { HasGiven view_resolved result (statement (scope_in self.now) (view_statement_tree tree.now)) }
     {

@@ -1,16 +1,14 @@
 //! Expressions with their names resolved.
 
 ghost use Rattle.std.specs.Prelude.{◌≡◌, map, Some};
-ghost use Rattle.std.specs.List.{fold};
 ghost use Rattle.ss_tree.specs.View.{view_expression_tree, view_term};
-ghost use Rattle.ss_tree.specs.Tree.{ExpressionTree, call, expression_row, named, term_row};
+ghost use Rattle.ss_tree.specs.Tree.{ExpressionTree, call, expression_row, named};
 ghost use Rattle.ss_program.specs.Program.{Calculate, Expression as ExpressionSeen};
 ghost use Rattle.ss_program.specs.View.{view_expression as view_resolved};
 ghost use Rattle.std.specs.Option.{option_map};
-ghost use Rattle.ss_program.specs.Views.{with_operation};
 ghost use Rattle.ss_names_meaning.specs.Answers.{HasGiven, each};
-ghost use Rattle.ss_names_meaning.specs.Expressions.{entity_implied, entity_of, expression, factors, entity_or_implied, of_owner, one, place_named, resolved_operator, resolved_value, subscript, terms, two, value_alone, value_of_entity, meaning_with_entity};
-ghost use Rattle.ss_check_bodies.specs.Results.{operation, scope_in};
+ghost use Rattle.ss_names_meaning.specs.Expressions.{entity_implied, entity_of, expression, entity_or_implied, of_owner, one, place_named, resolved_operator, resolved_value, subscript, two, value_alone, value_of_entity, meaning_with_entity};
+ghost use Rattle.ss_check_bodies.specs.Results.{factor, further_term, operation, operation_seen, scope_in};
 
 use crate::lists::FromTree;
 use crate::resolver::Resolver;
@@ -108,6 +106,7 @@ fn resolved_operator(sign: Sign) -> Operator
 }
 
 // An operation on two numbers.
+#[tactic(auto, using(ss_program::specs::Views::view_calculate_made))]
 fn calculate(
     alloc: Global,
     first: Box<Resolved>,
@@ -241,7 +240,7 @@ impl Resolver<'_> {
 
     // The expression with its names resolved.
     #[cycle(resolving)]
-    #[tactic(auto, unfolding(ss_tree::specs::View::view_expression_tree, ss_program::specs::View::view_expression, ss_names_meaning::specs::Expressions::expression))]
+    #[tactic(auto, unfolding(ss_tree::specs::View::view_expression_tree, ss_program::specs::View::view_expression, ss_names_meaning::specs::Expressions::expression), using(ss_tree::specs::Views::view_named_made))]
     pub(crate) fn resolve_expression(&self, tree: &Expression) -> Result<Resolved, ResolveError>
         ensures { HasGiven view_resolved result (expression (scope_in self.now) (view_expression_tree tree.now)) }
     {
@@ -383,7 +382,7 @@ impl Resolver<'_> {
     // The further factors of a product.
     #[cycle(resolving)]
     fn resolve_factors(&self, trees: &[Expression]) -> Result<Vec<Operation>, ResolveError>
-        ensures { (left : _) → HasGiven (λ v. fold with_operation left v.items) result (factors (scope_in self.now) left (expression_row (map view_expression_tree trees.now))) }
+        ensures { HasGiven (λ v. map operation_seen v.items) result (each (factor (scope_in self.now)) (map view_expression_tree trees.now)) }
     {
         let mut operations = Vec::new(self.alloc);
         for tree in trees {
@@ -399,7 +398,7 @@ impl Resolver<'_> {
     // The further terms of a sum.
     #[cycle(resolving)]
     fn resolve_terms(&self, trees: &[Term]) -> Result<Vec<Operation>, ResolveError>
-        ensures { (left : _) → HasGiven (λ v. fold with_operation left v.items) result (terms (scope_in self.now) left (term_row (map view_term trees.now))) }
+        ensures { HasGiven (λ v. map operation_seen v.items) result (each (further_term (scope_in self.now)) (map view_term trees.now)) }
     {
         let mut operations = Vec::new(self.alloc);
         for tree in trees {

@@ -92,7 +92,7 @@ impl Resolver<'_> {
     }
 
     // An item: a mean where that is named alone, through any parentheses, and else a value.
-    #[tactic(auto, unfolding(ss_tree::specs::View::view_expression_tree))]
+    #[tactic(auto, unfolding(ss_tree::specs::View::view_expression_tree), using(ss_tree::specs::Views::view_named_made))]
     fn resolve_item(&self, tree: &Expression) -> Result<PrintItem, ResolveError>
         ensures { HasGiven view_item result (item (scope_in self.now) (view_expression_tree tree.now)) }
     {

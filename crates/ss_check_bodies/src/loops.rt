@@ -25,6 +25,7 @@ impl Resolver<'_> {
     }
 
     // A FOR with its body.
+    #[tactic(auto, using(ss_program::specs::Views::view_for_made))]
     fn resolve_for(
         &self,
         line: Line,
@@ -43,6 +44,7 @@ impl Resolver<'_> {
     }
 
     /// A loop with its body.
+    #[tactic(auto, using(ss_program::specs::Views::view_loop_made))]
     pub(crate) fn resolve_loop(
         &self,
         line: Line,
@@ -61,6 +63,7 @@ impl Resolver<'_> {
     }
 
     /// FIND THE FIRST CASE, with what follows where one was found and where none was.
+    #[tactic(auto, using(ss_program::specs::Views::view_find_made))]
     pub(crate) fn resolve_find(
         &self,
         line: Line,

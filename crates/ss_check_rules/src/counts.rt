@@ -1,14 +1,14 @@
 //! The rule on counts of arguments.
 
-ghost use Rattle.std.specs.Prelude.{◌≡◌, ◌==◌, ℕ, true, nat_le, length, get_or, []};
+ghost use Rattle.std.specs.Prelude.{◌≡◌, ℕ, true, nat_le, length, get_or, []};
 ghost use Rattle.std.specs.Option.{option_map_or};
-ghost use Rattle.ss_names.specs.declared.entry.RoutineSection.{RoutineSection as Section};
 ghost use Rattle.ss_names_declarations.specs.Earliest.{unless};
+ghost use Rattle.ss_names_declarations.specs.NameTable.{place_in, value_for};
 ghost use Rattle.ss_check_rules.specs.declared.error.CheckError.TheVariants as e;
 ghost use Rattle.ss_check_rules.specs.Counts.{argument_count, suits_count};
 
 use crate::error::{CheckError, unless};
-use ss_base::Line;
+use ss_base::{Line, Name};
 use ss_names::{Names, RoutineSection};
 use ss_names_uses::CountNeed;
 use ss_tree::expression::Function;
@@ -23,31 +23,18 @@ fn argument_count(function: Function) -> usize
     }
 }
 
-// Whether a CALL gives so many values, where the name is that of a routine.
-fn is_given(found: usize, routine: Option<RoutineSection>) -> bool
-    ensures { result ≡ option_map_or (λ (r : Section). found == r.given) routine true }
+/// The section of a routine.
+pub(crate) fn routine_named(names: &Names, routine: &Name) -> Option<RoutineSection>
+    ensures { result ≡ value_for names.now.routines routine.now }
 {
-    match routine {
-        Some(routine) => found == routine.given,
-        None => true,
-    }
+    names.routines.get(routine).copied()
 }
 
-// Whether a CALL takes so many values, where the name is that of a routine.
-fn is_yielded(found: usize, routine: Option<RoutineSection>) -> bool
-    ensures { result ≡ option_map_or (λ (r : Section). found == r.yielding) routine true }
+// Whether a class has so many attributes at least, where the name is that of one.
+fn has_attributes(names: &Names, found: usize, class: &Name) -> bool
+    ensures { result ≡ option_map_or (λ (n : ℕ). nat_le found (length (get_or names.now.fields n []))) (place_in names.now.classes class.now) true }
 {
-    match routine {
-        Some(routine) => found == routine.yielding,
-        None => true,
-    }
-}
-
-// Whether a class has so many attributes at least, where there is one.
-fn has_attributes(names: &Names, found: usize, class: Option<usize>) -> bool
-    ensures { result ≡ option_map_or (λ (n : ℕ). nat_le found (length (get_or names.now.fields n []))) class true }
-{
-    match class {
+    match names.classes.place(class) {
         Some(class) => found <= names.attributes_of(class).len(),
         None => true,
     }
@@ -59,9 +46,15 @@ fn suits_count(names: &Names, found: usize, wanted: &CountNeed) -> bool
 {
     match wanted {
         CountNeed::Arguments(function) => found == argument_count(*function),
-        CountNeed::Given(routine) => is_given(found, names.routines.get(routine).copied()),
-        CountNeed::Yielded(routine) => is_yielded(found, names.routines.get(routine).copied()),
-        CountNeed::Attributes(class) => has_attributes(names, found, names.classes.place(class)),
+        CountNeed::Given(routine) => match routine_named(names, routine) {
+            Some(section) => found == section.given,
+            None => true,
+        },
+        CountNeed::Yielded(routine) => match routine_named(names, routine) {
+            Some(section) => found == section.yielding,
+            None => true,
+        },
+        CountNeed::Attributes(class) => has_attributes(names, found, class),
     }
 }
 

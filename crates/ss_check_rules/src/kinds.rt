@@ -3,7 +3,7 @@
 ghost use Rattle.std.specs.Prelude.{◌≡◌};
 ghost use Rattle.ss_names_scopes.specs.Seen.{view_scope};
 ghost use Rattle.ss_names_uses.specs.declared.used.Role.TheVariants as roles;
-ghost use Rattle.ss_check_rules.specs.Kinds.{has_value, if_means, is_mean, is_routine, is_set, is_variable, may_be_watched, may_have, meaning_in_role, suits, suits_class, suits_subscripts, takes_values};
+ghost use Rattle.ss_check_rules.specs.Kinds.{has_value, if_means, is_mean, is_routine, is_set, is_variable, may_be_watched, meaning_in_role, suits, suits_class, suits_subscripts, takes_values};
 
 use ss_base::Owner;
 use ss_names::{Meaning, Names};
@@ -14,23 +14,14 @@ use ss_tree::expression::Designator;
 
 // ---- kinds
 
-// Whether it may be a value or a target: all but sets and routines.
-fn has_value(meaning: Meaning) -> bool
-    ensures { result ≡ has_value meaning }
-{
-    match meaning {
-        Meaning::Set { .. } => false,
-        Meaning::Routine { .. } => false,
-        _ => true,
-    }
-}
-
-// Whether a name means what may be a value or a target.
+// Whether a name means what may be a value or a target: all but sets and routines.
 fn if_value(meaning: Option<Meaning>) -> bool
     ensures { result ≡ if_means has_value meaning }
 {
     match meaning {
-        Some(meaning) => has_value(meaning),
+        Some(Meaning::Set { .. }) => false,
+        Some(Meaning::Routine { .. }) => false,
+        Some(_) => true,
         None => false,
     }
 }
@@ -87,27 +78,20 @@ pub fn if_mean(meaning: Option<Meaning>) -> bool
     }
 }
 
-// Whether a TALLY or an ACCUMULATE is of it: a global variable of a DEFINE, an attribute or N. of a set.
-fn may_be_watched(meaning: Meaning) -> bool
-    ensures { result ≡ may_be_watched meaning }
-{
-    match meaning {
-        Meaning::Variable { .. } => true,
-        Meaning::Attribute { .. } => true,
-        Meaning::OfSet {
-            query: SetQuery::MemberCount,
-            ..
-        } => true,
-        _ => false,
-    }
-}
-
-/// Whether a TALLY or an ACCUMULATE may be of what a name means.
+/// Whether a TALLY or an ACCUMULATE may be of what a name means: a global variable of a DEFINE, an attribute or N. of a set.
 pub fn if_watched(meaning: Option<Meaning>) -> bool
     ensures { result ≡ if_means may_be_watched meaning }
 {
     match meaning {
-        Some(meaning) => may_be_watched(meaning),
+        Some(Meaning::Variable { .. }) => true,
+        Some(Meaning::Attribute { .. }) => true,
+        Some(
+            Meaning::OfSet {
+                query: SetQuery::MemberCount,
+                ..
+            },
+        ) => true,
+        Some(_) => false,
         None => false,
     }
 }
@@ -160,16 +144,6 @@ pub fn suits_class(meaning: Option<Meaning>, need: ClassNeed) -> bool
 
 // ---- subscripts and targets
 
-// Whether so many subscripts may be written of what this owner has.
-fn may_have(owner: Owner, subscripts: usize) -> bool
-    ensures { result ≡ may_have owner subscripts }
-{
-    match owner {
-        Owner::System => subscripts == 0,
-        Owner::Class(_) => subscripts <= 1,
-    }
-}
-
 /// Whether so many subscripts may be written: TIME.A takes one always, what each entity of a class has takes one or none, and
 /// anything else none.
 pub fn suits_subscripts(names: &Names, meaning: Meaning, subscripts: usize) -> bool
@@ -177,7 +151,10 @@ pub fn suits_subscripts(names: &Names, meaning: Meaning, subscripts: usize) -> b
 {
     match meaning {
         Meaning::NoticeTime => subscripts == 1,
-        _ => may_have(names.owner_of(meaning), subscripts),
+        _ => match names.owner_of(meaning) {
+            Owner::System => subscripts == 0,
+            Owner::Class(_) => subscripts <= 1,
+        },
     }
 }
 

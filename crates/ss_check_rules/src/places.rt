@@ -1,23 +1,24 @@
 //! The rules on named places and on modes.
 
-ghost use Rattle.std.specs.Prelude.{◌≡◌, ◌+◌, ◌&&◌, ◌||◌, not, option_and_then, option_map, slice_get};
+ghost use Rattle.std.specs.Prelude.{◌≡◌, ◌+◌, ◌&&◌, ◌||◌, not, option_and_then, slice_get};
 ghost use Rattle.ss_names_scopes.specs.Seen.{view_scope};
 ghost use Rattle.ss_check_rules.specs.declared.error.CheckError.TheVariants as e;
 ghost use Rattle.ss_check_rules.specs.Kinds.{if_means, is_mean, is_target, takes_values};
 ghost use Rattle.ss_check_rules.specs.Modes.{attribute_mode, differ, is_mean_as_value, is_text, mixes_modes, meaning_mode, mode_of_use};
 ghost use Rattle.ss_names.specs.declared.entry.RoutineSection.{RoutineSection as SectionSeen};
-ghost use Rattle.ss_names.specs.declared.entry.Attribute.{Attribute as AttributeSeen};
 ghost use Rattle.ss_names.specs.Table.{mode_of_attribute};
 ghost use Rattle.ss_names_declarations.specs.Earliest.{unless};
+ghost use Rattle.ss_names_declarations.specs.NameTable.{place_in};
 ghost use Rattle.ss_check_rules.specs.Refusal.{class_breaks, meaning_breaks, place_breaks};
 ghost use Rattle.ss_names_scopes.specs.Scopes.{meaning_of, parameter_mode};
 
+use crate::counts::routine_named;
 use crate::error::{CheckError, unless};
 use crate::kinds::{
     if_mean, is_mean, meaning_in_role, suits, suits_class, suits_subscripts, takes_values,
 };
 use ss_base::{Line, Mode, Name};
-use ss_names::{Attribute, Meaning, Names, RoutineSection};
+use ss_names::{Meaning, Names, RoutineSection};
 use ss_names_scopes::{Scope, mode_of};
 use ss_names_uses::{ClassNeed, ModeOf, Role};
 use ss_tree::expression::Designator;
@@ -55,21 +56,11 @@ fn yielded_mode(scope: &Scope<'_>, routine: Option<RoutineSection>, place: usize
 }
 
 // The mode of an attribute.
-fn mode_of_attribute(attribute: Option<Attribute>) -> Option<Mode>
-    ensures { result ≡ option_map (λ (a : AttributeSeen). a.mode) attribute }
+fn mode_of_attribute(names: &Names, attribute: &Name) -> Option<Mode>
+    ensures { result ≡ mode_of_attribute names.now attribute.now }
 {
-    match attribute {
+    match names.attributes.get(attribute).copied() {
         Some(attribute) => Some(attribute.mode),
-        None => None,
-    }
-}
-
-// The mode of an attribute of this name.
-fn field_mode(names: &Names, attribute: &Option<Name>) -> Option<Mode>
-    ensures { result ≡ option_and_then (mode_of_attribute names.now) attribute.now }
-{
-    match attribute {
-        Some(name) => mode_of_attribute(names.attributes.get(name).copied()),
         None => None,
     }
 }
@@ -82,14 +73,14 @@ fn name_at(row: &[Name], place: usize) -> Option<Name>
 }
 
 // The mode of the attribute of a class in a place.
-fn attribute_mode(names: &Names, class: Option<usize>, place: usize) -> Option<Mode>
-    ensures { result ≡ attribute_mode names.now class place }
+fn attribute_mode(names: &Names, class: &Name, place: usize) -> Option<Mode>
+    ensures { result ≡ attribute_mode names.now (place_in names.now.classes class.now) place }
 {
-    match class {
-        Some(class) => {
-            let name = name_at(names.attributes_of(class), place);
-            field_mode(names, &name)
-        }
+    match names.classes.place(class) {
+        Some(class) => match name_at(names.attributes_of(class), place) {
+            Some(name) => mode_of_attribute(names, &name),
+            None => None,
+        },
         None => None,
     }
 }
@@ -104,14 +95,12 @@ fn mode_of_use(scope: &Scope<'_>, mode: &ModeOf) -> Option<Mode>
         ModeOf::Alpha => Some(Mode::Alpha),
         ModeOf::Named(name) => meaning_mode(scope.meaning_of_name(name)),
         ModeOf::Given { routine, place } => {
-            given_mode(scope, names.routines.get(routine).copied(), *place)
+            given_mode(scope, routine_named(names, routine), *place)
         }
         ModeOf::Yielded { routine, place } => {
-            yielded_mode(scope, names.routines.get(routine).copied(), *place)
+            yielded_mode(scope, routine_named(names, routine), *place)
         }
-        ModeOf::Attribute { class, place } => {
-            attribute_mode(names, names.classes.place(class), *place)
-        }
+        ModeOf::Attribute { class, place } => attribute_mode(names, class, *place),
     }
 }
 
@@ -175,18 +164,14 @@ fn mixes_modes(
 
 // ---- places
 
-// Whether a place is a target.
-fn is_target(role: Role) -> bool
-    ensures { result ≡ is_target role }
-{
-    matches!(role, Role::Target)
-}
-
 // Whether a place is a target that takes no values.
 fn is_fixed(role: Role, meaning: Meaning) -> bool
     ensures { result ≡ (is_target role && not (takes_values meaning)) }
 {
-    is_target(role) && !takes_values(meaning)
+    match role {
+        Role::Target => !takes_values(meaning),
+        _ => false,
+    }
 }
 
 // The first of the rules after its kind that a place in a role breaks, which means this.

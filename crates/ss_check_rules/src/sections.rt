@@ -8,7 +8,7 @@ ghost use Rattle.ss_names_scopes.specs.Seen.{view_scope};
 ghost use Rattle.ss_check_rules.specs.declared.error.CheckError.TheVariants as e;
 ghost use Rattle.ss_check_rules.specs.Kinds.{if_means, is_routine};
 ghost use Rattle.ss_check_rules.specs.Order.{check_error_order};
-ghost use Rattle.ss_check_rules.specs.Refusal.{breaks, use_breaks, used_breaks};
+ghost use Rattle.ss_check_rules.specs.Refusal.{breaks, used_breaks};
 
 use crate::counts::count_breaks;
 use crate::error::{CheckError, unless};
@@ -57,13 +57,6 @@ fn used_breaks(scope: &Scope<'_>, in_main: bool, line: Line, used: &Used) -> Opt
     }
 }
 
-// The first of the rules that a use breaks, in MAIN or in another section.
-fn use_breaks(scope: &Scope<'_>, in_main: bool, one: &Use) -> Option<CheckError>
-    ensures { result ≡ use_breaks (view_scope scope.now) in_main one.now }
-{
-    used_breaks(scope, in_main, one.line, &one.what)
-}
-
 /// What was found so far, or the first rule that the uses of a section break.
 pub fn section_breaks(
     scope: &Scope<'_>,
@@ -75,7 +68,7 @@ pub fn section_breaks(
 {
     let mut found = found;
     for one in uses {
-        found = earlier_of(found, use_breaks(scope, in_main, one));
+        found = earlier_of(found, used_breaks(scope, in_main, one.line, &one.what));
     }
     found
 }

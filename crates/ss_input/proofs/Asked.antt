@@ -1,5 +1,6 @@
 -- When the reader is asked.
-use Rattle.std.proofs.Common.{◌≡◌, ◌≢◌, inl, inr, ℕ, Bool, true, false, not, List, [], ◌∷◌, drop, Some, refl, sym, ap, ◌∙◌}
+use Rattle.std.proofs.Common.{◌≡◌, ◌≢◌, inl, inr, ℕ, Bool, true, List, [], ◌∷◌, drop, Some, refl, sym, ap, ◌∙◌}
+use Rattle.std.proofs.lemmas.Bool.{not-true}
 use Rattle.ss_input.proofs.Common.{BlockSeen, first_input_byte, is_separator, is_word_byte}
 use Rattle.ss_input.specs.Sources.{after_while, IsEnough, IsUnasked, IsNextWanted, HasWord}
 use Rattle.ss_input.proofs.Passages.{some_first}
@@ -48,17 +49,13 @@ module _ {R : Type 0} (passes : ℕ → Bool) where
 
 -- ---- a word
 
-separator-no : (b : Bool) → not b ≡ true → b ≡ false
-separator-no true e = absurd cc
-separator-no false e = refl
-
 -- before a word there is no separator
 no_gap : {R : Type 0} (b : BlockSeen R) → IsNextWanted is_word_byte b → after_while is_separator b.left ≡ b.left
 no_gap b h = by-left b.left refl
   where
     by-left : (l : List ℕ) → b.left ≡ l → after_while is_separator l ≡ l
     by-left [] e = refl
-    by-left (y ∷ l) e = rw (separator-no (is_separator y) (h.before y l e)) refl
+    by-left (y ∷ l) e = rw (not-true (is_separator y) (h.before y l e)) refl
 
 enough_gap : {R : Type 0} (a : BlockSeen R) → HasWord a → IsEnough is_separator a
 enough_gap a (inl end) = inl end

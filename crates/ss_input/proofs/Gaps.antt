@@ -1,22 +1,15 @@
 -- The words of bytes that were passed.
-use Rattle.std.proofs.Common.{◌≡◌, ℕ, ◌<◌, ◌≤◌, Bool, true, false, ◌&&◌, List, [], ◌∷◌, ◌++◌, length, drop, Ok, Err, refl, sym, ap, subst, ◌∙◌, arith}
+use Rattle.std.proofs.Common.{◌≡◌, ℕ, ◌<◌, ◌≤◌, Bool, true, false, List, [], ◌∷◌, ◌++◌, length, drop, Ok, Err, refl, sym, ap, subst, ◌∙◌, arith}
 use Rattle.std.specs.Prelude.{take_while}
 use Rattle.ss_input.proofs.Common.{BadData, list_all}
-use Rattle.std.proofs.lemmas.Bool.{lt-ltb, le-ltb}
+use Rattle.std.proofs.Math.Seq.{drop-append_seam}
+use Rattle.std.proofs.lemmas.Bool.{and_parts, lt-ltb, le-ltb}
 use Rattle.std.proofs.lemmas.List.Sums.{take_while-cons}
 use Rattle.ss_input.specs.Words.{is_separator, is_word_byte, gap, from_word, first_word, leading_word, separator_limit, word_limit}
 
 -- bytes that begin with none of a kind
 abbrev pub Stops : (ℕ → Bool) → List ℕ → Type 0
 Stops p t = (x : ℕ) (xs : List ℕ) → t ≡ x ∷ xs → p x ≡ false
-
-and-left : (a b : Bool) → (a && b) ≡ true → a ≡ true
-and-left true b e = refl
-and-left false b e = absurd cc
-
-and-right : (a b : Bool) → (a && b) ≡ true → b ≡ true
-and-right true b e = e
-and-right false b e = absurd cc
 
 stop-first : (p : ℕ → Bool) (t : List ℕ) → Stops p t → take_while p t ≡ []
 stop-first p [] h = refl
@@ -25,25 +18,23 @@ stop-first p (x ∷ t) h = take_while-cons p x t ∙ rw (h x t refl) refl
 pub take_while-all : (p : ℕ → Bool) (s t : List ℕ) → list_all p s ≡ true → Stops p t → take_while p (s ++ t) ≡ s
 take_while-all p [] t h stops = stop-first p t stops
 take_while-all p (x ∷ s) t h stops =
-    take_while-cons p x (s ++ t) ∙ rw (and-left (p x) (list_all p s) h) (ap (λ r. x ∷ r) (take_while-all p s t (and-right (p x) (list_all p s) h) stops))
+    let parts = and_parts (p x) (list_all p s) h in
+    take_while-cons p x (s ++ t) ∙ rw parts.0 (ap (λ r. x ∷ r) (take_while-all p s t parts.1 stops))
 
 at-least : (p : ℕ → Bool) (s t : List ℕ) → list_all p s ≡ true → length s ≤ length (take_while p (s ++ t))
 at-least p [] t h = omega arith
 at-least p (x ∷ s) t h =
-    let more = at-least p s t (and-right (p x) (list_all p s) h) in
-    let e : take_while p (x ∷ (s ++ t)) ≡ x ∷ take_while p (s ++ t) = take_while-cons p x (s ++ t) ∙ rw (and-left (p x) (list_all p s) h) refl in
+    let parts = and_parts (p x) (list_all p s) h in
+    let more = at-least p s t parts.1 in
+    let e : take_while p (x ∷ (s ++ t)) ≡ x ∷ take_while p (s ++ t) = take_while-cons p x (s ++ t) ∙ rw parts.0 refl in
     subst (λ l. length (x ∷ s) ≤ length l) (sym e) (omega (arith, more))
-
-drop-all : (s t : List ℕ) → drop (length s) (s ++ t) ≡ t
-drop-all [] t = refl
-drop-all (x ∷ s) t = drop-all s t
 
 -- ---- the next word
 
 pub word_next : (s t : List ℕ) → list_all is_separator s ≡ true → Stops is_separator t → length s ≤ separator_limit → from_word (s ++ t) ≡ Ok t
 word_next s t h stops small =
     let e : gap (s ++ t) ≡ s = take_while-all is_separator s t h stops in
-    rw (e, le-ltb separator_limit (length s) small, drop-all s t) refl
+    rw (e, le-ltb separator_limit (length s) small, drop-append_seam s t) refl
 
 pub too_many : (s t : List ℕ) → list_all is_separator s ≡ true → separator_limit < length s → from_word (s ++ t) ≡ Err BadData
 too_many s t h large =
@@ -58,7 +49,7 @@ word_is w t some h stops small = given (w ++ t) refl
     given [] e = absurd (some (sym e))
     given (x ∷ l) e =
         let f : first_word (x ∷ l) ≡ w = ap first_word e ∙ take_while-all is_word_byte w t h stops in
-        rw (f, le-ltb word_limit (length w) small) (ap (λ r. Ok (record { value = w; rest = r })) (ap (drop (length w)) e ∙ drop-all w t))
+        rw (f, le-ltb word_limit (length w) small) (ap (λ r. Ok (record { value = w; rest = r })) (ap (drop (length w)) e ∙ drop-append_seam w t))
 
 pub too_long : (w t : List ℕ) → list_all is_word_byte w ≡ true → word_limit < length w → leading_word (Ok (w ++ t)) ≡ Err BadData
 too_long [] t h large = absurd (omega (arith, large))

@@ -1,34 +1,17 @@
 -- From bytes that were passed to the words of the input.
-use Rattle.std.proofs.Common.{◌≡◌, ℕ, ◌≤◌, Bool, true, false, not, List, [], ◌∷◌, ◌++◌, length, Option, None, Ok, Err, refl, sym, ap, subst, ◌∙◌, arith}
+use Rattle.std.proofs.Common.{◌≡◌, ℕ, ◌≤◌, Bool, true, false, List, [], ◌∷◌, ◌++◌, length, Option, None, Ok, Err, refl, sym, ap, subst, ◌∙◌, arith}
 use Rattle.ss_input.proofs.Common.{append_assoc, BadData, BlockSeen, Consumes, first_input_byte, from_word, HasGivenBytes, HasPassed, HasPassedSome, is_ended, is_separator, is_word_byte, IsGapPassed, IsNextWanted, IsWordPassed, leading_word, length-append, list_all, list_all-append, next_word, no_word, Source}
+use Rattle.std.proofs.lemmas.Bool.{not-true, not_from_true}
 use Rattle.ss_input.specs.Inputs.{source_block, source_gap, HasReached, IsAhead, HasReadInput, HasFound}
 use Rattle.ss_input.proofs.Passages.{consumes_more}
 use Rattle.ss_input.proofs.Gaps.{Stops, word_next, too_many, word_is, too_long}
 
-no-separator : (b : Bool) → not b ≡ true → b ≡ false
-no-separator true e = absurd cc
-no-separator false e = refl
-
 -- where a byte of one kind is next, more bytes don't lengthen a run of the other kind
-stops-separators : {R : Type 0} (b : BlockSeen R) (more : List ℕ) → IsNextWanted is_word_byte b → (b.ended ≡ true → more ≡ []) → Stops is_separator (b.left ++ more)
-stops-separators b more h e x xs q = by-left b.left refl q where
-  by-left : (l : List ℕ) → b.left ≡ l → l ++ more ≡ x ∷ xs → is_separator x ≡ false
-  by-left [] i q = let n : more ≡ [] = e (h.at_end i) in absurd (cons-nil (sym n ∙ q)) where
-    cons-nil : [] ≡ x ∷ xs → ⊥
-    cons-nil e = absurd cc
-  by-left (y ∷ l) i q = let same : y ≡ x = cc in subst (λ z. is_separator z ≡ false) same (no-separator (is_separator y) (h.before y l i))
-
-word-byte-not : (b : Bool) → b ≡ true → not b ≡ false
-word-byte-not true e = refl
-word-byte-not false e = absurd cc
-
-stops-word : {R : Type 0} (b : BlockSeen R) (more : List ℕ) → IsNextWanted is_separator b → (b.ended ≡ true → more ≡ []) → Stops is_word_byte (b.left ++ more)
-stops-word b more h e x xs q = by-left b.left refl q where
-  by-left : (l : List ℕ) → b.left ≡ l → l ++ more ≡ x ∷ xs → is_word_byte x ≡ false
-  by-left [] i q = let n : more ≡ [] = e (h.at_end i) in absurd (cons-nil (sym n ∙ q)) where
-    cons-nil : [] ≡ x ∷ xs → ⊥
-    cons-nil e = absurd cc
-  by-left (y ∷ l) i q = let same : y ≡ x = cc in subst (λ z. is_word_byte z ≡ false) same (word-byte-not (is_separator y) (h.before y l i))
+stops : {R : Type 0} (wanted other : ℕ → Bool) → ((x : ℕ) → wanted x ≡ true → other x ≡ false) → (b : BlockSeen R) (more : List ℕ) → IsNextWanted wanted b → (b.ended ≡ true → more ≡ []) → Stops other (b.left ++ more)
+stops wanted other tell b more h e x xs q = by-left b.left refl q where
+  by-left : (l : List ℕ) → b.left ≡ l → l ++ more ≡ x ∷ xs → other x ≡ false
+  by-left [] i q = let none : [] ≡ x ∷ xs = sym (e (h.at_end i)) ∙ q in absurd cc
+  by-left (y ∷ l) i q = let same : y ≡ x = cc in subst (λ z. other z ≡ false) same (tell y (h.before y l i))
 
 -- the bytes buffered before, with those that the reader gave, are those that were passed and those buffered after
 shifted : (left got bytes left' more : List ℕ) → left ++ got ≡ bytes ++ left' → left ++ (got ++ more) ≡ bytes ++ (left' ++ more)
@@ -67,7 +50,7 @@ module _ {R : Type 0} (remaining : R → Option (List ℕ)) where
   reached_word old mid h small more input e st =
       let r = passed_so old (source_block mid) (source_gap mid) h.passed more input st in (
         record { gap = r.0; separators = r.1; long = r.2; input_is = r.3 },
-        subst (λ i. from_word i ≡ Ok ((source_block mid).left ++ more)) (sym r.3) (word_next r.0 ((source_block mid).left ++ more) r.1 (stops-separators (source_block mid) more h.next e) (omega (arith, r.2, small))),
+        subst (λ i. from_word i ≡ Ok ((source_block mid).left ++ more)) (sym r.3) (word_next r.0 ((source_block mid).left ++ more) r.1 (stops is_word_byte is_separator (λ x w. not-true (is_separator x) w) (source_block mid) more h.next e) (omega (arith, r.2, small))),
       )
 
   first_none : (l : List ℕ) → first_input_byte l ≡ None → l ≡ []
@@ -108,7 +91,7 @@ module _ {R : Type 0} (remaining : R → Option (List ℕ)) where
       after_end = λ e. let u = h.passed.passes.after_end e in let v = g.0.after_end u.1 in (ap (λ t. t ++ g.0.got) u.0 ∙ v.0, v.1);
       says = λ more input e st.
           let r = before_word w g.0 more input e st in
-          let n : next_word input ≡ Ok (record { value = w; rest = (source_block new).left ++ more }) = ap leading_word r.0 ∙ word_is w ((source_block new).left ++ more) r.1 g.1 (stops-word (source_block new) more before e) len in
+          let n : next_word input ≡ Ok (record { value = w; rest = (source_block new).left ++ more }) = ap leading_word r.0 ∙ word_is w ((source_block new).left ++ more) r.1 g.1 (stops is_separator is_word_byte (λ x s. not_from_true (is_separator x) s) (source_block new) more before e) len in
           record {
             rest = (source_block new).left ++ more;
             ahead = record { gap = []; separators = refl; long = sym none; input_is = refl };
@@ -152,8 +135,8 @@ module _ {R : Type 0} (remaining : R → Option (List ℕ)) where
   }
 
   -- a source that differs only in what it remembers
-  pub finds_moved : (old a b : Source R) (Says : List ℕ → Type 0) → source_block a ≡ source_block b → source_gap a ≡ source_gap b → HasFound remaining old a Says → HasFound remaining old b Says
-  finds_moved old a b Says block gap h = record {
+  pub finds_moved : (old a b : Source R) (Says : List ℕ → Type 0) → source_block a ≡ source_block b → HasFound remaining old a Says → HasFound remaining old b Says
+  finds_moved old a b Says block h = record {
     got = h.got;
     consumed = subst (λ k. Consumes (remaining (source_block old).reader) (remaining k.reader) h.got) block h.consumed;
     after_end = λ e. let u = h.after_end e in (u.0, subst (λ k. k.ended ≡ true) block u.1);
@@ -176,12 +159,8 @@ module _ {R : Type 0} (remaining : R → Option (List ℕ)) where
 
   -- some bytes were read, and nothing is found
   pub nothing_found : (old a b : Source R) → source_block a ≡ source_block b → HasGivenBytes remaining (source_block old) (source_block a) → HasFound remaining old b (λ input. Unit {0})
-  nothing_found old a b block h = record {
-    got = h.got;
-    consumed = subst (λ k. Consumes (remaining (source_block old).reader) (remaining k.reader) h.got) block h.consumed;
-    after_end = λ e. let u = h.after_end e in (u.0, subst (λ k. k.ended ≡ true) block u.1);
-    says = λ more input e st. tt;
-  }
+  nothing_found old a b block h =
+      finds_moved old a b (λ input. Unit {0}) block (record { got = h.got; consumed = h.consumed; after_end = h.after_end; says = λ more input e st. tt })
 
   no_word_more : (l more : List ℕ) (ended : Bool) → (l ≡ [] → more ≡ []) → no_word (Ok l) ≡ Ok ended → no_word (Ok (l ++ more)) ≡ Ok ended
   no_word_more [] more ended h e = ap (λ m. no_word (Ok m)) (h refl) ∙ e

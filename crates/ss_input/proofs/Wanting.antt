@@ -1,33 +1,22 @@
 -- Where the reader failed, more of its bytes were needed.
-use Rattle.std.proofs.Common.{◌≡◌, ℕ, Bool, true, false, not, ◌&&◌, List, [], ◌∷◌, ◌++◌, Option, refl, ap, ◌∙◌}
+use Rattle.std.proofs.Common.{◌≡◌, ℕ, Bool, true, List, [], ◌∷◌, ◌++◌, Option, refl, ap, ◌∙◌}
+use Rattle.std.proofs.lemmas.Bool.{and_parts, not-true}
 use Rattle.ss_input.proofs.Common.{append-nil, BlockSeen, is_separator, is_word_byte, list_all}
 use Rattle.ss_input.specs.Sources.{IsGapPassed, MustAskMore, IsLackingWord, after_while}
 use Rattle.ss_input.proofs.Passages.{passes_then}
 
-and-left : (a b : Bool) → (a && b) ≡ true → a ≡ true
-and-left true b e = refl
-and-left false b e = absurd cc
-
-and-right : (a b : Bool) → (a && b) ≡ true → b ≡ true
-and-right true b e = e
-and-right false b e = absurd cc
-
 -- nothing comes after bytes that all pass
 pub after_all : (p : ℕ → Bool) (bs : List ℕ) → list_all p bs ≡ true → after_while p bs ≡ []
 after_all p [] e = refl
-after_all p (b ∷ bs) e = rw (and-left (p b) (list_all p bs) e) (after_all p bs (and-right (p b) (list_all p bs) e))
-
-no-separator : (b : Bool) → not b ≡ true → b ≡ false
-no-separator true e = absurd cc
-no-separator false e = refl
+after_all p (b ∷ bs) e = let parts = and_parts (p b) (list_all p bs) e in rw parts.0 (after_all p bs parts.1)
 
 word_first : (w : List ℕ) → list_all is_word_byte w ≡ true → after_while is_separator w ≡ w
 word_first [] e = refl
-word_first (x ∷ w) e = rw (no-separator (is_separator x) (and-left (is_word_byte x) (list_all is_word_byte w) e)) refl
+word_first (x ∷ w) e = let parts = and_parts (is_word_byte x) (list_all is_word_byte w) e in rw (not-true (is_separator x) parts.0) refl
 
 after_gap : (gap w : List ℕ) → list_all is_separator gap ≡ true → list_all is_word_byte w ≡ true → after_while is_separator (gap ++ w) ≡ w
 after_gap [] w s e = word_first w e
-after_gap (b ∷ gap) w s e = rw (and-left (is_separator b) (list_all is_separator gap) s) (after_gap gap w (and-right (is_separator b) (list_all is_separator gap) s) e)
+after_gap (b ∷ gap) w s e = let parts = and_parts (is_separator b) (list_all is_separator gap) s in rw parts.0 (after_gap gap w parts.1 e)
 
 -- separators and then the bytes of a word
 pub short_so : (gap w : List ℕ) → list_all is_separator gap ≡ true → list_all is_word_byte w ≡ true → after_while is_word_byte (after_while is_separator (gap ++ w)) ≡ []

@@ -1,12 +1,12 @@
 -- Steps for each item of a list.
 use Rattle.std.proofs.Common.{◌≡◌, ℕ, zero, suc, ◌+◌, ◌<◌, List, [], ◌∷◌, ◌++◌, length, get_or, take, map, Option, Some, None, refl, sym, ap, subst, ◌∙◌, arith}
-use Rattle.std.proofs.lemmas.List.{take_more, map-append}
+use Rattle.std.proofs.lemmas.List.{get_or-map, length-map, map-append, take_more}
 use Rattle.ss_names_meaning.specs.declared.error.ResolveError.{ResolveError}
 use Rattle.ss_names_meaning.specs.declared.error.ResolveError.TheVariants.{Memory, Unresolved}
 use Rattle.ss_names_meaning.specs.Answers.{◌>>=◌, each, HasFailed}
 
 -- one more item in front
-abbrev cons_of : {B : Type 0} → Option B → Option (List B) → Option (List B)
+abbrev pub cons_of : {B : Type 0} → Option B → Option (List B) → Option (List B)
 cons_of r q = r >>= λ y. q >>= λ ys. Some (y ∷ ys)
 
 cons_more : {B : Type 0} (r : Option B) (q p : Option (List B)) (bs : List B) (b : B) →
@@ -26,22 +26,9 @@ each_more step [] a bs b e h =
     rw (none, h) refl
 each_more step (x ∷ xs) a bs b e h = cons_more (step x) (each step xs) (each step (xs ++ a ∷ [])) bs b e (λ ys k. each_more step xs a ys b k h)
 
-cons_none : {B : Type 0} (r : Option B) → cons_of r None ≡ None
+pub cons_none : {B : Type 0} (r : Option B) → cons_of r None ≡ None
 cons_none None = refl
 cons_none (Some y) = refl
-
-pub each_none : {X A B : Type 0} (step : A → Option B) (v : X → A) (xs : List X) (i : ℕ) (d : X) →
-    i < length xs → step (v (get_or xs i d)) ≡ None → each step (map v xs) ≡ None
-unfolding each
-each_none step v [] i d lt h = absurd (omega (arith, lt))
-each_none step v (x ∷ xs) zero d lt h = rw h refl
-each_none step v (x ∷ xs) (suc i) d lt h = rw (each_none step v xs i d (omega (arith, lt)) h) (cons_none (step (v x)))
-
--- a call failed for an item
-pub each_fails : {X A B : Type 0} (step : A → Option B) (v : X → A) (xs : List X) (i : ℕ) (x : X) (e : ResolveError) →
-    i < length xs → x ≡ get_or xs i x → HasFailed e (step (v x)) → HasFailed e (each step (map v xs))
-each_fails step v xs i x Memory lt is h = tt
-each_fails step v xs i x Unresolved lt is h = each_none step v xs i x lt (subst (λ y. step (v y) ≡ None) is h)
 
 -- a call gave a value for an item
 pub each_next : {X A B Y : Type 0} (step : A → Option B) (v : X → A) (view : Y → B) (xs : List X) (i : ℕ) (x : X) (old new : List Y) (y : Y) →
@@ -81,14 +68,11 @@ pub each_at_next : {A B : Type 0} (step : A → Option B) (xs : List A) (i : ℕ
     each step (take i xs) ≡ Some old → step (get_or xs i d) ≡ Some y → each step (take (i + 1) xs) ≡ Some new
 each_at_next step xs i d old new y lt e h g = rw (take_more xs i d lt, e) (each_more step (take i xs) (get_or xs i d) old y h g)
 
-pub each_plain_fails : {A B : Type 0} (step : A → Option B) (xs : List A) (i : ℕ) (x : A) (e : ResolveError) →
-    i < length xs → x ≡ get_or xs i x → HasFailed e (step x) → HasFailed e (each step xs)
-each_plain_fails step xs i x e lt is h = each_at_fails step xs i x e lt (subst (λ y. HasFailed e (step y)) is h)
-
-pub each_plain_next : {A B : Type 0} (step : A → Option B) (xs : List A) (i : ℕ) (x : A) (old new : List B) (y : B) →
-    i < length xs → x ≡ get_or xs i x → new ≡ old ++ y ∷ [] →
-    each step (take i xs) ≡ Some old → step x ≡ Some y → each step (take (i + 1) xs) ≡ Some new
-each_plain_next step xs i x old new y lt is e h g = each_at_next step xs i x old new y lt e h (subst (λ z. step z ≡ Some y) is g)
+-- a call failed for an item that is seen as another
+pub each_fails : {X A B : Type 0} (step : A → Option B) (v : X → A) (xs : List X) (i : ℕ) (x : X) (e : ResolveError) →
+    i < length xs → x ≡ get_or xs i x → HasFailed e (step (v x)) → HasFailed e (each step (map v xs))
+each_fails step v xs i x e lt is h =
+    each_at_fails step (map v xs) i (v x) e (subst (λ n. i < n) (sym (length-map xs v)) lt) (subst (λ y. HasFailed e (step y)) (ap v is ∙ sym (get_or-map v xs i x (v x) lt)) h)
 
 -- ---- results that are seen through a view
 

@@ -5,16 +5,8 @@ use Rattle.std.proofs.lemmas.List.{append-nil}
 use Rattle.std.proofs.lemmas.List.Elements.{filter_more}
 use Rattle.ss_names_meaning.specs.declared.error.ResolveError.{ResolveError}
 use Rattle.ss_names_meaning.specs.declared.error.ResolveError.TheVariants.{Memory, Unresolved}
-use Rattle.ss_names_meaning.specs.Answers.{◌>>=◌, each, HasFailed}
-use Rattle.ss_names_meaning.proofs.Each.{each_more}
-
--- one more item in front
-abbrev cons_of : {B : Type 0} → Option B → Option (List B) → Option (List B)
-cons_of r q = r >>= λ y. q >>= λ ys. Some (y ∷ ys)
-
-cons_none : {B : Type 0} (r : Option B) → cons_of r None ≡ None
-cons_none None = refl
-cons_none (Some y) = refl
+use Rattle.ss_names_meaning.specs.Answers.{each, HasFailed}
+use Rattle.ss_names_meaning.proofs.Each.{cons_none, cons_of, each_more}
 
 -- a list without a result has none with more after it
 front_of : {B : Type 0} (r : Option B) (q p : Option (List B)) → cons_of r q ≡ None → (q ≡ None → p ≡ None) → cons_of r p ≡ None

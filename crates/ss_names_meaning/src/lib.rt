@@ -12,4 +12,4 @@ pub use classes::NamedClass;
 pub use error::ResolveError;
 pub use laid::{Laid, lay_out};
 pub use layouts::layout;
-pub use ranking::{disciplines, resolve_ties};
+pub use ranking::resolve_ties;

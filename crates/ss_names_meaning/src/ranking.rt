@@ -1,8 +1,7 @@
 //! The disciplines of sets, and the keys that break the ties of notices.
 
-ghost use Rattle.std.specs.Prelude.{◌≡◌, ◌==◌, IfOk};
+ghost use Rattle.std.specs.Prelude.{◌==◌};
 ghost use Rattle.std.specs.List.{filter};
-ghost use Rattle.std.specs.Option.{option_map};
 ghost use Rattle.ss_names_declarations.specs.NameTable.{same_name};
 ghost use Rattle.ss_names_meaning.specs.Answers.{HasGiven, each};
 ghost use Rattle.ss_names_meaning.specs.Layouts.{discipline, disciplines, rank_key, ordered, rank_keys, ranked_by, tie_keys, tied_by};
@@ -12,7 +11,7 @@ use crate::layouts::attribute_named;
 use ss_base::{Discipline, Name, RankKey, RankKeys};
 use ss_names::{DefinedOrder, Names, RankedBy, Set, TiedBy};
 use ss_names_declarations::SetRule;
-use std::alloc::{AllocError, Global};
+use std::alloc::Global;
 
 // An attribute of a class as a key.
 fn key_of(names: &Names, class: usize, high: bool, name: &Name) -> Result<RankKey, ResolveError>
@@ -165,19 +164,4 @@ pub(crate) fn resolve_disciplines(
     ensures { HasGiven (λ v. v.items) result (disciplines names.now) }
 {
     disciplines_of(alloc, names, &names.sets)
-}
-
-/// The disciplines of the sets, by their numbers. None if a ranked set has no class of members, or has a key
-/// that is no attribute of that class.
-///
-/// # Errors
-/// `AllocError` where memory is refused.
-pub fn disciplines(alloc: Global, names: &Names) -> Result<Option<Vec<Discipline>>, AllocError>
-    ensures { IfOk result (λ d. option_map (λ v. v.items) d ≡ disciplines names.now) }
-{
-    match resolve_disciplines(alloc, names) {
-        Ok(disciplines) => Ok(Some(disciplines)),
-        Err(ResolveError::Unresolved) => Ok(None),
-        Err(ResolveError::Memory) => Err(AllocError),
-    }
 }

@@ -1,3 +1,2 @@
 mod Entering
-mod Found
 pub mod Finding

@@ -124,10 +124,10 @@ fn modes_of(alloc: Global, seed: Seed, uses: &[Use]) -> Result<Table<Name, Mode>
 }
 
 // The mode of a local variable: the first that DEFINEs give it, or else that of NORMALLY.
-fn mode_in(usual: Option<Mode>, modes: &Table<Name, Mode>, name: &Name) -> Option<Mode>
-    ensures { result ≡ option_or (value_for modes.now name.now) usual }
+fn mode_in(names: &Names, modes: &Table<Name, Mode>, name: &Name) -> Option<Mode>
+    ensures { result ≡ option_or (value_for modes.now name.now) names.now.usual }
 {
-    modes.get(name).copied().or(usual)
+    modes.get(name).copied().or(names.usual)
 }
 
 // Adds the local variable that a use names.
@@ -141,7 +141,7 @@ fn add_local(
 {
     match local_of(names, &one.what) {
         Some(name) => {
-            let mode = mode_in(names.usual, modes, &name);
+            let mode = mode_in(names, modes, &name);
             insert_first(entries, name, mode)
         }
         None => Ok(()),

@@ -48,10 +48,10 @@ fn mode_given(mode: Option<Option<Mode>>) -> Option<Mode>
 fn mode_in_section(sections: &[Locals], section: usize, number: usize) -> Option<Mode>
     ensures { result ≡ local_mode_at (slice_get sections.now section) number }
 {
-    match sections.get(section) {
-        Some(locals) => mode_given(locals.mode_at(number)),
-        None => None,
-    }
+    let Some(locals) = sections.get(section) else {
+        return None;
+    };
+    mode_given(locals.mode_at(number))
 }
 
 // The mode of the parameter of a section that comes so many places after those that it is given.
@@ -77,20 +77,17 @@ fn yielded_in_section(
 ) -> Option<Mode>
     ensures { result ≡ local_mode_at (slice_get sections.now section) (given + place) }
 {
-    match sections.get(section) {
-        Some(locals) => mode_after(locals, given, place),
-        None => None,
-    }
+    let Some(locals) = sections.get(section) else {
+        return None;
+    };
+    mode_after(locals, given, place)
 }
 
 /// Whether a section is MAIN.
 pub fn is_main(section: &Section) -> bool
     ensures { result ≡ is_main_section (view_section section.now) }
 {
-    match &section.kind {
-        SectionKind::Main => true,
-        _ => false,
-    }
+    matches!(&section.kind, SectionKind::Main)
 }
 
 /// Whether a class is of the kind that a place needs.

@@ -1,13 +1,13 @@
 -- The pieces of a picture are its only cut into fields and the bytes between them.
 use Rattle.std.proofs.Common.{◌≡◌, ◌≢◌, ℕ, zero, suc, ◌+◌, ◌-◌, ◌<◌, eqb, cond, List, [], ◌∷◌, ◌++◌, length, drop, replicate, refl, sym, ap, ◌∙◌, subst, arith, length-append}
 use Rattle.std.specs.Bool.{⊤}
-use Rattle.std.proofs.lemmas.Bool.{cond_both, eqb-false, ne_eqb}
+use Rattle.std.proofs.lemmas.Bool.{cond_both, ne_eqb}
 use Rattle.std.proofs.lemmas.List.{append_assoc, drop_at, length-replicate}
 use Rattle.ss_picture.specs.declared.field.Field.{Field}
-use Rattle.ss_picture.specs.Pictures.{Piece, Literal, Slot, stars, decimals_at, field_of, leading_field, characters_of, characters, byte_before, pieces_after, pieces_of, joined}
+use Rattle.ss_picture.specs.Pictures.{Piece, Literal, Slot, stars, decimals_at, field_of, leading_field, characters_of, characters, byte_before, pieces_of, joined}
 use Rattle.ss_picture.specs.MaximalRuns.{HasNoAsterisk, IsWideEnough, IsMaximalBefore, AreMaximalRuns, PiecesCut, OnlyPiecesCut}
-use Rattle.ss_picture.proofs.Stars.{stars_more, stars_none, stars-replicate, field_some, after_field, after_plain_field}
-use Rattle.ss_picture.proofs.Pieces.{pieces_after-drop, drop_less, pieces_of_other, pieces_of_field, joined-pieces_of}
+use Rattle.ss_picture.proofs.Stars.{stars_more, stars_none, stars-replicate, after_field, after_plain_field}
+use Rattle.ss_picture.proofs.Pieces.{by_pieces, pieces_of_other, pieces_of_field, joined-pieces_of}
 
 -- ---- the pieces are maximal runs
 
@@ -23,14 +23,12 @@ not_byte byte (Literal bytes ∷ more) rest field is = cc
 not_byte byte (Slot other ∷ more) rest field is = cc
 
 starred : (bytes : List ℕ) (field : Field) (rest : List Piece) → pieces_of bytes ≡ Slot field ∷ rest → 0 < stars bytes
-starred [] field rest = λ is. absurd (nothing is)
-  where
-    nothing : [] ≡ Slot field ∷ rest → ⊥
-    nothing e = cc
-starred (byte ∷ bytes) field rest =
-    cond_both (eqb byte 42) (Slot (leading_field (byte ∷ bytes)) ∷ pieces_after ((leading_field (byte ∷ bytes)).width - 1) bytes) (byte_before byte (pieces_after 0 bytes)) (λ front. front ≡ Slot field ∷ rest → 0 < stars (byte ∷ bytes))
-    (λ same is. subst (λ test. 0 < cond test (suc (stars bytes)) 0) (sym same) (omega arith))
-    (λ other is. absurd (not_byte byte (pieces_after 0 bytes) rest field is))
+starred bytes =
+    by_pieces (λ bytes pieces. (field : Field) (rest : List Piece) → pieces ≡ Slot field ∷ rest → 0 < stars bytes)
+    (λ field rest is. absurd cc)
+    (λ bytes some h field rest is. some)
+    (λ byte bytes other h field rest is. absurd (not_byte byte (pieces_of bytes) rest field is))
+    0 bytes
 
 -- another byte before maximal runs
 maximal-byte_before : (byte : ℕ) (pieces : List Piece) → byte ≢ 42 → AreMaximalRuns pieces → AreMaximalRuns (byte_before byte pieces)
@@ -53,13 +51,8 @@ full-byte_before byte [] = tt
 full-byte_before byte (Literal bytes ∷ rest) = tt
 full-byte_before byte (Slot field ∷ rest) = tt
 
-full : (skipped : ℕ) (bytes : List ℕ) → IsFull (pieces_after skipped bytes)
-full skipped [] = tt
-full zero (byte ∷ bytes) =
-    cond_both (eqb byte 42) (Slot (leading_field (byte ∷ bytes)) ∷ pieces_after ((leading_field (byte ∷ bytes)).width - 1) bytes) (byte_before byte (pieces_after 0 bytes)) IsFull
-    (λ same. tt)
-    (λ other. full-byte_before byte (pieces_after 0 bytes))
-full (suc skipped) (byte ∷ bytes) = full skipped bytes
+full : (bytes : List ℕ) → IsFull (pieces_of bytes)
+full bytes = by_pieces (λ bytes pieces. IsFull pieces) tt (λ bytes some h. tt) (λ byte bytes other h. full-byte_before byte (pieces_of bytes)) 0 bytes
 
 -- where a byte comes before pieces, a field ends before it, unless it is a period directly before a field
 two_bytes : (byte first : ℕ) (bytes : List ℕ) → byte ∷ first ∷ bytes ≡ 46 ∷ [] → ⊥
@@ -91,25 +84,15 @@ ends_before : (field : Field) (after : List ℕ) → stars after ≡ 0 → (fiel
 ends_before field [] none plain_none = tt
 ends_before field (byte ∷ bytes) none plain_none =
     subst (λ (pieces : List Piece). IsMaximalBefore (Slot field) pieces) (sym (pieces_of_other byte bytes (no_asterisk byte bytes none)))
-    (ends_before_byte field byte (pieces_of bytes) (full 0 bytes) (λ plain next rest pieces is. no_decimals_possible bytes next rest byte (plain_none plain) pieces is))
+    (ends_before_byte field byte (pieces_of bytes) (full bytes) (λ plain next rest pieces is. no_decimals_possible bytes next rest byte (plain_none plain) pieces is))
 
-maximal-pieces_after : (skipped : ℕ) (bytes : List ℕ) → AreMaximalRuns (pieces_after skipped bytes)
-maximal-pieces_after skipped [] = tt
-maximal-pieces_after zero (byte ∷ bytes) =
-    let field : Field = leading_field (byte ∷ bytes) in
-    let after : List ℕ = drop field.width (byte ∷ bytes) in
-    cond_both (eqb byte 42) (Slot field ∷ pieces_after (field.width - 1) bytes) (byte_before byte (pieces_after 0 bytes)) AreMaximalRuns
-    (λ same.
-    let some : 0 < stars (byte ∷ bytes) = subst (λ test. 0 < cond test (suc (stars bytes)) 0) (sym same) (omega arith) in
-    let after_is : pieces_after (field.width - 1) bytes ≡ pieces_of after =
-    pieces_after-drop (field.width - 1) bytes ∙ ap pieces_of (drop_less field.width byte bytes (field_some (byte ∷ bytes) some))
-    in
-    let ends : IsMaximalBefore (Slot field) (pieces_after (field.width - 1) bytes) =
-    subst (λ (pieces : List Piece). IsMaximalBefore (Slot field) pieces) (sym after_is) (ends_before field after (after_field (byte ∷ bytes)) (after_plain_field (byte ∷ bytes)))
-    in
-    (room_of (stars (byte ∷ bytes)) (decimals_at (drop (stars (byte ∷ bytes)) (byte ∷ bytes))) some, ends, maximal-pieces_after (field.width - 1) bytes))
-    (λ other. maximal-byte_before byte (pieces_after 0 bytes) (eqb-false byte 42 other) (maximal-pieces_after 0 bytes))
-maximal-pieces_after (suc skipped) (byte ∷ bytes) = maximal-pieces_after skipped bytes
+maximal-pieces_of : (bytes : List ℕ) → AreMaximalRuns (pieces_of bytes)
+maximal-pieces_of bytes =
+    by_pieces (λ bytes pieces. AreMaximalRuns pieces) tt
+    (λ bytes some runs.
+    (room_of (stars bytes) (decimals_at (drop (stars bytes) bytes)) some, ends_before (leading_field bytes) (drop (leading_field bytes).width bytes) (after_field bytes) (after_plain_field bytes), runs))
+    (λ byte bytes other runs. maximal-byte_before byte (pieces_of bytes) other runs)
+    0 bytes
 
 -- ---- maximal runs are found again
 
@@ -214,7 +197,7 @@ pieces_of-joined (Slot field ∷ rest) runs =
     ∙ ap (λ (more : List Piece). Slot field ∷ more) (pieces_of-joined rest runs.2)
 
 pub pieces_cut : PiecesCut
-pieces_cut picture = record { whole = joined-pieces_of picture; maximal = maximal-pieces_after 0 picture }
+pieces_cut picture = record { whole = joined-pieces_of picture; maximal = maximal-pieces_of picture }
 
 pub only_pieces_cut : OnlyPiecesCut
 only_pieces_cut picture pieces cuts = sym (ap pieces_of (sym cuts.whole) ∙ pieces_of-joined pieces cuts.maximal)

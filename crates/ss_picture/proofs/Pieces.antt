@@ -1,8 +1,9 @@
 -- Laws of the pieces of a picture.
 use Rattle.std.proofs.Common.{◌≡◌, ◌≢◌, ℕ, zero, suc, ◌+◌, ◌-◌, ◌<◌, ◌≤◌, eqb, cond, List, [], ◌∷◌, ◌++◌, length, get_or, take, drop, refl, sym, ap, ◌∙◌, subst, arith, length-append, leb}
 use Rattle.std.proofs.lemmas.List.{append_assoc, take_at, drop_at, length-replicate, get_or_default}
+use Rattle.std.proofs.Math.Nat.{add_assoc}
 use Rattle.std.specs.Bool.{⊤}
-use Rattle.std.proofs.lemmas.Bool.{cond_both, leb-true, ne_eqb}
+use Rattle.std.proofs.lemmas.Bool.{cond_both, eqb-false, leb-true, ne_eqb}
 use borrow.Rule.Slice.PartMut.{put_mid}
 use Rattle.ss_base.specs.declared.value.Value.TheVariants.{Whole, Text}
 use Rattle.ss_picture.specs.declared.field.Field.{Field}
@@ -22,6 +23,10 @@ pieces_after-drop zero [] = refl
 pieces_after-drop zero (byte ∷ bytes) = refl
 pieces_after-drop (suc skipped) [] = refl
 pieces_after-drop (suc skipped) (byte ∷ bytes) = pieces_after-drop skipped bytes
+
+drop_none : (n : ℕ) → drop {A = ℕ} n [] ≡ []
+drop_none zero = refl
+drop_none (suc n) = refl
 
 -- one byte less to drop
 pub drop_less : {X : Type 0} → (n : ℕ) (x : X) (xs : List X) → 0 < n → drop (n - 1) xs ≡ drop n (x ∷ xs)
@@ -43,6 +48,25 @@ pieces_of_field (byte ∷ bytes) some =
     ∙ ap (λ (rest : List Piece). Slot field ∷ rest) (pieces_after-drop (field.width - 1) bytes)
     ∙ ap (λ (rest : List ℕ). Slot field ∷ pieces_of rest) (drop_less field.width byte bytes (field_some (byte ∷ bytes) some))
 
+-- what holds of no pieces, and of a field or another byte before pieces of which it holds, holds of the pieces of any bytes
+pub by_pieces : (P : List ℕ → List Piece → Type 0) → P [] []
+    → ((bytes : List ℕ) → 0 < stars bytes → P (drop (leading_field bytes).width bytes) (pieces_of (drop (leading_field bytes).width bytes)) → P bytes (Slot (leading_field bytes) ∷ pieces_of (drop (leading_field bytes).width bytes)))
+    → ((byte : ℕ) (bytes : List ℕ) → byte ≢ 42 → P bytes (pieces_of bytes) → P (byte ∷ bytes) (byte_before byte (pieces_of bytes)))
+    → (skipped : ℕ) (bytes : List ℕ) → P (drop skipped bytes) (pieces_after skipped bytes)
+by_pieces P none field other skipped [] = subst (λ bytes. P bytes []) (sym (drop_none skipped)) none
+by_pieces P none field other zero (byte ∷ bytes) =
+    let found : Field = leading_field (byte ∷ bytes) in
+    cond_both (eqb byte 42) (Slot found ∷ pieces_after (found.width - 1) bytes) (byte_before byte (pieces_after 0 bytes)) (P (byte ∷ bytes))
+    (λ same.
+    let some : 0 < stars (byte ∷ bytes) = subst (λ test. 0 < cond test (suc (stars bytes)) 0) (sym same) (omega arith) in
+    let left : drop (found.width - 1) bytes ≡ drop found.width (byte ∷ bytes) = drop_less found.width byte bytes (field_some (byte ∷ bytes) some) in
+    let after : pieces_after (found.width - 1) bytes ≡ pieces_of (drop found.width (byte ∷ bytes)) = pieces_after-drop (found.width - 1) bytes ∙ ap pieces_of left in
+    let further = subst (λ (l : List ℕ). P l (pieces_after (found.width - 1) bytes)) left (by_pieces P none field other (found.width - 1) bytes) in
+    subst (λ (rest : List Piece). P (byte ∷ bytes) (Slot found ∷ rest)) (sym after)
+    (field (byte ∷ bytes) some (subst (λ (rest : List Piece). P (drop found.width (byte ∷ bytes)) rest) after further)))
+    (λ test. other byte bytes (eqb-false byte 42 test) (by_pieces P none field other 0 bytes))
+by_pieces P none field other (suc skipped) (byte ∷ bytes) = by_pieces P none field other skipped bytes
+
 -- each field has one start
 pub length-starts_among : (place : ℕ) (pieces : List Piece) → length (starts_among place pieces) ≡ length (fields_among pieces)
 length-starts_among place [] = refl
@@ -56,25 +80,13 @@ joined-byte_before byte [] = refl
 joined-byte_before byte (Literal bytes ∷ rest) = refl
 joined-byte_before byte (Slot field ∷ rest) = refl
 
-drop_none : (n : ℕ) → drop {A = ℕ} n [] ≡ []
-drop_none zero = refl
-drop_none (suc n) = refl
-
-pub joined-pieces_after : (skipped : ℕ) (bytes : List ℕ) → joined (pieces_after skipped bytes) [] ≡ drop skipped bytes
-joined-pieces_after skipped [] = sym (drop_none skipped)
-joined-pieces_after zero (byte ∷ bytes) =
-    let field : Field = leading_field (byte ∷ bytes) in
-    cond_both (eqb byte 42) (Slot field ∷ pieces_after (field.width - 1) bytes) (byte_before byte (pieces_after 0 bytes)) (λ front. joined front [] ≡ byte ∷ bytes)
-    (λ same.
-    let some : 0 < stars (byte ∷ bytes) = subst (λ test. 0 < cond test (suc (stars bytes)) 0) (sym same) (omega arith) in
-    ap (λ rest. characters field ++ rest) (joined-pieces_after (field.width - 1) bytes ∙ drop_less field.width byte bytes (field_some (byte ∷ bytes) some))
-    ∙ characters_at (byte ∷ bytes))
-    (λ other. joined-byte_before byte (pieces_after 0 bytes) ∙ ap (λ rest. byte ∷ rest) (joined-pieces_after 0 bytes))
-joined-pieces_after (suc skipped) (byte ∷ bytes) = joined-pieces_after skipped bytes
-
 -- the pieces of a picture without items are the picture
 pub joined-pieces_of : (picture : List ℕ) → joined (pieces_of picture) [] ≡ picture
-joined-pieces_of picture = joined-pieces_after 0 picture
+joined-pieces_of picture =
+    by_pieces (λ bytes pieces. joined pieces [] ≡ bytes) refl
+    (λ bytes some is. ap (λ rest. characters (leading_field bytes) ++ rest) is ∙ characters_at bytes)
+    (λ byte bytes other is. joined-byte_before byte (pieces_of bytes) ∙ ap (λ rest. byte ∷ rest) is)
+    0 picture
 
 -- ---- what a field shows is as wide as the field
 
@@ -89,14 +101,12 @@ wide-byte_before byte [] wide = tt
 wide-byte_before byte (Literal bytes ∷ rest) wide = wide
 wide-byte_before byte (Slot field ∷ rest) wide = wide
 
-pub wide-pieces_after : (skipped : ℕ) (bytes : List ℕ) → AreWide (pieces_after skipped bytes)
-wide-pieces_after skipped [] = tt
-wide-pieces_after zero (byte ∷ bytes) =
-    let field : Field = leading_field (byte ∷ bytes) in
-    cond_both (eqb byte 42) (Slot field ∷ pieces_after (field.width - 1) bytes) (byte_before byte (pieces_after 0 bytes)) AreWide
-    (λ same. (length-characters_of (stars (byte ∷ bytes)) (decimals_at (drop (stars (byte ∷ bytes)) (byte ∷ bytes))), wide-pieces_after (field.width - 1) bytes))
-    (λ other. wide-byte_before byte (pieces_after 0 bytes) (wide-pieces_after 0 bytes))
-wide-pieces_after (suc skipped) (byte ∷ bytes) = wide-pieces_after skipped bytes
+wide-pieces_of : (bytes : List ℕ) → AreWide (pieces_of bytes)
+wide-pieces_of bytes =
+    by_pieces (λ bytes pieces. AreWide pieces) tt
+    (λ bytes some wide. (length-characters_of (stars bytes) (decimals_at (drop (stars bytes) bytes)), wide))
+    (λ byte bytes other wide. wide-byte_before byte (pieces_of bytes) wide)
+    0 bytes
 
 length-at_right : (own text : List ℕ) → length (at_right own text) ≡ length own
 length-at_right own text =
@@ -145,59 +155,53 @@ put_between before part after new place width at wide =
     let back : drop width (part ++ after) ≡ after = drop_at part after width wide in
     rw (front, rest, back)
 
--- with some items given, the next field has its own characters still
-pub next_has_its_own : (before : List ℕ) (place : ℕ) (pieces : List Piece) (items : List Item) (k : ℕ) (d : Field)
-    → AreWide pieces → length before ≡ place → k < length (fields_among pieces) → k < length items
-    → take (get_or (fields_among pieces) k d).width (drop (get_or (starts_among place pieces) k 0) (before ++ joined pieces (take k items)))
-    ≡ characters (get_or (fields_among pieces) k d)
-next_has_its_own before place [] items k d wide at inside given = absurd (omega arith)
-next_has_its_own before place (Literal bytes ∷ rest) items k d wide at inside given =
-    let further : length (before ++ bytes) ≡ place + length bytes = length-append before bytes ∙ ap (λ n. n + length bytes) at in
-    ap (λ line. take (get_or (fields_among rest) k d).width (drop (get_or (starts_among (place + length bytes) rest) k 0) line)) (sym (append_assoc before bytes (joined rest (take k items))))
-    ∙ next_has_its_own (before ++ bytes) (place + length bytes) rest items k d wide further inside given
-next_has_its_own before place (Slot field ∷ rest) [] k d wide at inside given = absurd (omega arith)
-next_has_its_own before place (Slot field ∷ rest) (first ∷ items) zero d wide at inside given =
-    part_between before (characters field) (joined rest []) place field.width at wide.0
-next_has_its_own before place (Slot field ∷ rest) (first ∷ items) (suc k) d wide at inside given =
-    let own : List ℕ = shown_characters (characters field) field.decimals first in
-    let further : length (before ++ own) ≡ place + field.width =
-    length-append before own ∙ (ap (λ n. n + length own) at ∙ ap (λ n. place + n) (length-shown_characters (characters field) field.decimals first ∙ wide.0))
-    in
-    ap (λ line. take (get_or (fields_among rest) k d).width (drop (get_or (starts_among (place + field.width) rest) k 0) line)) (sym (append_assoc before own (joined rest (take k items))))
-    ∙ next_has_its_own (before ++ own) (place + field.width) rest items k d wide.1 further (omega arith) (omega arith)
-
 -- what the next field shows of an item
 abbrev pub shown_in : Field → Item → List ℕ
 shown_in field item = shown_characters (characters field) field.decimals item
 
--- with one item more, the next field is written over
-pub joined_with_one_more : (before : List ℕ) (place : ℕ) (pieces : List Piece) (items : List Item) (k : ℕ) (item : Item) (d : Field)
-    → AreWide pieces → length before ≡ place → k < length (fields_among pieces) → k < length items → item ≡ get_or items k item
-    → put_mid (get_or (starts_among place pieces) k 0) (get_or (fields_among pieces) k d).width
-    (before ++ joined pieces (take k items)) (shown_in (get_or (fields_among pieces) k d) item)
-    ≡ before ++ joined pieces (take (suc k) items)
-joined_with_one_more before place [] items k item d wide at inside given is = absurd (omega arith)
-joined_with_one_more before place (Literal bytes ∷ rest) items k item d wide at inside given is =
-    let further : length (before ++ bytes) ≡ place + length bytes = length-append before bytes ∙ ap (λ n. n + length bytes) at in
-    let step = joined_with_one_more (before ++ bytes) (place + length bytes) rest items k item d wide further inside given is in
-    let start : ℕ = get_or (starts_among (place + length bytes) rest) k 0 in
-    let field : Field = get_or (fields_among rest) k d in
-    ap (λ line. put_mid start field.width line (shown_in field item)) (sym (append_assoc before bytes (joined rest (take k items))))
-    ∙ step ∙ append_assoc before bytes (joined rest (take (suc k) items))
-joined_with_one_more before place (Slot field ∷ rest) [] k item d wide at inside given is = absurd (omega arith)
-joined_with_one_more before place (Slot field ∷ rest) (first ∷ items) zero item d wide at inside given is =
-    put_between before (characters field) (joined rest []) (shown_in field item) place field.width at wide.0
-    ∙ ap (λ i. before ++ (shown_in field i ++ joined rest [])) is
-joined_with_one_more before place (Slot field ∷ rest) (first ∷ items) (suc k) item d wide at inside given is =
-    let own : List ℕ = shown_in field first in
-    let further : length (before ++ own) ≡ place + field.width =
-    length-append before own ∙ (ap (λ n. n + length own) at ∙ ap (λ n. place + n) (length-shown_characters (characters field) field.decimals first ∙ wide.0))
-    in
-    let step = joined_with_one_more (before ++ own) (place + field.width) rest items k item d wide.1 further (omega arith) (omega arith) is in
-    let start : ℕ = get_or (starts_among (place + field.width) rest) k 0 in
-    let next : Field = get_or (fields_among rest) k d in
-    ap (λ line. put_mid start next.width line (shown_in next item)) (sym (append_assoc before own (joined rest (take k items))))
-    ∙ step ∙ append_assoc before own (joined rest (take (suc k) items))
+-- a field with what comes before it and after it, where the items before it are given: with its own characters, and with its item
+record Around (place : ℕ) (pieces : List Piece) (items : List Item) (k : ℕ) (d : Field) (item : Item) : Type 0 where
+  front : List ℕ
+  back : List ℕ
+  at : place + length front ≡ get_or (starts_among place pieces) k 0
+  wide : length (characters (get_or (fields_among pieces) k d)) ≡ (get_or (fields_among pieces) k d).width
+  own : joined pieces (take k items) ≡ front ++ (characters (get_or (fields_among pieces) k d) ++ back)
+  shown : joined pieces (take (suc k) items) ≡ front ++ (shown_in (get_or (fields_among pieces) k d) item ++ back)
+
+around : (place : ℕ) (pieces : List Piece) (items : List Item) (k : ℕ) (d : Field) (item : Item)
+    → AreWide pieces → k < length (fields_among pieces) → k < length items → item ≡ get_or items k item → Around place pieces items k d item
+around place [] items k d item wide inside given is = absurd (omega arith)
+around place (Literal bytes ∷ rest) items k d item wide inside given is =
+    let h = around (place + length bytes) rest items k d item wide inside given is in
+    record {
+      front = bytes ++ h.front;
+      back = h.back;
+      at = ap (λ n. place + n) (length-append bytes h.front) ∙ sym (add_assoc place (length bytes) (length h.front)) ∙ h.at;
+      wide = h.wide;
+      own = ap (λ l. bytes ++ l) h.own ∙ sym (append_assoc bytes h.front (characters (get_or (fields_among rest) k d) ++ h.back));
+      shown = ap (λ l. bytes ++ l) h.shown ∙ sym (append_assoc bytes h.front (shown_in (get_or (fields_among rest) k d) item ++ h.back));
+    }
+around place (Slot field ∷ rest) [] k d item wide inside given is = absurd (omega arith)
+around place (Slot field ∷ rest) (first ∷ items) zero d item wide inside given is = record {
+  front = [];
+  back = joined rest [];
+  at = omega arith;
+  wide = wide.0;
+  own = refl;
+  shown = ap (λ i. shown_in field i ++ joined rest []) (sym is);
+}
+around place (Slot field ∷ rest) (first ∷ items) (suc k) d item wide inside given is =
+    let h = around (place + field.width) rest items k d item wide.1 (omega arith) (omega arith) is in
+    let new : List ℕ = shown_in field first in
+    let long : length new ≡ field.width = length-shown_characters (characters field) field.decimals first ∙ wide.0 in
+    record {
+      front = new ++ h.front;
+      back = h.back;
+      at = ap (λ n. place + n) (length-append new h.front ∙ ap (λ n. n + length h.front) long) ∙ sym (add_assoc place field.width (length h.front)) ∙ h.at;
+      wide = h.wide;
+      own = ap (λ l. new ++ l) h.own ∙ sym (append_assoc new h.front (characters (get_or (fields_among rest) k d) ++ h.back));
+      shown = ap (λ l. new ++ l) h.shown ∙ sym (append_assoc new h.front (shown_in (get_or (fields_among rest) k d) item ++ h.back));
+    }
 
 -- ---- these laws for a whole picture
 
@@ -214,24 +218,8 @@ pub field_within : (picture : List ℕ) (k : ℕ) (d : Field) → k < length (pi
 unfolding starts picture_fields
 field_within picture k d inside =
     let same = ap length (joined-pieces_of picture) in
-    let within = fields_within 0 (pieces_of picture) k d (wide-pieces_after 0 picture) inside in
+    let within = fields_within 0 (pieces_of picture) k d (wide-pieces_of picture) inside in
     omega arith
-
-pub own_in_filled : (picture : List ℕ) (items : List Item) (k : ℕ) (d : Field) → k < length (picture_fields picture) → k < length items
-    → take (get_or (picture_fields picture) k d).width (drop (get_or (starts picture) k 0) (filled picture (take k items)))
-    ≡ characters (get_or (picture_fields picture) k d)
-unfolding filled starts picture_fields
-own_in_filled picture items k d inside given =
-    next_has_its_own [] 0 (pieces_of picture) items k d (wide-pieces_after 0 picture) refl inside given
-
-pub filled_with_one_more : (picture : List ℕ) (items : List Item) (k : ℕ) (item : Item) (d : Field)
-    → k < length (picture_fields picture) → k < length items → item ≡ get_or items k item
-    → put_mid (get_or (starts picture) k 0) (get_or (picture_fields picture) k d).width
-    (filled picture (take k items)) (shown_in (get_or (picture_fields picture) k d) item)
-    ≡ filled picture (take (suc k) items)
-unfolding filled starts picture_fields
-filled_with_one_more picture items k item d inside given is =
-    joined_with_one_more [] 0 (pieces_of picture) items k item d (wide-pieces_after 0 picture) refl inside given is
 
 -- what is read at the place of a field
 pub read_known : {X : Type 0} → (items known : List X) (k : ℕ) (read d : X) → items ≡ known → k < length known → read ≡ get_or items k read → read ≡ get_or known k d
@@ -244,18 +232,22 @@ pub fill_next : (picture line new : List ℕ) (items : List Item) (k start : ℕ
     → item ≡ get_or items k item → start ≡ get_or (starts picture) k 0 → field ≡ get_or (picture_fields picture) k field
     → new ≡ shown_characters (take (start + field.width - start) (drop start line)) field.decimals item
     → put_mid start (start + field.width - start) line new ≡ filled picture (take (k + 1) items)
+unfolding filled starts picture_fields
 fill_next picture line new items k start field item inside given before is start_is field_is new_is =
-    let step = filled_with_one_more picture items k item field inside given is in
-    let own = own_in_filled picture items k field inside given in
-    let next : suc k ≡ k + 1 = omega arith in
+    let h = around 0 (pieces_of picture) items k field item (wide-pieces_of picture) inside given is in
+    let at : length h.front ≡ start = omega (arith, h.at, start_is) in
+    let wide : length (characters field) ≡ field.width = subst (λ (f : Field). length (characters f) ≡ f.width) (sym field_is) h.wide in
+    let own : line ≡ h.front ++ (characters field ++ h.back) = before ∙ h.own ∙ ap (λ (f : Field). h.front ++ (characters f ++ h.back)) (sym field_is) in
     let span_is : start + field.width - start ≡ field.width = omega arith in
-    let same_own : take field.width (drop start line) ≡ characters field =
-    rw (before, start_is) (subst (λ (f : Field). take f.width (drop (get_or (starts picture) k 0) (filled picture (take k items))) ≡ characters f) (sym field_is) own)
+    let taken : take field.width (drop start line) ≡ characters field =
+    ap (λ l. take field.width (drop start l)) own ∙ part_between h.front (characters field) h.back start field.width at wide
     in
-    let same_step : put_mid (get_or (starts picture) k 0) field.width (filled picture (take k items)) (shown_in field item) ≡ filled picture (take (suc k) items) =
-    subst (λ (f : Field). put_mid (get_or (starts picture) k 0) f.width (filled picture (take k items)) (shown_in f item) ≡ filled picture (take (suc k) items)) (sym field_is) step
-    in
-    rw (new_is, span_is, same_own, before, start_is, ← next) same_step
+    let next : suc k ≡ k + 1 = omega arith in
+    rw (new_is, span_is, taken)
+    (ap (λ l. put_mid start field.width l (shown_in field item)) own
+    ∙ put_between h.front (characters field) h.back (shown_in field item) start field.width at wide
+    ∙ ap (λ (f : Field). h.front ++ (shown_in f item ++ h.back)) field_is ∙ sym h.shown
+    ∙ ap (λ (n : ℕ). joined (pieces_of picture) (take n items)) next)
 
 -- ---- what a field takes
 

@@ -5,9 +5,8 @@ pub use Rattle.ss_names_declarations.specs.Earliest.{earlier, earlier_of, unless
 pub use Rattle.ss_names_declarations.specs.declared.declaration.Declaration.{Declaration}
 pub use Rattle.ss_names_scopes.proofs.Finding.{earlier_of_list, found_after, viewed_after}
 pub use Rattle.ss_tables_rules.specs.Broken.{declaration_breaches}
-pub use Rattle.ss_tables_rules.specs.Keyed.{again_by_key, key_if, repeats_by_key, with_key}
 pub use Rattle.ss_tables_rules.specs.Keys.{is_foreign, is_foreign_to_any, member_named, misranked, misranked_in, misranked_key}
-pub use Rattle.ss_tables_rules.specs.Once.{once_of, repeats}
+pub use Rattle.ss_tables_rules.specs.Once.{again, once_added, once_of, repeats, repeats_after}
 pub use Rattle.ss_tables_rules.specs.Order.{table_error_order}
 pub use Rattle.ss_tables_rules.specs.Rules.{unmoded_in, unmoded_use}
 pub use Rattle.ss_tables_rules.specs.declared.error.TableError.{TableError}

@@ -1,7 +1,6 @@
 pub mod Order
 pub mod Rules
 pub mod Once
-pub mod Keyed
 pub mod Keys
 pub mod Broken
 pub mod Examples

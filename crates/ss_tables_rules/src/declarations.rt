@@ -4,12 +4,12 @@ ghost use Rattle.std.specs.Prelude.{◌≡◌, ◌||◌, not, is_some};
 ghost use Rattle.std.specs.List.{flat_map, fold};
 ghost use Rattle.std.specs.Option.{option_or};
 ghost use Rattle.ss_names_declarations.specs.Earliest.{earlier, unless};
-ghost use Rattle.ss_names_declarations.specs.NameTable.{place_among, value_for};
+ghost use Rattle.ss_names_declarations.specs.NameTable.{is_one_of, place_among, place_in, value_for};
 ghost use Rattle.ss_names.specs.Entries.{is_notice_class};
 ghost use Rattle.ss_tables_rules.specs.declared.error.TableError.TheVariants as e;
 ghost use Rattle.ss_tables_rules.specs.Broken.{declaration_breaches};
 ghost use Rattle.ss_tables_rules.specs.Order.{table_error_order};
-ghost use Rattle.ss_tables_rules.specs.Rules.{broken_by, broken_in, field_number, has_member, has_owner, is_attribute_of, is_class_of, is_real, is_too_many, may_be_hidden, set_by_name};
+ghost use Rattle.ss_tables_rules.specs.Rules.{broken_in, field_number, has_member, has_owner, is_attribute_of, is_real, is_too_many, may_be_hidden, set_by_name};
 
 use crate::error::TableError;
 use ss_base::{Line, Name};
@@ -27,35 +27,38 @@ pub(crate) fn unless(holds: bool, breach: TableError) -> Option<TableError>
     if holds { None } else { Some(breach) }
 }
 
-// Whether there is such a number, and it is one too many.
-fn is_too_many(number: Option<usize>) -> bool
-    ensures { result ≡ is_too_many number }
-{
-    match number {
-        Some(number) => MOST <= number,
-        None => false,
-    }
-}
-
 // The breach of one too many.
 fn too_many(line: Line, number: Option<usize>) -> Option<TableError>
     ensures { result ≡ unless (not (is_too_many number)) (e.TooMany line) }
 {
-    unless(!is_too_many(number), TableError::TooMany(line))
-}
-
-// Whether a mode is REAL.
-fn is_real(mode: ModeWord) -> bool
-    ensures { result ≡ is_real mode }
-{
-    matches!(mode, ModeWord::Real)
+    match number {
+        Some(number) => unless(!(MOST <= number), TableError::TooMany(line)),
+        None => None,
+    }
 }
 
 // The breach of REAL.
 fn real_breaks(line: Line, mode: ModeWord) -> Option<TableError>
     ensures { result ≡ unless (not (is_real mode)) (e.RealMode line) }
 {
-    unless(!is_real(mode), TableError::RealMode(line))
+    match mode {
+        ModeWord::Real => Some(TableError::RealMode(line)),
+        _ => None,
+    }
+}
+
+// The breach of a class that is one too many.
+fn number_breaks(names: &Names, line: Line, class: &Name) -> Option<TableError>
+    ensures { result ≡ unless (not (is_too_many (place_in names.now.classes class.now))) (e.TooMany line) }
+{
+    too_many(line, names.classes.place(class))
+}
+
+// The breach of a DEFINE of what is no set.
+fn order_breaks(names: &Names, line: Line, set: &Name) -> Option<TableError>
+    ensures { result ≡ unless (is_one_of names.now.set_names set.now) (e.UnknownSet line) }
+{
+    unless(names.set_names.contains(set), TableError::UnknownSet(line))
 }
 
 // The breach of a class that is none of notices.
@@ -65,23 +68,16 @@ fn class_breaks(names: &Names, line: Line, class: &Name) -> Option<TableError>
     unless(names.is_notice(class), TableError::UnknownClass(line))
 }
 
-// Whether a parameter or a local variable may hide what means this: a variable, that of a class, or nothing.
-fn may_be_hidden(meaning: Option<Meaning>) -> bool
-    ensures { result ≡ may_be_hidden meaning }
-{
-    match meaning {
-        None => true,
-        Some(Meaning::Variable { .. }) => true,
-        Some(Meaning::Class { .. }) => true,
-        Some(_) => false,
-    }
-}
-
-// The breach of a local name that hides what may not be hidden.
+// The breach of a local name that hides what may not be hidden: a variable, that of a class, or nothing may be.
 fn hiding_breaks(names: &Names, line: Line, name: &Name) -> Option<TableError>
     ensures { result ≡ unless (may_be_hidden (value_for names.now.meanings name.now)) (e.Twice line) }
 {
-    unless(may_be_hidden(names.meaning(name)), TableError::Twice(line))
+    match names.meaning(name) {
+        None => None,
+        Some(Meaning::Variable { .. }) => None,
+        Some(Meaning::Class { .. }) => None,
+        Some(_) => Some(TableError::Twice(line)),
+    }
 }
 
 // Whether a name has a mode.
@@ -162,12 +158,12 @@ fn member_breaks(names: &Names, line: Line, set: &Name) -> Option<TableError>
     lacking.or(too_many(line, names.set_names.place(set)))
 }
 
-// Whether an attribute is of a class.
-fn is_class_of(attribute: Option<Attribute>, class: Option<usize>) -> bool
-    ensures { result ≡ is_class_of attribute class }
+// Whether a name is that of an attribute of a class.
+fn is_attribute_of(names: &Names, class: &Name, attribute: &Name) -> bool
+    ensures { result ≡ is_attribute_of names.now class.now attribute.now }
 {
-    match attribute {
-        Some(attribute) => match class {
+    match names.attributes.get(attribute).copied() {
+        Some(attribute) => match names.classes.place(class) {
             Some(class) => attribute.class == class,
             None => false,
         },
@@ -175,30 +171,17 @@ fn is_class_of(attribute: Option<Attribute>, class: Option<usize>) -> bool
     }
 }
 
-// Whether a name is that of an attribute of a class.
-fn is_attribute_of(names: &Names, class: &Name, attribute: &Name) -> bool
-    ensures { result ≡ is_attribute_of names.now class.now attribute.now }
-{
-    is_class_of(
-        names.attributes.get(attribute).copied(),
-        names.classes.place(class),
-    )
-}
-
 // The first of the rules that what is declared in this line breaks by the table.
 fn broken_in(names: &Names, line: Line, what: &Declared) -> Option<TableError>
     ensures { result ≡ broken_in names.now line what.now }
 {
     match what {
-        Declared::Class { class, .. } => too_many(line, names.classes.place(class)),
+        Declared::Class { class, .. } => number_breaks(names, line, class),
         Declared::Attribute { attribute, .. } => attribute_breaks(names, line, attribute),
         Declared::Owner { set, .. } => owner_breaks(names, line, set),
         Declared::Member { set, .. } => member_breaks(names, line, set),
         Declared::Variable { mode, .. } => real_breaks(line, *mode),
-        Declared::Order { set, .. } => unless(
-            names.set_names.contains(set),
-            TableError::UnknownSet(line),
-        ),
+        Declared::Order { set, .. } => order_breaks(names, line, set),
         Declared::Priority { class } => class_breaks(names, line, class),
         Declared::Ties { class } => class_breaks(names, line, class),
         Declared::TieKey {
@@ -217,13 +200,6 @@ fn broken_in(names: &Names, line: Line, what: &Declared) -> Option<TableError>
     }
 }
 
-// The first of the rules that a declaration breaks by the table.
-fn broken_by(names: &Names, declaration: &Declaration) -> Option<TableError>
-    ensures { result ≡ broken_by names.now declaration.now }
-{
-    broken_in(names, declaration.line, &declaration.what)
-}
-
 /// What was found so far, or the first of the rules that a declaration breaks by the table. Rules on what is said twice, on keys
 /// of ranked sets and on uses are looked at elsewhere.
 pub fn declared_breaks(
@@ -235,7 +211,7 @@ pub fn declared_breaks(
 {
     let mut found = found;
     for declaration in declarations {
-        found = earlier_of(found, broken_by(names, declaration));
+        found = earlier_of(found, broken_in(names, declaration.line, &declaration.what));
     }
     found
 }

@@ -6,32 +6,25 @@ ghost use Rattle.std.specs.Option.{option_or};
 ghost use Rattle.ss_tree.specs.View.{view_order, view_preamble};
 ghost use Rattle.ss_names_declarations.specs.Earliest.{earlier, unless};
 ghost use Rattle.ss_names_declarations.specs.NameTable.{value_for};
-ghost use Rattle.ss_tables_rules.specs.Keys.{class_of, is_foreign, is_foreign_to_any, keys_of_order, member_named, member_of, misranked, misranked_in, misranked_key};
+ghost use Rattle.ss_tables_rules.specs.Keys.{class_of, is_foreign, is_foreign_to_any, keys_of_order, member_named, misranked, misranked_in, misranked_key};
 ghost use Rattle.ss_tables_rules.specs.Order.{table_error_order};
 ghost use Rattle.ss_tables_rules.specs.declared.error.TableError.TheVariants as e;
 
 use crate::declarations::{set_by_name, unless};
 use crate::error::TableError;
 use ss_base::{Line, Name};
-use ss_names::{Attribute, Names, Set};
+use ss_names::{Attribute, Names};
 use ss_names_declarations::earlier_of;
 use ss_tree::preamble::{NamedKey, PreambleStatement, SetOrder};
-
-// The class of the members of a set.
-fn member_of(set: Option<Set>) -> Option<usize>
-    ensures { result ≡ member_of set }
-{
-    match set {
-        Some(set) => set.member,
-        None => None,
-    }
-}
 
 // The class of the members of the set of this name.
 fn member_named(names: &Names, set: &Name) -> Option<usize>
     ensures { result ≡ member_named names.now set.now }
 {
-    member_of(set_by_name(names, set))
+    match set_by_name(names, set) {
+        Some(set) => set.member,
+        None => None,
+    }
 }
 
 // The class of an attribute.

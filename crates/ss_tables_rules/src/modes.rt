@@ -7,12 +7,12 @@ ghost use Rattle.ss_names_declarations.specs.Earliest.{earlier, unless};
 ghost use Rattle.ss_names_scopes.specs.Locals.{local_of};
 ghost use Rattle.ss_tables_rules.specs.Broken.{unmoded};
 ghost use Rattle.ss_tables_rules.specs.Order.{table_error_order};
-ghost use Rattle.ss_tables_rules.specs.Rules.{has_no_mode, lacks_mode, unmoded_in, unmoded_use};
+ghost use Rattle.ss_tables_rules.specs.Rules.{lacks_mode, unmoded_in, unmoded_use};
 ghost use Rattle.ss_tables_rules.specs.declared.error.TableError.TheVariants as e;
 
 use crate::declarations::unless;
 use crate::error::TableError;
-use ss_base::{Mode, Name};
+use ss_base::Name;
 use ss_names::Names;
 use ss_names_declarations::earlier_of;
 use ss_names_scopes::{Locals, local_of};
@@ -20,23 +20,16 @@ use ss_names_uses::{Use, uses_of};
 use ss_tree::program::Section;
 use std::alloc::{AllocError, Global};
 
-// Whether there is a local variable, and nothing gives it a mode.
-fn has_no_mode(mode: Option<Option<Mode>>) -> bool
-    ensures { result ≡ has_no_mode mode }
-{
-    match mode {
-        Some(None) => true,
-        Some(Some(_)) => false,
-        None => false,
-    }
-}
-
 // Whether a local variable that is named has no mode.
 fn lacks_mode(locals: &Locals, name: &Option<Name>) -> bool
     ensures { result ≡ lacks_mode locals.now name.now }
 {
     match name {
-        Some(name) => has_no_mode(locals.mode(name)),
+        Some(name) => match locals.mode(name) {
+            Some(None) => true,
+            Some(Some(_)) => false,
+            None => false,
+        },
         None => false,
     }
 }

@@ -5,8 +5,7 @@ ghost use Rattle.std.specs.List.{fold};
 ghost use Rattle.ss_names_declarations.specs.Earliest.{earlier};
 ghost use Rattle.ss_names_declarations.specs.NameTable.{is_one_of, value_for};
 ghost use Rattle.ss_tables_rules.specs.declared.once.Once.TheVariants as o;
-ghost use Rattle.ss_tables_rules.specs.Once.{if_class, once_of, repeats, repeated_breach};
-ghost use Rattle.ss_tables_rules.specs.Keyed.{again_by_key, key_if, key_of, with_key};
+ghost use Rattle.ss_tables_rules.specs.Once.{again, if_class, once_added, once_of, repeats, repeated_breach};
 ghost use Rattle.ss_tables_rules.specs.Order.{table_error_order};
 
 use crate::error::TableError;
@@ -16,7 +15,7 @@ use ss_names_declarations::{Declaration, Declared, Keys, Seed, earlier_of, has_e
 use std::alloc::{AllocError, Global};
 
 /// What may be said once.
-#[derive(Clone, Copy)]
+#[derive(Clone, Copy, PartialEq, Eq, Hash)]
 pub enum Once {
     Normally,
     PriorityOrder,
@@ -42,63 +41,30 @@ pub enum Once {
     Local { name: Name, section: usize },
 }
 
-// The key of what may be said once, in a table of what was said: the number of its kind, that of its section, and its name.
-type OnceKey = (usize, (usize, Option<Name>));
-
-// The key of what may be said once.
-fn key_of(once: &Once) -> OnceKey
-    ensures { result ≡ key_of once.now }
-{
-    match once {
-        Once::Normally => (0, (0, None)),
-        Once::PriorityOrder => (1, (0, None)),
-        Once::Main => (2, (0, None)),
-        Once::Owner { set } => (3, (0, Some(*set))),
-        Once::Member { set } => (4, (0, Some(*set))),
-        Once::Order { set } => (5, (0, Some(*set))),
-        Once::Mode { attribute } => (6, (0, Some(*attribute))),
-        Once::Priority { class } => (7, (0, Some(*class))),
-        Once::Ties { class } => (8, (0, Some(*class))),
-        Once::Event { class } => (9, (0, Some(*class))),
-        Once::Subject { subject } => (10, (0, Some(*subject))),
-        Once::Parameter { name, section } => (11, (*section, Some(*name))),
-        Once::Local { name, section } => (12, (*section, Some(*name))),
-    }
-}
-
 // What may be said once, where the name is that of a class.
 fn if_class(names: &Names, class: &Name, once: Once) -> Option<Once>
     ensures { result ≡ if_class names.now class.now once }
 {
-    if has_entry(&names.classes, class) {
-        Some(once)
-    } else {
-        None
-    }
+    has_entry(&names.classes, class).then_some(once)
 }
 
 // The DEFINE of a set, where the name is that of a set.
 fn if_set(names: &Names, set: &Name) -> Option<Once>
     ensures { result ≡ (if is_one_of names.now.set_names set.now then Some (o.Order set.now) else None) }
 {
-    if names.set_names.contains(set) {
-        Some(Once::Order { set: *set })
-    } else {
-        None
-    }
+    names
+        .set_names
+        .contains(set)
+        .then_some(Once::Order { set: *set })
 }
 
 // The mode of an attribute, where the name is that of an attribute.
 fn if_attribute(names: &Names, attribute: &Name) -> Option<Once>
     ensures { result ≡ (if is_some (value_for names.now.attributes attribute.now) then Some (o.Mode attribute.now) else None) }
 {
-    if has_entry(&names.attributes, attribute) {
-        Some(Once::Mode {
-            attribute: *attribute,
-        })
-    } else {
-        None
-    }
+    has_entry(&names.attributes, attribute).then_some(Once::Mode {
+        attribute: *attribute,
+    })
 }
 
 /// What a declaration says that may be said once. A DEFINE of no set, and a priority, BREAK or EVENT of no class, are refused
@@ -134,16 +100,6 @@ pub fn once_of(names: &Names, what: &Declared) -> Option<Once>
     }
 }
 
-// The key of what a declaration says that may be said once.
-fn key_said(names: &Names, what: &Declared) -> Option<OnceKey>
-    ensures { result ≡ key_if (once_of names.now what.now) }
-{
-    match once_of(names, what) {
-        Some(once) => Some(key_of(&once)),
-        None => None,
-    }
-}
-
 // The breach of saying it again.
 fn repeated_breach(line: Line, what: &Declared) -> TableError
     ensures { result ≡ repeated_breach line what.now }
@@ -154,17 +110,14 @@ fn repeated_breach(line: Line, what: &Declared) -> TableError
     }
 }
 
-// The breach of a declaration with this key, after what was said.
-fn again_by_key(
-    said: &Keys<OnceKey>,
-    key: &Option<OnceKey>,
-    declaration: &Declaration,
-) -> Option<TableError>
-    ensures { result ≡ again_by_key said.now declaration.now.line declaration.now.what key.now }
+// The breach of a declaration that says this, after what was said.
+#[tactic(auto, using(crate::proofs::Repeats::among))]
+fn again(said: &Keys<Once>, once: &Option<Once>, declaration: &Declaration) -> Option<TableError>
+    ensures { result ≡ again said.now declaration.now.line declaration.now.what once.now }
 {
-    match key {
-        Some(key) => {
-            if said.contains(key) {
+    match once {
+        Some(once) => {
+            if said.contains(once) {
                 Some(repeated_breach(declaration.line, &declaration.what))
             } else {
                 None
@@ -174,12 +127,13 @@ fn again_by_key(
     }
 }
 
-// Notes a key.
-fn note_key(said: &mut Keys<OnceKey>, key: Option<OnceKey>) -> Result<(), AllocError>
-    ensures { OnOk result (said.new ≡ with_key said.old key) }
+// Notes what is said.
+#[tactic(auto, using(crate::proofs::Repeats::among))]
+fn note(said: &mut Keys<Once>, once: Option<Once>) -> Result<(), AllocError>
+    ensures { OnOk result (said.new ≡ once_added said.old once) }
 {
-    match key {
-        Some(key) => said.insert_new(key),
+    match once {
+        Some(once) => said.insert_new(once),
         None => Ok(()),
     }
 }
@@ -200,9 +154,9 @@ pub fn repeated(
     let mut said = Keys::new(alloc, seed);
     let mut found = found;
     for declaration in declarations {
-        let key = key_said(names, &declaration.what);
-        found = earlier_of(found, again_by_key(&said, &key, declaration));
-        note_key(&mut said, key)?;
+        let once = once_of(names, &declaration.what);
+        found = earlier_of(found, again(&said, &once, declaration));
+        note(&mut said, once)?;
     }
     Ok(found)
 }

@@ -9,5 +9,5 @@ loop-one-preserved c =
     let u = c.one-item.result in
     found_after (earlier check_error_order) (breaks s c.args.in_main) c.args.found c.loop-one.found _ c.args.uses.now c.loop-one.one-index u
     c.loop-one-test.true c.one-item.is c.loop-one.invariant
-    (c.earlier_of-found.ensures ∙ ap (earlier_of check_error_order c.loop-one.found) c.use_breaks.ensures
+    (c.earlier_of-found.ensures ∙ ap (earlier_of check_error_order c.loop-one.found) c.used_breaks.ensures
     ∙ earlier_of_list check_error_order c.loop-one.found (use_breaks s c.args.in_main u))

@@ -3,7 +3,7 @@ use Rattle.std.proofs.lemmas.List.{get_or_default}
 use Rattle.ss_names.specs.declared.entry.RoutineSection.{RoutineSection}
 use Rattle.ss_program.specs.View.{view_routine}
 use Rattle.ss_names_meaning.specs.Resolved.{routine_from}
-use Rattle.ss_names_meaning.proofs.Each.{no_items, each_plain_fails, each_made_next}
+use Rattle.ss_names_meaning.proofs.Each.{no_items, each_at_fails, each_made_next}
 use Rattle.ss_names_meaning.proofs.Steps.{failed}
 use Rattle.ss_check.specs.View.{parts_in}
 use Rattle.ss_check.proofs.sections.ProgramSections.routines_of.Goals as goal
@@ -16,9 +16,8 @@ loop-tree-init c = no_items (routine_from (parts_in c.args.self.now)) view_routi
 
 pub returns-in_err-one : goal.returns-in_err-one
 returns-in_err-one c =
-    let known = get_or c.args.trees.now c.loop-tree.tree-index none in
     failed _ c.from_residual.result c.in_err-one.field-0.0 _ c.from_residual.ensures.1
-    (each_plain_fails (routine_from (parts_in c.args.self.now)) c.args.trees.now c.loop-tree.tree-index known c.in_err-one.field-0.0 c.loop-tree-test.true (get_or_default c.args.trees.now c.loop-tree.tree-index none known c.loop-tree-test.true) c.in_err-one.ensures)
+    (each_at_fails (routine_from (parts_in c.args.self.now)) c.args.trees.now c.loop-tree.tree-index _ c.in_err-one.field-0.0 c.loop-tree-test.true c.in_err-one.ensures)
 
 pub loop-tree-preserved : goal.loop-tree-preserved
 loop-tree-preserved c =

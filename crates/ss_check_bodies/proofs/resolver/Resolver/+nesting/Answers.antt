@@ -1,6 +1,8 @@
 use Rattle.ss_program.specs.View.{view_body, view_statement as view_resolved}
-use Rattle.ss_check_bodies.proofs.Common.{failed, fails_then, scope_in}
-use Rattle.ss_check_bodies.proofs.Nested.{if_is, loop_is, find_if_is, no_statements, statements_fail, statements_next}
+use Rattle.ss_tree.specs.View.{view_statement_tree}
+use Rattle.ss_names_meaning.specs.Statements.{statement}
+use Rattle.ss_check_bodies.proofs.Common.{each_next, failed, fails_then, no_items, scope_in}
+use Rattle.ss_check_bodies.proofs.Nested.{if_is, loop_is, find_if_is, statements_fail, statements_made}
 use Rattle.ss_check_bodies.proofs.Seen.{after_failed, both_fail, next_made}
 use Rattle.ss_check_bodies.proofs.resolver.Resolver.+nesting.Goals as goal
 
@@ -35,8 +37,10 @@ resolve_statement-returns-in_ok-first-in-Loop t c =
     c.resolve_loop.ensures
 
 pub resolve_body-loop-tree-init : goal.resolve_body-loop-tree-init
-resolve_body-loop-tree-init t c =
-    no_statements (scope_in c.args.self.now) c.new-resolved.result.items c.new-resolved.ensures.items
+resolve_body-loop-tree-init t c = no_items (statement (scope_in c.args.self.now)) view_resolved c.new-resolved.result.items c.new-resolved.ensures.items
+
+pub resolve_body-returns : goal.resolve_body-returns
+resolve_body-returns t c = statements_made (scope_in c.args.self.now) c.args.trees.now c.loop-tree.tree-index c.loop-tree.resolved.items c.loop-tree-test.false c.loop-tree.invariant
 
 pub resolve_body-returns-in_err-resolved : goal.resolve_body-returns-in_err-resolved
 resolve_body-returns-in_err-resolved t c =
@@ -45,4 +49,4 @@ resolve_body-returns-in_err-resolved t c =
 
 pub resolve_body-loop-tree-preserved : goal.resolve_body-loop-tree-preserved
 resolve_body-loop-tree-preserved t c =
-    statements_next (scope_in c.args.self.now) c.args.trees.now c.loop-tree.tree-index c.tree-item.result c.loop-tree.resolved.items c.in_ok-resolved.resolved.items c.in_ok-resolved.ensures.0 c.loop-tree-test.true c.tree-item.is c.in_ok-resolved.ensures.2 c.loop-tree.invariant (next_made view_resolved _ _ _ c.resolve_statement.ensures c.in_ok-resolved.ensures.1)
+    each_next (statement (scope_in c.args.self.now)) view_statement_tree view_resolved c.args.trees.now c.loop-tree.tree-index c.tree-item.result c.loop-tree.resolved.items c.in_ok-resolved.resolved.items c.in_ok-resolved.ensures.0 c.loop-tree-test.true c.tree-item.is c.in_ok-resolved.ensures.2 c.loop-tree.invariant (next_made view_resolved _ _ _ c.resolve_statement.ensures c.in_ok-resolved.ensures.1)

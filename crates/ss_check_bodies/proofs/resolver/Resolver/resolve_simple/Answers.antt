@@ -1,7 +1,7 @@
-use Rattle.std.proofs.Common.{map, ap, subst, ◌∙◌}
+use Rattle.std.proofs.Common.{map, ap, ◌∙◌}
 use Rattle.ss_program.specs.View.{view_item, view_statement as view_resolved}
-use Rattle.ss_check_bodies.proofs.Common.{failed, HasGiven}
-use Rattle.ss_check_bodies.proofs.Nested.{find_is, lines_of, print_fails, print_made}
+use Rattle.ss_check_bodies.proofs.Common.{failed}
+use Rattle.ss_check_bodies.proofs.Nested.{lines_of, print_fails, print_made}
 use Rattle.ss_check_bodies.proofs.Seen.{next_failed, next_made}
 use Rattle.ss_check_bodies.proofs.resolver.Resolver.resolve_simple.Goals as goal
 
@@ -17,9 +17,3 @@ returns-in_ok-pictures-in-Print c =
     c.in_ok-pictures-in-Print.items c.in_ok-pictures-in-Print.pictures c.in-Print.is c.deref-in-Print-2.ensures.value c.deref-in-Print.ensures.value
     (next_made (λ v. map view_item v.items) c.resolve_items.result _ _ c.resolve_items.ensures c.in_ok-pictures-in-Print.ensures.1)
     (ap lines_of c.in_ok-pictures-in-Print.ensures.0 ∙ c.in_ok-lines-in-Print.ensures)
-
-pub returns-in-Find : goal.returns-in-Find
-returns-in-Find c =
-    subst (λ s. HasGiven view_resolved c.resolve_find.result s)
-    (find_is _ c.args.tree.now c.in-Find.line c.in-Find.head c.new-found.result c.new-none.result c.in-Find.is c.new-found.ensures.items c.new-none.ensures.items)
-    c.resolve_find.ensures

@@ -10,7 +10,7 @@ returns-clause-read g c x e =
 
 pub returns-clause-fault : goal.returns-clause-fault
 returns-clause-fault g c none kind e =
-    finds_moved g.R.FaultyRead.remaining c.args.self.now c.find_end-answer.new.self c.remember.new.self (λ input. is_ended input ≡ Err kind) (sym c.remember.ensures.block) (sym c.remember.ensures.gap) (c.find_end-answer.ensures.fault kind (sym c.remember.ensures.same ∙ e))
+    finds_moved g.R.FaultyRead.remaining c.args.self.now c.find_end-answer.new.self c.remember.new.self (λ input. is_ended input ≡ Err kind) (sym c.remember.ensures.block) (c.find_end-answer.ensures.fault kind (sym c.remember.ensures.same ∙ e))
 
 pub returns-clause-lost : goal.returns-clause-lost
 returns-clause-lost g c none e =

@@ -1,7 +1,0 @@
-use Rattle.std.proofs.Common.{codes}
-use Rattle.clap.specs.Words.{found_of}
-use Rattle.simscript_order.proofs.Rows.{text_read}
-use Rattle.simscript_order.proofs.order.file_of.Goals as goal
-
-pub returns : goal.returns
-returns c = text_read (found_of c.args.matches.now) (codes "FILE") c.get_str.result c.get_str.ensures
