@@ -1,8 +1,7 @@
 mod Common
 pub use Rattle.ss_records_entities.proofs.Same
-pub mod Relisted
-pub mod Changed
-pub mod OtherSets
+pub use Rattle.ss_records_words.proofs.Splice
+pub mod Calls
+pub mod OneCall
 pub mod Running
-pub mod SameLayout
 pub mod Outcomes

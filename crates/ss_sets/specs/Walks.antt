@@ -1,23 +1,20 @@
--- What a walk along a set answers.
-use Rattle.std.specs.Prelude.{ℕ, zero, suc, cond, List, [], ◌∷◌, ℤ, pos, negsuc, Option, Some, None, Result}
-use Rattle.ss_base.specs.declared.fault.FaultKind.{FaultKind}
+-- What a walk along a set tests, and how x ranks in it.
+use Rattle.std.specs.Prelude.{◌≡◌, ◌<◌, ℕ, Bool, true, List, ◌∷◌, length, ℤ, pos, Some, slice_get}
+use Rattle.ss_base.specs.declared.layout.Mode.TheVariants.{Integer}
 use Rattle.ss_base.specs.declared.layout.RankKey.{RankKey}
-use Rattle.ss_world.specs.State.{State}
-use Rattle.ss_world.specs.Sets.{filed_before, filed_last}
-use Rattle.ss_world.specs.Disciplines.{ranks_after}
+use Rattle.ss_sets.specs.declared.ranking.Rank.{Rank}
+use Rattle.ss_world.specs.State.{State, modes_of}
+use Rattle.ss_world.specs.Sets.{member_class}
+use Rattle.ss_world.specs.Disciplines.{AreFields, ranks_after, value_of}
 
--- a member, or none, which calls answer as 0
-abbrev pub as_member : ℤ → Option ℤ
-as_member (pos zero) = None
-as_member (pos (suc n)) = Some (pos (suc n))
-as_member (negsuc k) = Some (negsuc k)
+-- whether a member ranks strictly after x
+abbrev pub is_after : State → ℕ → List RankKey → ℤ → ℕ → Bool
+is_after st c ks x y = ranks_after st c ks (pos y) x
 
--- the first member that ranks strictly after x, if any
-abbrev pub first_after : State → ℕ → List RankKey → ℤ → List ℕ → Option ℤ
-first_after st c ks x [] = None
-first_after st c ks x (y ∷ ys) = cond (ranks_after st c ks (pos y) x) (Some (pos y)) (first_after st c ks x ys)
-
--- the state once x is filed directly before a member, last where there is none
-abbrev pub filed_at : State → ℕ → ℤ → ℤ → Option ℤ → Result State FaultKind
-filed_at st s o x None = filed_last st s o x
-filed_at st s o x (Some y) = filed_before st s o x y
+-- how x ranks in a set by a key that counts most and others
+pub record IsRankIn (st : State) (s : ℕ) (r : Rank) (others : List RankKey) : Type 0 where
+  pub set : s < length st.layout.sets
+  pub class : r.class ≡ member_class st.layout s
+  pub keys : AreFields st.layout (member_class st.layout s) (r.key ∷ others)
+  pub own : value_of st (member_class st.layout s) r.key.field r.x ≡ r.own
+  pub mode : r.whole ≡ true → slice_get (modes_of st.layout (member_class st.layout s)) r.key.field ≡ Some Integer

@@ -1,30 +1,34 @@
 // Filing by discipline.
-ghost use Rattle.std.specs.Prelude.{◌≡◌, ℤ, ◌+◌, ◌<◌, ◌≤◌, [], ◌∷◌, not, length, slice_get, IsOk, MatchResult, Ok, Err, Some};
+ghost use Rattle.std.specs.Prelude.{◌≡◌, ◌+◌, ◌<◌, ◌≤◌, ◌∷◌, not, length, pos, slice_get, IsOk, MatchResult, Ok, Err, Some};
 ghost use Rattle.std.specs.Ordering.{match_ordering, int_cmp, nat_cmp};
 ghost use Rattle.std.specs.Cmp.Lexicographic.{slice_cmp};
 ghost use Rattle.ss_base.specs.Order.{value_cmp};
-ghost use Rattle.ss_world.specs.State.{and_then, modes_of};
-ghost use Rattle.ss_world.specs.Sets.{owner, member_class, first_in};
+ghost use Rattle.ss_records.specs.Passing.{first_where, before_where};
+ghost use Rattle.ss_world.specs.State.{modes_of};
+ghost use Rattle.ss_world.specs.Sets.{owner, member_class, next_in};
 ghost use Rattle.ss_world.specs.Disciplines.{value_of, ranks_after, members_passed, passed_by, owned, filed_ranked, filed, AreFields, HasMemberKeys};
-ghost use Rattle.ss_sets.specs.Walks.{first_after, as_member, filed_at};
+ghost use Rattle.ss_sets.specs.Walks.{is_after, IsRankIn};
 
 use ss_base::{Alpha, Discipline, FaultKind, Mode, RankKey, Value};
 use ss_records::Heap;
 use std::cmp::Ordering;
 
-// How x ranks by the key that counts most, one of whole numbers: the key, and the value of x by it.
+// How an entity x ranks by the key that counts most: its class, the key, the value of x by it, and whether all values by it are
+// whole numbers.
 #[derive(Clone, Copy)]
 struct Rank {
+    class: usize,
     key: RankKey,
-    own: i64,
+    x: i64,
+    own: Value,
+    whole: bool,
 }
 
-// Two entities of a class, of which y may rank after x.
+// What a look at a member finds: whether it ranks strictly after x, and the member that follows it, 0 where there is none.
 #[derive(Clone, Copy)]
-struct Pair {
-    class: usize,
-    y: i64,
-    x: i64,
+struct Seen {
+    after: bool,
+    next: i64,
 }
 
 /// Files x in the set of an owner: last for FIFO, first for LIFO, and for RANKED directly before the first member
@@ -66,53 +70,41 @@ fn file_ranked(
     ensures least { IsOk result → heap.old.total + 4 ≤ heap.new.total }
 {
     heap.sets_are_apart();
-    match heap.owner_in(set, x) {
+    match heap.look_member(set, x) {
         Ok(_) => match first_after(heap, keys, set, o, x) {
-            Ok(place) => file_at(heap, set, o, x, place),
+            Ok(0) => heap.file_last(set, o, x),
+            Ok(y) => heap.file_before(set, o, x, y),
             Err(fault) => Err(fault),
         },
         Err(fault) => Err(fault),
     }
 }
 
-// Files x directly before a member, last where there is none.
-fn file_at(heap: &mut Heap, set: usize, o: i64, x: i64, place: Option<i64>) -> Result<(), FaultKind>
-    requires set { set < length heap.old.state.layout.sets }
-    ensures done { MatchResult result (λ _. filed_at heap.old.state set o x place ≡ Ok heap.new.state) (λ e. (filed_at heap.old.state set o x place ≡ Err e) × (heap.new.state ≡ heap.old.state)) }
-    ensures touches { (heap.old.total ≤ heap.new.total) × (heap.new.total ≤ heap.old.total + 12) }
-    ensures least { IsOk result → heap.old.total + 4 ≤ heap.new.total }
-{
-    match place {
-        Some(y) => heap.file_before(set, o, x, y),
-        None => heap.file_last(set, o, x),
-    }
-}
-
-// The first member that ranks strictly after x, if any: a touch for each member that x passes. Faults: those of the
-// owner.
+// The first member that ranks strictly after x, 0 where there is none: a touch for each member that x passes. Faults: those of
+// the owner.
 fn first_after(
     heap: &mut Heap,
     keys: &[RankKey],
     set: usize,
     o: i64,
     x: i64,
-) -> Result<Option<i64>, FaultKind>
+) -> Result<i64, FaultKind>
     requires set { set < length heap.old.state.layout.sets }
     requires keys { AreFields heap.old.state.layout (member_class heap.old.state.layout set) keys.now }
-    ensures found { MatchResult result (λ y. IsOk (owner heap.old.state set o) × (y ≡ first_after heap.old.state (member_class heap.old.state.layout set) keys.now x (owned heap.old.state set o))) (λ e. owner heap.old.state set o ≡ Err e) }
+    ensures found { MatchResult result (λ y. IsOk (owner heap.old.state set o) × (y ≡ pos (first_where (is_after heap.old.state (member_class heap.old.state.layout set) keys.now x) (owned heap.old.state set o)))) (λ e. owner heap.old.state set o ≡ Err e) }
     ensures same { heap.new.state ≡ heap.old.state }
-    ensures touches { (heap.old.total ≤ heap.new.total) × (heap.new.total ≤ heap.old.total + 2 + members_passed heap.old.state (member_class heap.old.state.layout set) keys.now x (owned heap.old.state set o)) }
+    ensures touches { (heap.old.total ≤ heap.new.total) × (heap.new.total ≤ heap.old.total + 2 + before_where (is_after heap.old.state (member_class heap.old.state.layout set) keys.now x) (owned heap.old.state set o)) }
 {
     match keys.split_first() {
         Some((key, others)) => first_after_by(heap, *key, others, set, o, x),
-        None => match first_member(heap, set, o) {
-            Ok(_) => Ok(None),
+        None => match heap.look_owner(set, o) {
+            Ok(_) => Ok(0),
             Err(fault) => Err(fault),
         },
     }
 }
 
-// The first member that ranks after x, by a key that counts most and the others.
+// The first member that ranks after x, by a key that counts most and the others. Of whole numbers it reads no more than that.
 fn first_after_by(
     heap: &mut Heap,
     key: RankKey,
@@ -120,122 +112,119 @@ fn first_after_by(
     set: usize,
     o: i64,
     x: i64,
-) -> Result<Option<i64>, FaultKind>
+) -> Result<i64, FaultKind>
     requires set { set < length heap.old.state.layout.sets }
     requires keys { AreFields heap.old.state.layout (member_class heap.old.state.layout set) (key ∷ others.now) }
-    ensures found { MatchResult result (λ y. IsOk (owner heap.old.state set o) × (y ≡ first_after heap.old.state (member_class heap.old.state.layout set) (key ∷ others.now) x (owned heap.old.state set o))) (λ e. owner heap.old.state set o ≡ Err e) }
+    ensures found { MatchResult result (λ y. IsOk (owner heap.old.state set o) × (y ≡ pos (first_where (is_after heap.old.state (member_class heap.old.state.layout set) (key ∷ others.now) x) (owned heap.old.state set o)))) (λ e. owner heap.old.state set o ≡ Err e) }
     ensures same { heap.new.state ≡ heap.old.state }
-    ensures touches { (heap.old.total ≤ heap.new.total) × (heap.new.total ≤ heap.old.total + 2 + members_passed heap.old.state (member_class heap.old.state.layout set) (key ∷ others.now) x (owned heap.old.state set o)) }
+    ensures touches { (heap.old.total ≤ heap.new.total) × (heap.new.total ≤ heap.old.total + 2 + before_where (is_after heap.old.state (member_class heap.old.state.layout set) (key ∷ others.now) x) (owned heap.old.state set o)) }
 {
     let class = class_of(heap, set);
-    match whole_of(heap, class, key.field, x) {
-        Some(own) => {
-            let rank = Rank { key, own };
+    match mode(heap, class, key.field) {
+        Mode::Integer => {
+            let own = whole(heap, class, key.field, x);
             match others {
-                [] => first_after_number(heap, rank, set, o, x),
-                _ => first_after_whole(heap, rank, others, set, o, x),
+                [] => heap.first_past(set, o, key.field, own, key.high),
+                _ => {
+                    let own = Value::Whole(own);
+                    let rank = Rank {
+                        class,
+                        key,
+                        x,
+                        own,
+                        whole: true,
+                    };
+                    walk(heap, &rank, others, set, o)
+                }
             }
         }
-        None => first_after_value(heap, key, others, set, o, x),
+        Mode::Alpha => {
+            let own = value(heap, class, key.field, x);
+            let rank = Rank {
+                class,
+                key,
+                x,
+                own,
+                whole: false,
+            };
+            walk(heap, &rank, others, set, o)
+        }
     }
 }
 
-// The first member that ranks after x, where the key is the only one and of whole numbers, and x has this value.
-fn first_after_number(
+// The first member that ranks after x, by a walk from member to member.
+#[inline(always)]
+fn walk(
     heap: &mut Heap,
-    rank: Rank,
-    set: usize,
-    o: i64,
-    x: i64,
-) -> Result<Option<i64>, FaultKind>
-    requires set { set < length heap.old.state.layout.sets }
-    requires mode { slice_get (modes_of heap.old.state.layout (member_class heap.old.state.layout set)) rank.key.field ≡ Some Mode.Integer }
-    requires own { value_of heap.old.state (member_class heap.old.state.layout set) rank.key.field x ≡ Value.Whole rank.own }
-    ensures found { MatchResult result (λ y. IsOk (owner heap.old.state set o) × (y ≡ first_after heap.old.state (member_class heap.old.state.layout set) (rank.key ∷ []) x (owned heap.old.state set o))) (λ e. owner heap.old.state set o ≡ Err e) }
-    ensures same { heap.new.state ≡ heap.old.state }
-    ensures touches { (heap.old.total ≤ heap.new.total) × (heap.new.total ≤ heap.old.total + 1 + members_passed heap.old.state (member_class heap.old.state.layout set) (rank.key ∷ []) x (owned heap.old.state set o)) }
-{
-    heap.sets_are_apart();
-    match heap.first_past(set, o, rank.key.field, rank.own, rank.key.high) {
-        Ok(first) => Ok(as_member(first)),
-        Err(fault) => Err(fault),
-    }
-}
-
-// The first member that ranks after x, where the key that counts most is of whole numbers, and x has this value. The value of
-// each member is read together with the next member.
-fn first_after_whole(
-    heap: &mut Heap,
-    rank: Rank,
+    rank: &Rank,
     others: &[RankKey],
     set: usize,
     o: i64,
-    x: i64,
-) -> Result<Option<i64>, FaultKind>
-    requires set { set < length heap.old.state.layout.sets }
-    requires keys { AreFields heap.old.state.layout (member_class heap.old.state.layout set) (rank.key ∷ others.now) }
-    requires mode { slice_get (modes_of heap.old.state.layout (member_class heap.old.state.layout set)) rank.key.field ≡ Some Mode.Integer }
-    requires own { value_of heap.old.state (member_class heap.old.state.layout set) rank.key.field x ≡ Value.Whole rank.own }
-    ensures found { MatchResult result (λ y. IsOk (owner heap.old.state set o) × (y ≡ first_after heap.old.state (member_class heap.old.state.layout set) (rank.key ∷ others.now) x (owned heap.old.state set o))) (λ e. owner heap.old.state set o ≡ Err e) }
+) -> Result<i64, FaultKind>
+    requires rank { IsRankIn heap.old.state set rank.now others.now }
+    ensures found { MatchResult result (λ y. IsOk (owner heap.old.state set o) × (y ≡ pos (first_where (is_after heap.old.state (member_class heap.old.state.layout set) (rank.now.key ∷ others.now) rank.now.x) (owned heap.old.state set o)))) (λ e. owner heap.old.state set o ≡ Err e) }
     ensures same { heap.new.state ≡ heap.old.state }
-    ensures touches { (heap.old.total ≤ heap.new.total) × (heap.new.total ≤ heap.old.total + 2 + members_passed heap.old.state (member_class heap.old.state.layout set) (rank.key ∷ others.now) x (owned heap.old.state set o)) }
+    ensures touches { (heap.old.total ≤ heap.new.total) × (heap.new.total ≤ heap.old.total + 2 + before_where (is_after heap.old.state (member_class heap.old.state.layout set) (rank.now.key ∷ others.now) rank.now.x) (owned heap.old.state set o)) }
 {
     heap.sets_are_apart();
-    let class = class_of(heap, set);
-    let mut member = match first_member(heap, set, o) {
+    let mut y = match heap.first(set, o) {
         Ok(first) => first,
         Err(fault) => return Err(fault),
     };
-    while let Some(y) = member {
-        let its = match heap.whole_member(set, rank.key.field, y) {
-            Ok(its) => its,
+    while y != 0 {
+        let it = match look(heap, rank, others, set, y) {
+            Ok(it) => it,
             Err(fault) => return Err(fault),
         };
-        let pair = Pair { class, y, x };
-        if ranks_after_whole(heap, its.value, rank, others, pair) {
-            return Ok(Some(y));
+        if it.after {
+            return Ok(y);
         }
-        member = as_member(its.next);
+        y = it.next;
     }
-    Ok(None)
+    Ok(0)
 }
 
-// The first member that ranks after x, by a key of any mode. The value of x is read once, and that of each member together with
-// the next member.
-fn first_after_value(
+// Looks at a member: its value is read together with the next one.
+#[inline(always)]
+fn look(
     heap: &mut Heap,
-    key: RankKey,
+    rank: &Rank,
     others: &[RankKey],
     set: usize,
-    o: i64,
-    x: i64,
-) -> Result<Option<i64>, FaultKind>
-    requires set { set < length heap.old.state.layout.sets }
-    requires keys { AreFields heap.old.state.layout (member_class heap.old.state.layout set) (key ∷ others.now) }
-    ensures found { MatchResult result (λ y. IsOk (owner heap.old.state set o) × (y ≡ first_after heap.old.state (member_class heap.old.state.layout set) (key ∷ others.now) x (owned heap.old.state set o))) (λ e. owner heap.old.state set o ≡ Err e) }
+    y: i64,
+) -> Result<Seen, FaultKind>
+    requires rank { IsRankIn heap.old.state set rank.now others.now }
+    ensures found { MatchResult result (λ it. (it.after ≡ ranks_after heap.old.state (member_class heap.old.state.layout set) (rank.now.key ∷ others.now) y rank.now.x) × (next_in heap.old.state set y ≡ Ok it.next)) (λ e. next_in heap.old.state set y ≡ Err e) }
     ensures same { heap.new.state ≡ heap.old.state }
-    ensures touches { (heap.old.total ≤ heap.new.total) × (heap.new.total ≤ heap.old.total + 2 + members_passed heap.old.state (member_class heap.old.state.layout set) (key ∷ others.now) x (owned heap.old.state set o)) }
+    ensures touches { MatchResult result (λ _. heap.new.total ≡ heap.old.total + 1) (λ _. heap.old.total ≤ heap.new.total) }
 {
-    heap.sets_are_apart();
-    let class = class_of(heap, set);
-    let own = value(heap, class, key.field, x);
-    let mut member = match first_member(heap, set, o) {
-        Ok(first) => first,
-        Err(fault) => return Err(fault),
-    };
-    while let Some(y) = member {
-        let its = match heap.member(set, key.field, y) {
-            Ok(its) => its,
-            Err(fault) => return Err(fault),
-        };
-        let order = order_of(&its.value, &own);
-        let pair = Pair { class, y, x };
-        if ranks_after_by(heap, order, key.high, others, pair) {
-            return Ok(Some(y));
+    let field = rank.key.field;
+    if rank.whole {
+        match heap.whole_member(set, field, y) {
+            Ok(its) => {
+                let value = Value::Whole(its.value);
+                Ok(looked(heap, rank, others, y, &value, its.next))
+            }
+            Err(fault) => Err(fault),
         }
-        member = as_member(its.next);
+    } else {
+        match heap.member(set, field, y) {
+            Ok(its) => Ok(looked(heap, rank, others, y, &its.value, its.next)),
+            Err(fault) => Err(fault),
+        }
     }
-    Ok(None)
+}
+
+// What a look at a member finds, by its value.
+#[inline(always)]
+fn looked(heap: &Heap, rank: &Rank, others: &[RankKey], y: i64, value: &Value, next: i64) -> Seen
+    requires keys { AreFields heap.now.state.layout rank.now.class others.now }
+    ensures next { result.next ≡ next }
+    ensures after { result.after ≡ match_ordering (value_cmp value.now rank.now.own) rank.now.key.high (ranks_after heap.now.state rank.now.class others.now y rank.now.x) (not rank.now.key.high) }
+{
+    let order = order_of(value, &rank.own);
+    let after = ranks_after_by(heap, order, rank.key.high, others, rank.class, y, rank.x);
+    Seen { after, next }
 }
 
 // The class of the members of a set.
@@ -245,26 +234,6 @@ fn class_of(heap: &Heap, set: usize) -> usize
 {
     let layout = heap.layout();
     layout.sets[set].member
-}
-
-// The first member of the set of an owner, if any.
-fn first_member(heap: &mut Heap, set: usize, o: i64) -> Result<Option<i64>, FaultKind>
-    requires set { set < length heap.old.state.layout.sets }
-    ensures first { result ≡ and_then (first_in heap.old.state set o) (λ y. Ok (as_member y)) }
-    ensures same { heap.new.state ≡ heap.old.state }
-    ensures touches { (heap.old.total ≤ heap.new.total) × (heap.new.total ≤ heap.old.total + 1) }
-{
-    match heap.first(set, o) {
-        Ok(first) => Ok(as_member(first)),
-        Err(fault) => Err(fault),
-    }
-}
-
-// A member, or none, which calls answer as 0.
-fn as_member(number: i64) -> Option<i64>
-    ensures { result ≡ as_member number }
-{
-    if number == 0 { None } else { Some(number) }
 }
 
 // The order of two values. That of two whole numbers is in line.
@@ -305,40 +274,29 @@ fn order_of_texts(s: Alpha, t: Alpha) -> Ordering
 // Whether y ranks strictly after x: by the order of the two in a key, high or low, and where they tie in it by the first
 // of the others in which they differ.
 #[inline(always)]
-fn ranks_after_by(heap: &Heap, order: Ordering, high: bool, others: &[RankKey], pair: Pair) -> bool
-    requires keys { AreFields heap.now.state.layout pair.class others.now }
-    ensures { result ≡ match_ordering order high (ranks_after heap.now.state pair.class others.now pair.y pair.x) (not high) }
+fn ranks_after_by(
+    heap: &Heap,
+    order: Ordering,
+    high: bool,
+    others: &[RankKey],
+    class: usize,
+    y: i64,
+    x: i64,
+) -> bool
+    requires keys { AreFields heap.now.state.layout class others.now }
+    ensures { result ≡ match_ordering order high (ranks_after heap.now.state class others.now y x) (not high) }
 {
     match order {
         Ordering::Less => high,
         Ordering::Greater => !high,
         Ordering::Equal => match others {
             [] => false,
-            _ => ranks_after(heap, others, pair.class, pair.y, pair.x),
+            _ => ranks_after(heap, others, class, y, x),
         },
     }
 }
 
-// Whether one entity ranks after another, by a key of whole numbers that comes first, and then by the other keys.
-#[inline(always)]
-fn ranks_after_whole(heap: &Heap, its: i64, rank: Rank, others: &[RankKey], pair: Pair) -> bool
-    requires keys { AreFields heap.now.state.layout pair.class others.now }
-    ensures { result ≡ match_ordering (int_cmp its rank.own) rank.key.high (ranks_after heap.now.state pair.class others.now pair.y pair.x) (not rank.key.high) }
-{
-    if its < rank.own {
-        return rank.key.high;
-    }
-    if rank.own < its {
-        return !rank.key.high;
-    }
-    match others {
-        [] => false,
-        _ => ranks_after(heap, others, pair.class, pair.y, pair.x),
-    }
-}
-
-// Whether y ranks strictly after x: by the first key in which they differ. They are no Pair here: that would be written to memory
-// for each member that x passes.
+// Whether y ranks strictly after x: by the first key in which they differ.
 #[inline(never)]
 fn ranks_after(heap: &Heap, keys: &[RankKey], class: usize, y: i64, x: i64) -> bool
     requires keys { AreFields heap.now.state.layout class keys.now }
@@ -356,24 +314,14 @@ fn ranks_after(heap: &Heap, keys: &[RankKey], class: usize, y: i64, x: i64) -> b
     false
 }
 
-// The value of an attribute of an entity, where it is one of whole numbers.
-fn whole_of(heap: &Heap, class: usize, field: usize, x: i64) -> Option<i64>
-    requires field { field < length (modes_of heap.now.state.layout class) }
-    ensures { (n : ℤ) → result ≡ Some n → (slice_get (modes_of heap.now.state.layout class) field ≡ Some Mode.Integer) × (value_of heap.now.state class field x ≡ Value.Whole n) }
+// The value of an attribute of whole numbers of an entity, 0 where there is none.
+fn whole(heap: &Heap, class: usize, field: usize, x: i64) -> i64
+    requires mode { slice_get (modes_of heap.now.state.layout class) field ≡ Some Mode.Integer }
+    ensures { value_of heap.now.state class field x ≡ Value.Whole result }
 {
-    match mode(heap, class, field) {
-        Mode::Integer => whole_in(&value(heap, class, field, x)),
-        Mode::Alpha => None,
-    }
-}
-
-// A whole number, where it is one.
-fn whole_in(value: &Value) -> Option<i64>
-    ensures { (n : ℤ) → result ≡ Some n → value.now ≡ Value.Whole n }
-{
-    match value {
-        Value::Whole(n) => Some(*n),
-        Value::Text(_) => None,
+    match heap.whole(class, field, x) {
+        Ok(n) => n,
+        Err(_) => 0,
     }
 }
 

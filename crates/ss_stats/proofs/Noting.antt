@@ -1,5 +1,5 @@
 -- What one value more makes of a history's summary.
-use Rattle.std.proofs.Common.{◌≡◌, ℕ, suc, List, [], ◌∷◌, ◌++◌, length, map, fold, ℤ, pos, ◌+ℤ◌, ◌-ℤ◌, ◌*ℤ◌, ◌<ℤ◌, int_le, false, Ok, ap, refl, sym, ◌∙◌, arith, length-append}
+use Rattle.std.proofs.Common.{◌≡◌, List, [], ◌∷◌, ◌++◌, length, map, fold, ℤ, pos, ◌+ℤ◌, ◌-ℤ◌, ◌*ℤ◌, ◌<ℤ◌, int_le, false, Ok, ap, refl, ◌∙◌, arith, length-append}
 use Rattle.std.specs.Int.{int_max, int_min}
 use Rattle.std.proofs.Math.IntN.{*ℤ-zero}
 use Rattle.std.proofs.lemmas.Int.{ints}
@@ -11,12 +11,6 @@ use Rattle.ss_stats.specs.History.{History, Tally, Accumulate, Change, tally_lim
 use Rattle.ss_stats.specs.Summary.{Summary, IsSummaryOf, weighing_of, last_given}
 
 -- ---- which kind of history
-
-not_both : (n a b c : ℤ) → Once n ≡ ByTime a b c → ⊥
-not_both n a b c e = cc
-
-once_is : (n m : ℤ) → Once n ≡ Once m → n ≡ m
-once_is n m e = cc
 
 by_time_is : (a b c d e f : ℤ) → ByTime a b c ≡ ByTime d e f → (a ≡ d) × (b ≡ e) × (c ≡ f)
 by_time_is a b c d e f p = (cc, cc, cc)
@@ -55,70 +49,67 @@ fold-noted f start changes c =
 
 pub once_noted : (h : History) (number now value : ℤ) → weighing_of h ≡ Once number → weighing_of (with_noted_value h now value) ≡ Once (number +ℤ pos 1)
 once_noted (Tally values) number now value e =
-    let n : pos (length values) ≡ number = once_is _ _ e in
+    let n : pos (length values) ≡ number = cc in
     let l : pos (length (values ++ (value ∷ []))) ≡ number +ℤ pos 1 = omega (arith, ints, length-append values (value ∷ [])) in ap Once l
-once_noted (Accumulate start changes) number now value e = absurd (not_both _ _ _ _ (sym e))
+once_noted (Accumulate start changes) number now value e = cc
 
 pub once_sum_noted : (h : History) (number now value : ℤ) → weighing_of h ≡ Once number → exact_sum_of (with_noted_value h now value) (last_moment (with_noted_value h now value)) ≡ exact_sum_of h now +ℤ value
 once_sum_noted (Tally values) number now value e = fold-append ◌+ℤ◌ (pos 0) values (value ∷ [])
-once_sum_noted (Accumulate start changes) number now value e = absurd (not_both _ _ _ _ (sym e))
+once_sum_noted (Accumulate start changes) number now value e = cc
 
 pub once_sum : (h : History) (number now : ℤ) → weighing_of h ≡ Once number → exact_sum_of h now ≡ exact_sum_of h (last_moment h)
 once_sum (Tally values) number now e = refl
-once_sum (Accumulate start changes) number now e = absurd (not_both _ _ _ _ (sym e))
+once_sum (Accumulate start changes) number now e = cc
 
 pub once_outcome : (h : History) (number : ℤ) → weighing_of h ≡ Once number → number <ℤ pos tally_limit → note_outcome h ≡ Ok tt
 once_outcome (Tally values) number e less =
-    let n : pos (length values) ≡ number = once_is _ _ e in
+    let n : pos (length values) ≡ number = cc in
     let f : int_le (pos tally_limit) (pos (length values)) ≡ false = grind (arith, ints) in rw f refl
 once_outcome (Accumulate start changes) number e less = refl
 
 pub once_restarted : (h : History) (number now value : ℤ) → weighing_of h ≡ Once number → restarted h now value ≡ Tally []
 once_restarted (Tally values) number now value e = refl
-once_restarted (Accumulate start changes) number now value e = absurd (not_both _ _ _ _ (sym e))
+once_restarted (Accumulate start changes) number now value e = cc
 
 -- ---- a history that weighs each value by its time
 
 pub by_time_noted : (h : History) (start last held now value : ℤ) → weighing_of h ≡ ByTime start last held → weighing_of (with_noted_value h now value) ≡ ByTime start now value
-by_time_noted (Tally values) start last held now value e = absurd (not_both _ _ _ _ e)
+by_time_noted (Tally values) start last held now value e = cc
 by_time_noted (Accumulate first changes) start last held now value e =
     let p = by_time_is _ _ _ _ _ _ e in
     let l = last_of-append first changes (record { moment = now; value = value }) in rw l (ap (λ m. ByTime m now value) p.0)
 
 pub by_time_sum_noted : (h : History) (start last held now value : ℤ) → weighing_of h ≡ ByTime start last held → exact_sum_of (with_noted_value h now value) (last_moment (with_noted_value h now value)) ≡ exact_sum_of h now
-by_time_sum_noted (Tally values) start last held now value e = absurd (not_both _ _ _ _ e)
+by_time_sum_noted (Tally values) start last held now value e = cc
 by_time_sum_noted (Accumulate first changes) start last held now value e =
     let c : Change = record { moment = now; value = value } in
     ap (λ m. weighed_sum first (changes ++ (c ∷ [])) m.moment) (last_of-append first changes c) ∙ weighed_sum-noted first changes c
 
 pub by_time_sum : (h : History) (start last held now : ℤ) → weighing_of h ≡ ByTime start last held → exact_sum_of h now ≡ exact_sum_of h (last_moment h) +ℤ held *ℤ (now -ℤ last)
-by_time_sum (Tally values) start last held now e = absurd (not_both _ _ _ _ e)
+by_time_sum (Tally values) start last held now e = cc
 by_time_sum (Accumulate first changes) start last held now e =
     let p = by_time_is _ _ _ _ _ _ e in rw (← p.1, ← p.2) (weighed_sum-until first changes now)
 
 pub by_time_outcome : (h : History) (start last held : ℤ) → weighing_of h ≡ ByTime start last held → note_outcome h ≡ Ok tt
-by_time_outcome (Tally values) start last held e = absurd (not_both _ _ _ _ e)
+by_time_outcome (Tally values) start last held e = cc
 by_time_outcome (Accumulate first changes) start last held e = refl
 
 pub by_time_restarted : (h : History) (start last held now value : ℤ) → weighing_of h ≡ ByTime start last held → restarted h now value ≡ Accumulate (record { moment = now; value = value }) []
-by_time_restarted (Tally values) start last held now value e = absurd (not_both _ _ _ _ e)
+by_time_restarted (Tally values) start last held now value e = cc
 by_time_restarted (Accumulate first changes) start last held now value e = refl
 
 -- ---- the extremes
 
-none_noted : (n : ℕ) → Once (pos (suc n)) ≡ Once (pos 0) → ⊥
-none_noted n e = cc
-
 -- the first value of a tally
 pub first_maximum : (h : History) (now value : ℤ) → weighing_of h ≡ Once (pos 0) → maximum_of (with_noted_value h now value) ≡ value
 first_maximum (Tally []) now value e = refl
-first_maximum (Tally (x ∷ xs)) now value e = absurd (none_noted (length xs) e)
-first_maximum (Accumulate start changes) now value e = absurd (not_both _ _ _ _ (sym e))
+first_maximum (Tally (x ∷ xs)) now value e = cc
+first_maximum (Accumulate start changes) now value e = cc
 
 pub first_minimum : (h : History) (now value : ℤ) → weighing_of h ≡ Once (pos 0) → minimum_of (with_noted_value h now value) ≡ value
 first_minimum (Tally []) now value e = refl
-first_minimum (Tally (x ∷ xs)) now value e = absurd (none_noted (length xs) e)
-first_minimum (Accumulate start changes) now value e = absurd (not_both _ _ _ _ (sym e))
+first_minimum (Tally (x ∷ xs)) now value e = cc
+first_minimum (Accumulate start changes) now value e = cc
 
 -- any other value
 pub next_maximum : (h : History) (now value : ℤ) → (weighing_of h ≡ Once (pos 0) → ⊥) → maximum_of (with_noted_value h now value) ≡ int_max (maximum_of h) value

@@ -1,6 +1,7 @@
 -- Statistics that keep their histories as they were.
 use Rattle.std.proofs.Common.{◌≡◌, zero, suc, ℤ, pos, Bool, true, false, cond, int_eq, List, [], ◌∷◌, map, get_or, All, Option, None, sym, ap, ◌∙◌, subst, refl, arith}
 use Rattle.ss_stats_histories.proofs.Common.{bare, column_of, columns_of, fun_ext, History, IsKeptUntil, IsUntil, none_in, none_yet, Recorded, Rows, rows_of, shown, Statistic, StatisticHistories}
+use mathlib.Core.List.{map-map}
 use Rattle.ss_meaning.specs.Histories.{no_histories}
 use Rattle.ss_stats_histories.proofs.Columns.{head_of, tail_of, not_none, joined, none_is}
 
@@ -18,11 +19,7 @@ abbrev pub pair_of : Statistic × Rows → StatisticHistories
 pair_of z = (z.0, column_of z.1)
 
 pub shown_bare : (ks ns : List Recorded) → map bare ns ≡ map bare ks → map shown ns ≡ map shown ks
-shown_bare [] [] e = refl
-shown_bare [] (n ∷ ns) e = absurd (not_none _ _ e)
-shown_bare (k ∷ ks) [] e = absurd (not_none _ _ (sym e))
-shown_bare (k ∷ ks) (n ∷ ns) e =
-    joined _ _ _ _ (ap pair_of (ap (head_of (bare n)) e)) (shown_bare ks ns (ap tail_of e))
+shown_bare ks ns e = sym (map-map pair_of bare ns) ∙ ap (map pair_of) e ∙ map-map pair_of bare ks
 
 none_there : (x : ℤ) → column_of none_yet x ≡ None
 none_there x = by (int_eq (pos 0) x) None where

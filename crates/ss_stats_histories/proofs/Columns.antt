@@ -137,13 +137,6 @@ rooms_each l whose count (k ∷ ks) r (suc j) d h = rooms_each l whose count ks 
 
 -- ## Lists of which an item is written
 
-pub all_written : {X : Type 0} → (P : X → Type 0) (xs : List X) (j : ℕ) (x : X) → All P xs → P x → All P (slice_set xs j x)
-all_written P [] j x a p k d h = a k d h
-all_written P (y ∷ xs) zero x a p zero d h = p
-all_written P (y ∷ xs) zero x a p (suc k) d h = a (suc k) d h
-all_written P (y ∷ xs) (suc j) x a p zero d h = a zero d (omega arith)
-all_written P (y ∷ xs) (suc j) x a p (suc k) d h = all_written P xs j x (λ m e l. a (suc m) e (omega (arith, l))) p k d (omega (arith, h))
-
 pub one_changed : {X Y : Type 0} → (g : X → Y) (f : Y → Y) (xs : List X) (j : ℕ) (x d : X) → j < length xs → g x ≡ f (g (get_or xs j d)) → map g (slice_set xs j x) ≡ changed_at f (map g xs) j
 one_changed g f [] j x d h e = refl
 one_changed g f (y ∷ xs) zero x d h e = ap (λ z. z ∷ map g xs) e

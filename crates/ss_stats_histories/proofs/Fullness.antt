@@ -2,16 +2,16 @@
 use Rattle.std.proofs.Common.{◌≡◌, ℕ, zero, suc, true, false, ◌<◌, ◌+◌, if◌then◌else◌, ℤ, List, [], ◌∷◌, ◌++◌, length, map, take, get_or, Option, Some, None, is_some, slice_get, Result, Ok, Err, is_ok, subst, sym, ap, ◌∙◌, refl, arith}
 use Rattle.ss_stats_histories.proofs.Common.{column_of, first_at, has_at, option_or, Overflow, Recorded, refused_at, refused_in, shown, take_more, Unnoted, ⊤}
 use Rattle.ss_base.specs.declared.fault.FaultKind.{FaultKind}
+use Rattle.std.proofs.lemmas.Option.{slice_get-map}
+use Rattle.std.specs.Option.{option_map}
+use Rattle.ss_stats_histories.specs.Each.{has_of}
 use Rattle.ss_stats.specs.History.{History, is_full, note_outcome}
-
-not_both : true ≡ false → ⊥
-not_both e = cc
 
 pub refused_is_full : (h : History) (r : Result ⊤ FaultKind) → r ≡ note_outcome h → is_ok r ≡ false → is_full h ≡ true
 refused_is_full h r =
     elim (is_full h) as (λ b. r ≡ (if b then Err Overflow else Ok tt) → is_ok r ≡ false → b ≡ true) [
       | true ↦ λ e i. refl
-      | false ↦ λ e i. absurd (not_both (subst (λ (a : Result ⊤ FaultKind). is_ok a ≡ false) e i))
+      | false ↦ λ e i. let n : true ≡ false = subst (λ (a : Result ⊤ FaultKind). is_ok a ≡ false) e i in cc
     ]
 
 pub refused_there : (x : ℤ) (ks : List Recorded) (j : ℕ) (d : Recorded) → j < length ks → refused_at x (map shown ks) j ≡ refused_in (column_of (get_or ks j d).rows x)
@@ -36,22 +36,12 @@ pub next_reason : (f : ℕ → Option Unnoted) (js : List ℕ) (i d : ℕ) → i
 next_reason f js i d h = ap (first_at f) (take_more js i d h) ∙ one_reason f (take i js) (get_or js i d)
 
 pub has_within : (x : ℤ) (ks : List Recorded) (j : ℕ) → has_at x (map shown ks) j ≡ true → j < length ks
-has_within x [] j e = absurd (not_both (sym e))
+has_within x [] j e = cc
 has_within x (k ∷ ks) zero e = omega arith
 has_within x (k ∷ ks) (suc j) e = omega (arith, has_within x ks j e)
 
-none_there : (k : Recorded) → None ≡ Some k → ⊥
-none_there k e = cc
-
-some_there : (n k : Recorded) → Some n ≡ Some k → n ≡ k
-some_there n k e = cc
-
 pub has_there : (x : ℤ) (ks : List Recorded) (j : ℕ) (k : Recorded) → slice_get ks j ≡ Some k → has_at x (map shown ks) j ≡ is_some (column_of k.rows x)
-has_there x [] j k e = absurd (none_there k e)
-has_there x (n ∷ ns) zero k e = ap (λ (r : Recorded). is_some (column_of r.rows x)) (some_there n k e)
-has_there x (n ∷ ns) (suc j) k e = has_there x ns j k e
+has_there x ks j k e = ap (has_of x) (slice_get-map shown ks j ∙ ap (option_map shown) e)
 
 pub has_nowhere : (x : ℤ) (ks : List Recorded) (j : ℕ) → slice_get ks j ≡ None → has_at x (map shown ks) j ≡ false
-has_nowhere x [] j e = refl
-has_nowhere x (n ∷ ns) zero e = absurd (none_there n (sym e))
-has_nowhere x (n ∷ ns) (suc j) e = has_nowhere x ns j e
+has_nowhere x ks j e = ap (has_of x) (slice_get-map shown ks j ∙ ap (option_map shown) e)

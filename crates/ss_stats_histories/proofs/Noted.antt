@@ -12,7 +12,7 @@ use Rattle.ss_meaning.specs.Histories.{starting, ending, noting_in, all_noting, 
 use Rattle.ss_stats_histories.specs.declared.unnoted.Unnoted.TheVariants.{Full}
 use Rattle.ss_stats_histories.specs.declared.unnoted.Unnoted.TheVariants as unnoted
 use Rattle.ss_stats_histories.specs.Records.{Records, Recorded, Rows, column_of, columns_of, statistics_of, rows_of, rooms_of, noted_to, renewed_to, figure_of, figured, mean_in, why}
-use Rattle.ss_stats_histories.proofs.Columns.{head_of, tail_of, not_none, joined}
+use mathlib.Core.List.{map-map}
 
 -- what a contract sees of the statistics and a moment
 abbrev pub records_of : List Recorded → (latest : ℤ) → Records
@@ -20,33 +20,38 @@ records_of ks latest = record { statistics = statistics_of ks; rows = rows_of ks
 
 -- ## Statistics of which each is changed
 
-pub same_statistics : (f : StatisticHistories → StatisticHistories) → ((z : StatisticHistories) → (f z).0 ≡ z.0) → (ks ns : List Recorded) → map shown ns ≡ map f (map shown ks) → statistics_of ns ≡ statistics_of ks
-same_statistics f s [] [] e = refl
-same_statistics f s [] (n ∷ ns) e = absurd (not_none _ _ e)
-same_statistics f s (k ∷ ks) [] e = absurd (not_none _ _ (sym e))
-same_statistics f s (k ∷ ks) (n ∷ ns) e = joined _ _ _ _ (ap (λ (z : StatisticHistories). z.0) (ap (head_of (shown n)) e) ∙ s (shown k)) (same_statistics f s ks ns (ap tail_of e))
+statistics_are : (ks : List Recorded) → statistics_of ks ≡ map (λ (z : StatisticHistories). z.0) (map shown ks)
+statistics_are ks = sym (map-map (λ (z : StatisticHistories). z.0) shown ks)
 
-pub statistics_same : (ks ns : List Recorded) → map shown ns ≡ map shown ks → statistics_of ns ≡ statistics_of ks
-statistics_same [] [] e = refl
-statistics_same [] (n ∷ ns) e = absurd (not_none _ _ e)
-statistics_same (k ∷ ks) [] e = absurd (not_none _ _ (sym e))
-statistics_same (k ∷ ks) (n ∷ ns) e = joined _ _ _ _ (ap (λ (z : StatisticHistories). z.0) (ap (head_of (shown n)) e)) (statistics_same ks ns (ap tail_of e))
+columns_are : (ks : List Recorded) → columns_of (rows_of ks) ≡ map (λ (z : StatisticHistories). z.1) (map shown ks)
+columns_are ks = map-map column_of (λ (k : Recorded). k.rows) ks ∙ sym (map-map (λ (z : StatisticHistories). z.1) shown ks)
+
+kept_by : (f : StatisticHistories → StatisticHistories) → ((z : StatisticHistories) → (f z).0 ≡ z.0) → (zs : List StatisticHistories) → map (λ (z : StatisticHistories). z.0) (map f zs) ≡ map (λ (z : StatisticHistories). z.0) zs
+kept_by f s [] = refl
+kept_by f s (z ∷ zs) = λ i. s z i ∷ kept_by f s zs i
+
+pub same_statistics : (f : StatisticHistories → StatisticHistories) → ((z : StatisticHistories) → (f z).0 ≡ z.0) → (ks ns : List Recorded) → map shown ns ≡ map f (map shown ks) → statistics_of ns ≡ statistics_of ks
+same_statistics f s ks ns e = statistics_are ns ∙ ap (map (λ (z : StatisticHistories). z.0)) e ∙ kept_by f s (map shown ks) ∙ sym (statistics_are ks)
+
+-- what a contract says of the histories that change, by what is seen of the statistics
+pub seconds : (ns : List Recorded) (zs : List StatisticHistories) → map shown ns ≡ zs → columns_of (rows_of ns) ≡ map (λ (z : StatisticHistories). z.1) zs
+seconds ns zs e = columns_are ns ∙ ap (map (λ (z : StatisticHistories). z.1)) e
+
+starts : (l : Layout) (whose : Owner) (here : ℤ → Bool) (now : ℤ) (ks : List Recorded) → map (λ (z : StatisticHistories). z.1) (map (begun_shown l whose here now) (map shown ks)) ≡ starting l whose here now (statistics_of ks) (columns_of (rows_of ks))
+starts l whose here now [] = refl
+starts l whose here now (k ∷ ks) = ap (λ cs. (begun_shown l whose here now (shown k)).1 ∷ cs) (starts l whose here now ks)
 
 pub started_is : (l : Layout) (whose : Owner) (here : ℤ → Bool) (now : ℤ) (ks ns : List Recorded) → map shown ns ≡ map (begun_shown l whose here now) (map shown ks) →
     columns_of (rows_of ns) ≡ starting l whose here now (statistics_of ks) (columns_of (rows_of ks))
-started_is l whose here now [] [] e = refl
-started_is l whose here now [] (n ∷ ns) e = absurd (not_none _ _ e)
-started_is l whose here now (k ∷ ks) [] e = absurd (not_none _ _ (sym e))
-started_is l whose here now (k ∷ ks) (n ∷ ns) e =
-    joined _ _ _ _ (ap (λ (z : StatisticHistories). z.1) (ap (head_of (shown n)) e)) (started_is l whose here now ks ns (ap tail_of e))
+started_is l whose here now ks ns e = seconds ns _ e ∙ starts l whose here now ks
+
+ends : (l : Layout) (class : ℕ) (x : ℤ) (ks : List Recorded) → map (λ (z : StatisticHistories). z.1) (map (ended_shown l (Class class) x) (map shown ks)) ≡ ending l class x (statistics_of ks) (columns_of (rows_of ks))
+ends l class x [] = refl
+ends l class x (k ∷ ks) = ap (λ cs. (ended_shown l (Class class) x (shown k)).1 ∷ cs) (ends l class x ks)
 
 pub ended_is : (l : Layout) (class : ℕ) (x : ℤ) (ks ns : List Recorded) → map shown ns ≡ map (ended_shown l (Class class) x) (map shown ks) →
     columns_of (rows_of ns) ≡ ending l class x (statistics_of ks) (columns_of (rows_of ks))
-ended_is l class x [] [] e = refl
-ended_is l class x [] (n ∷ ns) e = absurd (not_none _ _ e)
-ended_is l class x (k ∷ ks) [] e = absurd (not_none _ _ (sym e))
-ended_is l class x (k ∷ ks) (n ∷ ns) e =
-    joined _ _ _ _ (ap (λ (z : StatisticHistories). z.1) (ap (head_of (shown n)) e)) (ended_is l class x ks ns (ap tail_of e))
+ended_is l class x ks ns e = seconds ns _ e ∙ ends l class x ks
 
 -- ## Statistics of which those at some places are changed
 
@@ -68,9 +73,6 @@ places_of g test [] = refl
 places_of g test (x ∷ xs) = ap (λ (ps : List ℕ). if test (g x) then 0 ∷ map suc ps else map suc ps) (places_of g test xs)
 
 -- ## Why a number is not noted
-
-not_both : true ≡ false → ⊥
-not_both e = cc
 
 -- why a history takes no such value
 abbrev pub stops_in : Value → Option History → Option Unnoted
@@ -162,50 +164,40 @@ noted_is s x now v (k ∷ ks) =
 
 fresh_first : (x now v : ℤ) (o : Option History) (c : Column) (cs : List Column) → is_some o ≡ true →
     turned (λ h. with_history x (restarted h now v) c ∷ cs) (sure o) ≡ Ok (renewed_to x now v o c ∷ cs)
-fresh_first x now v None c cs e = absurd (not_both (sym e))
+fresh_first x now v None c cs e = cc
 fresh_first x now v (Some h) c cs e = refl
 
 pub renewed_there : (x now v : ℤ) (zs : List StatisticHistories) (j : ℕ) → has_at x zs j ≡ true →
     renewed j x now v (map (λ (z : StatisticHistories). z.1) zs) ≡ Ok (map (λ (z : StatisticHistories). z.1) (changed_at (renewed_one x now v) zs j))
-renewed_there x now v [] j e = absurd (not_both (sym e))
+renewed_there x now v [] j e = cc
 renewed_there x now v (z ∷ zs) zero e = fresh_first x now v (z.1 x) z.1 (map (λ (z : StatisticHistories). z.1) zs) e
 renewed_there x now v (z ∷ zs) (suc j) e = ap (λ (r : Result (List Column) Failure). turned (λ ds. z.1 ∷ ds) r) (renewed_there x now v zs j e)
 
 none_first : (x now v : ℤ) (o : Option History) (c : Column) (cs : List Column) → is_some o ≡ false →
     turned (λ h. with_history x (restarted h now v) c ∷ cs) (sure o) ≡ Err TypeError
 none_first x now v None c cs e = refl
-none_first x now v (Some h) c cs e = absurd (not_both e)
+none_first x now v (Some h) c cs e = cc
 
 pub renewed_nowhere : (x now v : ℤ) (zs : List StatisticHistories) (j : ℕ) → has_at x zs j ≡ false → renewed j x now v (map (λ (z : StatisticHistories). z.1) zs) ≡ Err TypeError
 renewed_nowhere x now v [] j e = refl
 renewed_nowhere x now v (z ∷ zs) zero e = none_first x now v (z.1 x) z.1 (map (λ (z : StatisticHistories). z.1) zs) e
 renewed_nowhere x now v (z ∷ zs) (suc j) e = ap (λ (r : Result (List Column) Failure). turned (λ ds. z.1 ∷ ds) r) (renewed_nowhere x now v zs j e)
 
+kept_at : (x now v : ℤ) (zs : List StatisticHistories) (j : ℕ) → map (λ (z : StatisticHistories). z.0) (changed_at (renewed_one x now v) zs j) ≡ map (λ (z : StatisticHistories). z.0) zs
+kept_at x now v [] j = refl
+kept_at x now v (z ∷ zs) zero = refl
+kept_at x now v (z ∷ zs) (suc j) = ap (λ ss. z.0 ∷ ss) (kept_at x now v zs j)
+
 pub renewed_statistics : (x now v : ℤ) (j : ℕ) (ks ns : List Recorded) → map shown ns ≡ changed_at (renewed_one x now v) (map shown ks) j → statistics_of ns ≡ statistics_of ks
-renewed_statistics x now v j [] [] e = refl
-renewed_statistics x now v j [] (n ∷ ns) e = absurd (not_none _ _ e)
-renewed_statistics x now v zero (k ∷ ks) [] e = absurd (not_none _ _ (sym e))
-renewed_statistics x now v (suc j) (k ∷ ks) [] e = absurd (not_none _ _ (sym e))
-renewed_statistics x now v zero (k ∷ ks) (n ∷ ns) e = joined _ _ _ _ (ap (λ (z : StatisticHistories). z.0) (ap (head_of (shown n)) e)) (statistics_same ks ns (ap tail_of e))
-renewed_statistics x now v (suc j) (k ∷ ks) (n ∷ ns) e = joined _ _ _ _ (ap (λ (z : StatisticHistories). z.0) (ap (head_of (shown n)) e)) (renewed_statistics x now v j ks ns (ap tail_of e))
+renewed_statistics x now v j ks ns e = statistics_are ns ∙ ap (map (λ (z : StatisticHistories). z.0)) e ∙ kept_at x now v (map shown ks) j ∙ sym (statistics_are ks)
 
--- ## What is seen of the statistics
-
-pub seconds : (ns : List Recorded) (zs : List StatisticHistories) → map shown ns ≡ zs → columns_of (rows_of ns) ≡ map (λ (z : StatisticHistories). z.1) zs
-seconds [] zs e = ap (λ (ys : List StatisticHistories). map (λ (z : StatisticHistories). z.1) ys) e
-seconds (n ∷ ns) zs e = joined _ _ _ _ refl (seconds ns (map shown ns) refl) ∙ ap (λ (ys : List StatisticHistories). map (λ (z : StatisticHistories). z.1) ys) e
+-- ## Statistics that are kept as they were
 
 pub firsts : (ks ns : List Recorded) → map bare ns ≡ map bare ks → statistics_of ns ≡ statistics_of ks
-firsts [] [] e = refl
-firsts [] (n ∷ ns) e = absurd (not_none _ _ e)
-firsts (k ∷ ks) [] e = absurd (not_none _ _ (sym e))
-firsts (k ∷ ks) (n ∷ ns) e = joined _ _ _ _ (ap (λ (z : Statistic × Rows). z.0) (ap (head_of (bare n)) e)) (firsts ks ns (ap tail_of e))
+firsts ks ns e = sym (map-map (λ (z : Statistic × Rows). z.0) bare ns) ∙ ap (map (λ (z : Statistic × Rows). z.0)) e ∙ map-map (λ (z : Statistic × Rows). z.0) bare ks
 
 pub rows_same : (ks ns : List Recorded) → map bare ns ≡ map bare ks → rows_of ns ≡ rows_of ks
-rows_same [] [] e = refl
-rows_same [] (n ∷ ns) e = absurd (not_none _ _ e)
-rows_same (k ∷ ks) [] e = absurd (not_none _ _ (sym e))
-rows_same (k ∷ ks) (n ∷ ns) e = joined _ _ _ _ (ap (λ (z : Statistic × Rows). z.1) (ap (head_of (bare n)) e)) (rows_same ks ns (ap tail_of e))
+rows_same ks ns e = sym (map-map (λ (z : Statistic × Rows). z.1) bare ns) ∙ ap (map (λ (z : Statistic × Rows). z.1)) e ∙ map-map (λ (z : Statistic × Rows). z.1) bare ks
 
 -- ## The places of the statistics that are kept
 
@@ -274,23 +266,22 @@ asked_in : (fold : Fold) (now : ℤ) (o : Option History) → if_ok (sure o) (fo
 asked_in fold now None = refl
 asked_in fold now (Some h) = asked fold now h
 
-none_there : (k : Recorded) → None ≡ Some k → ⊥
-none_there k e = cc
+-- a statistic's history of an entity, if it is there
+abbrev found_at : (entity : ℤ) → Option Recorded → Result History Failure
+found_at x None = Err TypeError
+found_at x (Some k) = sure (column_of k.rows x)
 
-some_there : (n k : Recorded) → Some n ≡ Some k → n ≡ k
-some_there n k e = cc
+at_place : (x : ℤ) (ks : List Recorded) (j : ℕ) → history_of_subject j x (columns_of (rows_of ks)) ≡ found_at x (slice_get ks j)
+at_place x [] j = refl
+at_place x (n ∷ ns) zero = refl
+at_place x (n ∷ ns) (suc j) = at_place x ns j
 
 pub figure_there : (fold : Fold) (x now : ℤ) (ks : List Recorded) (j : ℕ) (k : Recorded) → slice_get ks j ≡ Some k →
     if_ok (history_of_subject j x (columns_of (rows_of ks))) (folded fold now) ≡ figured (option_map (figure_of fold now) (column_of k.rows x))
-figure_there fold x now [] j k e = absurd (none_there k e)
-figure_there fold x now (n ∷ ns) zero k e =
-    asked_in fold now (column_of n.rows x) ∙ ap (λ (r : Recorded). figured (option_map (figure_of fold now) (column_of r.rows x))) (some_there n k e)
-figure_there fold x now (n ∷ ns) (suc j) k e = figure_there fold x now ns j k e
+figure_there fold x now ks j k e = ap (λ (r : Result History Failure). if_ok r (folded fold now)) (at_place x ks j ∙ ap (found_at x) e) ∙ asked_in fold now (column_of k.rows x)
 
 pub figure_nowhere : (fold : Fold) (x now : ℤ) (ks : List Recorded) (j : ℕ) → slice_get ks j ≡ None → if_ok (history_of_subject j x (columns_of (rows_of ks))) (folded fold now) ≡ Err TypeError
-figure_nowhere fold x now [] j e = refl
-figure_nowhere fold x now (n ∷ ns) zero e = absurd (none_there n (sym e))
-figure_nowhere fold x now (n ∷ ns) (suc j) e = figure_nowhere fold x now ns j e
+figure_nowhere fold x now ks j e = ap (λ (r : Result History Failure). if_ok r (folded fold now)) (at_place x ks j ∙ ap (found_at x) e)
 
 mean_asked : (now : ℤ) (o : Option History) → turned (λ h. mean_of h now) (sure o) ≡ sure (option_map (λ (h : History). mean_of h now) o)
 mean_asked now None = refl
@@ -298,12 +289,7 @@ mean_asked now (Some h) = refl
 
 pub mean_there : (x now : ℤ) (ks : List Recorded) (j : ℕ) (k : Recorded) → slice_get ks j ≡ Some k →
     mean_in j x now (columns_of (rows_of ks)) ≡ sure (option_map (λ (h : History). mean_of h now) (column_of k.rows x))
-mean_there x now [] j k e = absurd (none_there k e)
-mean_there x now (n ∷ ns) zero k e =
-    mean_asked now (column_of n.rows x) ∙ ap (λ (r : Recorded). sure (option_map (λ (h : History). mean_of h now) (column_of r.rows x))) (some_there n k e)
-mean_there x now (n ∷ ns) (suc j) k e = mean_there x now ns j k e
+mean_there x now ks j k e = ap (turned (λ (h : History). mean_of h now)) (at_place x ks j ∙ ap (found_at x) e) ∙ mean_asked now (column_of k.rows x)
 
 pub mean_nowhere : (x now : ℤ) (ks : List Recorded) (j : ℕ) → slice_get ks j ≡ None → mean_in j x now (columns_of (rows_of ks)) ≡ Err TypeError
-mean_nowhere x now [] j e = refl
-mean_nowhere x now (n ∷ ns) zero e = absurd (none_there n (sym e))
-mean_nowhere x now (n ∷ ns) (suc j) e = mean_nowhere x now ns j e
+mean_nowhere x now ks j e = ap (turned (λ (h : History). mean_of h now)) (at_place x ks j ∙ ap (found_at x) e)

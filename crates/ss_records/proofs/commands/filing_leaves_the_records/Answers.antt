@@ -1,5 +1,13 @@
-use Rattle.ss_records.proofs.Changed.{first_keeps, last_keeps, before_keeps, after_keeps, removed_keeps}
+use Rattle.std.proofs.Common.{[], ◌∷◌, ◌++◌}
+use Rattle.ss_records.proofs.Common.{less, put_after, put_before}
+use Rattle.ss_records.proofs.Calls.{putting_beside, filing_first, filing_last, removing, keeps}
 use Rattle.ss_records.proofs.commands.filing_leaves_the_records.Goals as goal
 
 pub returns : goal.returns
-returns c = record { first = first_keeps; last = last_keeps; before = before_keeps; after = after_keeps; remove = removed_keeps }
+returns c = record {
+  first = λ st t s o x h. keeps (λ y l. y ∷ l) st t s o x (filing_first st t s o x h);
+  last = λ st t s o x h. keeps (λ y l. l ++ y ∷ []) st t s o x (filing_last st t s o x h);
+  before = λ y st t s o x h. let a = putting_beside put_before y st t s o x h in keeps (put_before a.0) st t s o x a.2;
+  after = λ y st t s o x h. let a = putting_beside put_after y st t s o x h in keeps (put_after a.0) st t s o x a.2;
+  remove = λ st t s o x h. keeps less st t s o x (removing st t s o x h);
+}

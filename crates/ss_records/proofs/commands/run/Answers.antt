@@ -1,6 +1,6 @@
 use Rattle.std.proofs.Common.{◌∷◌, [], ◌++◌, drop, ◌+◌, ap, ◌∙◌, arith}
 use Rattle.ss_records.proofs.Common.{after_commands, command_answers, State}
-use Rattle.ss_records.proofs.SameLayout.{same_layout}
+use Rattle.ss_records.proofs.OneCall.{same_layout}
 use Rattle.ss_records.proofs.Running.{given_next, rest_next, made_next, on_err}
 use Rattle.ss_records.proofs.commands.run.Goals as goal
 

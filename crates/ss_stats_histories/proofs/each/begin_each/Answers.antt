@@ -1,6 +1,7 @@
 use Rattle.std.proofs.Common.{◌<◌, length, map, pos, int_eq, to_z, of_z, w64, arith}
+use Rattle.std.proofs.lemmas.List.Elements.{All-set}
 use Rattle.ss_stats_histories.specs.Each.{shown, IsKeptUntil, HasRoom, begun_shown}
-use Rattle.ss_stats_histories.proofs.Columns.{all_written, one_further, from_on}
+use Rattle.ss_stats_histories.proofs.Columns.{one_further, from_on}
 use Rattle.ss_stats_histories.proofs.each.begin_each.Goals as goal
 
 pub loop-place-preserved : goal.loop-place-preserved
@@ -13,5 +14,5 @@ loop-place-preserved c =
     let within : j < length ks = omega (arith, c.loop-place.auto.kept) in (
       one_further shown (begun_shown l c.args.whose (int_eq x) now) (map shown c.args.kept.now) ks j c.begin_one.new.kept _ c.loop-place.invariant.0 within c.begin_one.ensures.shown,
       from_on (HasRoom l c.args.whose (pos 1)) ks j c.begin_one.new.kept c.loop-place.invariant.1,
-      all_written (IsKeptUntil now) ks j c.begin_one.new.kept c.loop-place.invariant.2 c.begin_one.ensures.until,
+      All-set (IsKeptUntil now) ks j c.begin_one.new.kept c.begin_one.ensures.until c.loop-place.invariant.2,
     )

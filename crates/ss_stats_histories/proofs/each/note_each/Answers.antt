@@ -1,7 +1,8 @@
 use Rattle.std.proofs.Common.{◌≡◌, ◌<◌, length, map, get_or, to_z, of_z, w64, sym, ap, subst, ◌∙◌, arith}
+use Rattle.std.proofs.lemmas.List.Elements.{All-set}
 use Rattle.std.proofs.lemmas.List.Sums.{fold_more}
 use Rattle.ss_stats_histories.proofs.Common.{changed_at, column_of, IsKeptUntil, IsUntil, noted_one, shown}
-use Rattle.ss_stats_histories.proofs.Columns.{until_noted, all_written, one_changed}
+use Rattle.ss_stats_histories.proofs.Columns.{until_noted, one_changed}
 use Rattle.ss_stats_histories.proofs.each.note_each.Goals as goal
 
 pub loop-place-preserved : goal.loop-place-preserved
@@ -18,6 +19,5 @@ loop-place-preserved c =
     let one : shown c.note.new.self ≡ noted_one x now v (shown (get_or ks j d)) = λ t. (c.note.ensures.statistic t, c.note.ensures.column t) in (
       one_changed shown (noted_one x now v) ks j c.note.new.self d within one ∙ ap (λ zs. changed_at (noted_one x now v) zs j) c.loop-place.invariant.0 ∙
           sym (fold_more (changed_at (noted_one x now v)) (map shown c.args.kept.now) c.args.places.now i 0 lt),
-      all_written (IsKeptUntil now) ks j c.note.new.self c.loop-place.invariant.1
-          (subst (IsUntil now) (sym c.note.ensures.column) (until_noted now v x (column_of (get_or ks j d).rows) (c.loop-place.invariant.1 j d within))),
+      All-set (IsKeptUntil now) ks j c.note.new.self (subst (IsUntil now) (sym c.note.ensures.column) (until_noted now v x (column_of (get_or ks j d).rows) (c.loop-place.invariant.1 j d within))) c.loop-place.invariant.1,
     )

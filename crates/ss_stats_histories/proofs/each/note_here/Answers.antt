@@ -1,6 +1,7 @@
 use Rattle.std.proofs.Common.{◌≡◌, subst, sym, to_z, of_z, w64, arith, get_or, ◌∙◌}
+use Rattle.std.proofs.lemmas.List.Elements.{All-set}
 use Rattle.ss_stats_histories.proofs.Common.{column_of, ints, IsKeptUntil, IsUntil, noted_one, shown}
-use Rattle.ss_stats_histories.proofs.Columns.{one_changed, all_written, until_noted}
+use Rattle.ss_stats_histories.proofs.Columns.{one_changed, until_noted}
 use Rattle.ss_stats_histories.proofs.Fullness.{refused_there}
 use Rattle.ss_stats_histories.proofs.each.note_here.Goals as goal
 
@@ -32,5 +33,4 @@ returns-clause-until c =
     let v = to_z w64 (of_z w64 c.args.number) in
     let n : now ≡ c.args.now = omega (arith, ints) in
     let d = rw n at c.note_or_refuse.ensures.column in
-    all_written (IsKeptUntil c.args.now) ks c.args.place c.note_or_refuse.new.self c.requires.until
-    (subst (IsUntil c.args.now) (sym d) (until_noted c.args.now v x (column_of (get_or ks c.args.place c.index-kept-place.result).rows) (c.requires.until c.args.place c.index-kept-place.result c.requires.within)))
+    All-set (IsKeptUntil c.args.now) ks c.args.place c.note_or_refuse.new.self (subst (IsUntil c.args.now) (sym d) (until_noted c.args.now v x (column_of (get_or ks c.args.place c.index-kept-place.result).rows) (c.requires.until c.args.place c.index-kept-place.result c.requires.within))) c.requires.until

@@ -1,6 +1,7 @@
 use Rattle.std.proofs.Common.{◌≡◌, ◌<◌, subst, length, sym, to_z, of_z, w64, arith, get_or}
+use Rattle.std.proofs.lemmas.List.Elements.{All-set}
 use Rattle.ss_stats_histories.proofs.Common.{column_of, ints, IsKeptUntil, IsUntil, renewed_one, shown}
-use Rattle.ss_stats_histories.proofs.Columns.{one_changed, all_written, until_renewed}
+use Rattle.ss_stats_histories.proofs.Columns.{one_changed, until_renewed}
 use Rattle.ss_stats_histories.proofs.Fullness.{has_within}
 use Rattle.ss_stats_histories.proofs.each.renew_at.Goals as goal
 
@@ -27,5 +28,4 @@ returns-clause-until c =
     let within : c.args.place < length ks = has_within c.args.entity ks c.args.place c.requires.there in
     let n : now ≡ c.args.now = omega (arith, ints) in
     let d = rw n at c.renew.ensures.column in
-    all_written (IsKeptUntil c.args.now) ks c.args.place c.renew.new.self c.requires.until
-    (subst (IsUntil c.args.now) (sym d) (until_renewed c.args.now v x (column_of (get_or ks c.args.place c.index-kept-place.result).rows) (c.requires.until c.args.place c.index-kept-place.result within)))
+    All-set (IsKeptUntil c.args.now) ks c.args.place c.renew.new.self (subst (IsUntil c.args.now) (sym d) (until_renewed c.args.now v x (column_of (get_or ks c.args.place c.index-kept-place.result).rows) (c.requires.until c.args.place c.index-kept-place.result within))) c.requires.until
