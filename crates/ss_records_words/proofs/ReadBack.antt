@@ -1,6 +1,6 @@
 -- A text comes out of its words as it went in.
 use Rattle.std.proofs.Common.{◌≡◌, ℕ, zero, suc, ◌+◌, ◌-◌, ◌≤◌, ◌<◌, true, List, [], ◌∷◌, ◌++◌, length, get_or, take, drop, refl, sym, subst, T, ◌∙◌, ap, arith, lit<, length-append, length-drop, length-take-le, take-append-drop, take_all, get_or-drop}
-use Rattle.std.specs.Prelude.{Option, Some, nat_le, replicate}
+use Rattle.std.specs.Prelude.{Some, nat_le, replicate}
 use Rattle.ss_records_words.proofs.Common.{Alpha, list_all, Text, value_of_words}
 use Rattle.std.specs.Int.{from_be_bytes, to_be_bytes}
 use Rattle.std.specs.Option.{unwrap_or}
@@ -70,8 +70,3 @@ text_read t bytes copied a b h is same e f =
     let all = pad_length t h.short in
     let rest : take 8 (drop 8 (padded_text t)) ≡ drop 8 (padded_text t) = take_all 8 (drop 8 (padded_text t)) (omega (arith, all, length-drop 8 (padded_text t))) in
     read_back t a b h all (e ∙ ap (λ r. from_be_bytes w64 (take 8 r)) room) (f ∙ ap (λ r. from_be_bytes w64 (take 8 (drop 8 r))) room ∙ ap (from_be_bytes w64) rest)
-
--- the text that is found in the bytes of two words
-pub text_found : (a b : ℕ) (bytes used : List ℕ) (found : Option (List ℕ)) → bytes ≡ to_be_bytes w64 a ++ to_be_bytes w64 b → used ≡ before_zero bytes → found ≡ text_of used → value_of_words Alpha a b ≡ Text (unwrap_or found [])
-text_found a b bytes used found e f g =
-    ap (λ bs. Text (unwrap_or (text_of (before_zero bs)) [])) (sym e) ∙ ap (λ bs. Text (unwrap_or (text_of bs) [])) (sym f) ∙ ap (λ o. Text (unwrap_or o [])) (sym g)
