@@ -1,24 +1,24 @@
 -- The entries of a list, and how many numbers have a place once one is noted or gone.
-use Rattle.std.proofs.Common.{◌≡◌, ℕ, zero, suc, ◌+◌, ◌<◌, ◌≤◌, List, [], ◌∷◌, ◌++◌, length, slice_get, slice_set, Option, Some, None, refl, ap, arith}
+use Rattle.std.proofs.Common.{◌≡◌, ℕ, zero, suc, ◌+◌, ◌<◌, ◌≤◌, List, [], ◌∷◌, ◌++◌, length, slice_get, slice_set, Some, None, refl, arith}
+pub use Rattle.std.proofs.lemmas.List.{length-set as length_set}
+pub use Rattle.std.proofs.lemmas.Option.{slice_get_within as get_inside}
 use Rattle.ss_records_blocks.specs.declared.store.BlockPlace.{BlockPlace}
 use Rattle.ss_records_blocks.specs.Places.{Numbers, living_count}
 
-pub get_inside : {A : Type 0} (xs : List A) (i : ℕ) (a : A) → slice_get xs i ≡ Some a → i < length xs
-get_inside [] i a h = cc
-get_inside (x ∷ xs) zero a h = omega arith
-get_inside (x ∷ xs) (suc i) a h = omega (arith, get_inside xs i a h)
-
 pub get_there : {A : Type 0} (xs : List A) (s : ℕ) → s < length xs → (t : A) × (slice_get xs s ≡ Some t)
-get_there [] s h = absurd (none s h) where
-  none : (k : ℕ) → k < 0 → ⊥
-  none k x = omega (arith, x)
+get_there [] s h = absurd (omega (arith, h))
 get_there (x ∷ xs) zero h = (x, refl)
 get_there (x ∷ xs) (suc s) h = get_there xs s (omega (arith, h))
 
-pub length_set : (d : Numbers) (i : ℕ) (v : Option BlockPlace) → length (slice_set d i v) ≡ length d
-length_set [] i v = refl
-length_set (z ∷ zs) zero v = refl
-length_set (z ∷ zs) (suc i) v = ap suc (length_set zs i v)
+-- the entries of a list, once it goes on
+pub get_front : {A : Type 0} (xs ys : List A) (i : ℕ) → i < length xs → slice_get (xs ++ ys) i ≡ slice_get xs i
+get_front [] ys i h = absurd (omega (arith, h))
+get_front (x ∷ xs) ys zero h = refl
+get_front (x ∷ xs) ys (suc i) h = get_front xs ys i (omega (arith, h))
+
+pub get_end : {A : Type 0} (xs : List A) (x : A) → slice_get (xs ++ x ∷ []) (length xs) ≡ Some x
+get_end [] x = refl
+get_end (y ∷ ys) x = get_end ys x
 
 pub living_push : (d : Numbers) (q : BlockPlace) → living_count (d ++ Some q ∷ []) ≡ living_count d + 1
 living_push [] q = omega arith

@@ -1,8 +1,8 @@
 -- Filling the words of a block.
 use Rattle.std.proofs.Common.{◌≡◌, ℕ, zero, suc, ◌+◌, ◌-◌, ◌*◌, ◌<◌, ◌≤◌, length, refl, sym, ap, subst, ◌∙◌, arith}
 use denote.RawPtr.{Ptr}
-use Rattle.ss_records_blocks.specs.Cells.{Word, blank, number, counter, link, Cells, MayBeNumber, MayBeLink, MayBeCounter, words_at, word_of, word_at, with_word, put_word}
-use Rattle.ss_records_blocks.specs.Writes.{IsFilled, head_word, links_to, owned_word, owned_from}
+use Rattle.ss_records_blocks.specs.Cells.{Word, blank, number, counter, link, Cells, MayBeNumber, words_at, word_of, word_at, with_word, put_word}
+use Rattle.ss_records_blocks.specs.Writes.{IsFilled, head_word, owned_word, owned_from}
 use Rattle.ss_records_blocks.proofs.Same.{by_same}
 use Rattle.ss_records_blocks.proofs.Puts.{word_other, word_here, words_written, written_put, written_twice, length_put}
 
@@ -41,50 +41,30 @@ pub owned_count : (end : Ptr) (i : ℕ) → owned_word end (3 * i + 2) ≡ count
 owned_count end zero = refl
 owned_count end (suc i) = let q : 3 * suc i + 2 ≡ suc (suc (suc (3 * i + 2))) = omega arith in rw q (owned_count end i)
 
-pub filled_owned : (cs ds : Cells) (p end : Ptr) (from i : ℕ) → IsFilled cs ds p from (from + 3 * i) (owned_from end from) → from + 3 * i + 2 < length (words_at cs p)
-    → IsFilled cs (put_word (put_word (put_word ds p (from + 3 * i) (link end)) p (from + 3 * i + 1) (link end)) p (from + 3 * i + 2) (counter 0)) p from (from + 3 * (i + 1)) (owned_from end from)
-filled_owned cs ds p end from i h room =
-    let at : (j : ℕ) → from + 3 * i + j - from ≡ 3 * i + j = λ j. omega arith in
-    let at0 : from + 3 * i - from ≡ 3 * i = omega arith in
-    let a = filled_put cs ds p from (from + 3 * i) (from + 3 * i + 1) (owned_from end from) (link end) h (omega arith) (omega (arith, room)) (sym (ap (owned_word end) at0 ∙ owned_first end i)) refl in
-    let b = filled_put cs (put_word ds p (from + 3 * i) (link end)) p from (from + 3 * i + 1) (from + 3 * i + 2) (owned_from end from) (link end) a (omega arith) (omega (arith, room)) (sym (ap (owned_word end) (at 1) ∙ owned_last end i)) (omega arith) in
-    filled_put cs (put_word (put_word ds p (from + 3 * i) (link end)) p (from + 3 * i + 1) (link end)) p from (from + 3 * i + 2) (from + 3 * (i + 1)) (owned_from end from) (counter 0) b (omega arith) room (sym (ap (owned_word end) (at 2) ∙ owned_count end i)) (omega arith)
+-- what an owned set has in its three words
+pub owned_here : (end : Ptr) (from i : ℕ) → (link end ≡ owned_from end from (from + 3 * i)) × (link end ≡ owned_from end from (from + 3 * i + 1)) × (counter 0 ≡ owned_from end from (from + 3 * i + 2))
+owned_here end from i =
+    let at0 : from + 3 * i - from ≡ 3 * i = omega arith in let at : (j : ℕ) → from + 3 * i + j - from ≡ 3 * i + j = λ j. omega arith in
+    (sym (ap (owned_word end) at0 ∙ owned_first end i), sym (ap (owned_word end) (at 1) ∙ owned_last end i), sym (ap (owned_word end) (at 2) ∙ owned_count end i))
 
--- the three words of a set that is joined
-pub filled_links : (cs ds : Cells) (p q : Ptr) (from i : ℕ) → IsFilled cs ds p from (from + 3 * i) (links_to q) → from + 3 * i + 2 < length (words_at cs p)
-    → IsFilled cs (put_word (put_word (put_word ds p (from + 3 * i) (link q)) p (from + 3 * i + 1) (link q)) p (from + 3 * i + 2) (link q)) p from (from + 3 * (i + 1)) (links_to q)
-filled_links cs ds p q from i h room =
-    let a = filled_put cs ds p from (from + 3 * i) (from + 3 * i + 1) (links_to q) (link q) h (omega arith) (omega (arith, room)) refl refl in
-    let b = filled_put cs (put_word ds p (from + 3 * i) (link q)) p from (from + 3 * i + 1) (from + 3 * i + 2) (links_to q) (link q) a (omega arith) (omega (arith, room)) refl (omega arith) in
-    filled_put cs (put_word (put_word ds p (from + 3 * i) (link q)) p (from + 3 * i + 1) (link q)) p from (from + 3 * i + 2) (from + 3 * (i + 1)) (links_to q) (link q) b (omega arith) room refl (omega arith)
+-- the three words of a set
+module _ (cs ds : Cells) (p : Ptr) (from i : ℕ) (f : ℕ → Word) (h : IsFilled cs ds p from (from + 3 * i) f) (room : from + 3 * i + 2 < length (words_at cs p)) (u : Word) (e : u ≡ f (from + 3 * i)) where
+  abbrev es : Cells
+  es = put_word ds p (from + 3 * i) u
 
--- the words that are still blank may be written
-module _ (cs ds : Cells) (p : Ptr) (from count i : ℕ) (f : ℕ → Word) (h : IsFilled cs ds p from (from + 3 * i) f) (room : from + 3 * count ≤ length (words_at cs p)) (blanks : (k : ℕ) → from ≤ k → k < from + 3 * count → word_at cs p k ≡ blank) (inside : i < count) where
-  here_room : (w : Word) (k j : ℕ) → j < from + 3 * count → j < length (words_at (put_word ds p k w) p)
-  here_room w k j b = omega (arith, b, room, length_put ds p k w p, h.written.size)
+  pub one_more : IsFilled cs es p from (from + 3 * i + 1) f
+  one_more = filled_put cs ds p from (from + 3 * i) (from + 3 * i + 1) f u h (omega arith) (omega (arith, room)) e refl
 
-  pub may_second : (w : Word) → (from + 3 * i + 1 < length (words_at (put_word ds p (from + 3 * i) w) p)) × MayBeLink (word_at (put_word ds p (from + 3 * i) w) p (from + 3 * i + 1))
-  may_second w = (
-    here_room w (from + 3 * i) (from + 3 * i + 1) (omega (arith, inside)),
-    subst MayBeLink (sym (word_put ds p (from + 3 * i) w (from + 3 * i + 1) ∙ word_other (words_at ds p) (from + 3 * i) w (from + 3 * i + 1) (λ e. absurd (omega (arith, e))) ∙ h.above (from + 3 * i + 1) (omega arith) ∙ blanks (from + 3 * i + 1) (omega arith) (omega (arith, inside)))) tt,
-  )
+  module _ (v : Word) (d : v ≡ f (from + 3 * i + 1)) where
+    pub two_more : IsFilled cs (put_word es p (from + 3 * i + 1) v) p from (from + 3 * i + 2) f
+    two_more = filled_put cs es p from (from + 3 * i + 1) (from + 3 * i + 2) f v one_more (omega arith) (omega (arith, room)) d (omega arith)
 
-  pub may_third : (w v : Word) → (from + 3 * i + 2 < length (words_at (put_word (put_word ds p (from + 3 * i) w) p (from + 3 * i + 1) v) p)) × MayBeCounter (word_at (put_word (put_word ds p (from + 3 * i) w) p (from + 3 * i + 1) v) p (from + 3 * i + 2))
-  may_third w v = let es = put_word ds p (from + 3 * i) w in (
-    omega (arith, here_room w (from + 3 * i) (from + 3 * i + 2) (omega (arith, inside)), length_put es p (from + 3 * i + 1) v p),
-    subst MayBeCounter (sym (word_put es p (from + 3 * i + 1) v (from + 3 * i + 2) ∙ word_other (words_at es p) (from + 3 * i + 1) v (from + 3 * i + 2) (λ e. absurd (omega (arith, e)))
-        ∙ word_put ds p (from + 3 * i) w (from + 3 * i + 2) ∙ word_other (words_at ds p) (from + 3 * i) w (from + 3 * i + 2) (λ e. absurd (omega (arith, e))) ∙ h.above (from + 3 * i + 2) (omega arith) ∙ blanks (from + 3 * i + 2) (omega arith) (omega (arith, inside)))) tt,
-  )
+    pub three_more : (w : Word) → w ≡ f (from + 3 * i + 2) → IsFilled cs (put_word (put_word es p (from + 3 * i + 1) v) p (from + 3 * i + 2) w) p from (from + 3 * (i + 1)) f
+    three_more w b = filled_put cs (put_word es p (from + 3 * i + 1) v) p from (from + 3 * i + 2) (from + 3 * (i + 1)) f w two_more (omega arith) room b (omega arith)
 
-  pub may_link : (w v : Word) → (from + 3 * i + 2 < length (words_at (put_word (put_word ds p (from + 3 * i) w) p (from + 3 * i + 1) v) p)) × MayBeLink (word_at (put_word (put_word ds p (from + 3 * i) w) p (from + 3 * i + 1) v) p (from + 3 * i + 2))
-  may_link w v = let es = put_word ds p (from + 3 * i) w in (
-    omega (arith, here_room w (from + 3 * i) (from + 3 * i + 2) (omega (arith, inside)), length_put es p (from + 3 * i + 1) v p),
-    subst MayBeLink (sym (word_put es p (from + 3 * i + 1) v (from + 3 * i + 2) ∙ word_other (words_at es p) (from + 3 * i + 1) v (from + 3 * i + 2) (λ e. absurd (omega (arith, e)))
-        ∙ word_put ds p (from + 3 * i) w (from + 3 * i + 2) ∙ word_other (words_at ds p) (from + 3 * i) w (from + 3 * i + 2) (λ e. absurd (omega (arith, e))) ∙ h.above (from + 3 * i + 2) (omega arith) ∙ blanks (from + 3 * i + 2) (omega arith) (omega (arith, inside)))) tt,
-  )
-
-pub blank_above : {cs ds : Cells} {p : Ptr} {from to : ℕ} {f : ℕ → Word} → IsFilled cs ds p from to f → ((k : ℕ) → from ≤ k → word_at cs p k ≡ blank) → from ≤ to → (k : ℕ) → to ≤ k → word_at ds p k ≡ blank
-blank_above h b low k a = h.above k a ∙ b k (omega (arith, a, low))
+-- a word that is still blank may be written
+pub may_be : (P : Word → Type 0) → P blank → {cs ds : Cells} {p : Ptr} {from k : ℕ} {f : ℕ → Word} → IsFilled cs ds p from k f → k < length (words_at cs p) → word_at cs p k ≡ blank → (k < length (words_at ds p)) × P (word_at ds p k)
+may_be P b {k = k} h room e = (omega (arith, h.written.size, room), subst P (sym (h.above k (omega arith) ∙ e)) b)
 
 pub head_room1 : (cs : Cells) (p : Ptr) (w : Word) → 2 ≤ length (words_at cs p) → ((k : ℕ) → word_at cs p k ≡ blank) → (1 < length (words_at (put_word cs p 0 w) p)) × MayBeNumber (word_at (put_word cs p 0 w) p 1)
 head_room1 cs p w room b = (omega (arith, room, length_put cs p 0 w p), subst MayBeNumber (sym (word_put cs p 0 w 1 ∙ word_other (words_at cs p) 0 w 1 (λ e. absurd (omega (arith, e))) ∙ b 1)) tt)

@@ -13,6 +13,7 @@ use Rattle.ss_records_blocks.specs.Pages.{Page, Pages, Spots, AreRising, under, 
 use Rattle.ss_records_blocks.proofs.Same.{by_same}
 use Rattle.ss_records_blocks.proofs.Paging.{is_at_same, is_at_other}
 use Rattle.ss_records_blocks.proofs.Rising.{less_is, held_at, one_number, written, updates_without, absent}
+use Rattle.std.proofs.lemmas.Option.{none-some, same_Some, some_pair_parts}
 use Rattle.std.proofs.lemmas.Cmp.{nat_cmp_total, eq_by_cmp_equiv}
 use Rattle.std.proofs.lemmas.Map.{lookup-set_value, length-set_value}
 
@@ -53,9 +54,6 @@ page_in ss r k q o g = page_held ss r q ∙ ap in_spot (held_at ss r k q o g)
 pub no_page : (ss : Spots) → AreRising ss → (q : ℕ) → under ss q ≡ None → page_of (pages_held ss) q ≡ None
 no_page ss r q e = page_held ss r q ∙ ap in_spot e
 
-pub none_is : (p : Page) → None ≡ Some p → ⊥
-none_is p e = cc
-
 -- ## A new page
 
 pub held_pushed : (ss : Spots) (q : ℕ) (p : Page) → pages_held (ss ++ (q, Some p) ∷ []) ≡ pages_held ss ++ (q, p) ∷ []
@@ -69,14 +67,11 @@ count_pushed n ss q p h =
 
 -- ## A write, and a page that goes
 
-no_spot : (p : Page) → Some None ≡ Some (Some p) → ⊥
-no_spot p e = cc
-
 pub held_written : (test : ℕ → Bool) (ss : Spots) (p w : Page) → lookup test ss ≡ Some (Some p) → pages_held (set_value test ss (Some w)) ≡ set_value test (pages_held ss) w
 held_written test [] p w h = cc
 held_written test (s ∷ ss) p w h = (elim s.1 as (λ o. cond (test s.0) (Some o) (lookup test ss) ≡ Some (Some p) → pages_held (cond (test s.0) ((s.0, Some w) ∷ ss) ((s.0, o) ∷ set_value test ss (Some w))) ≡ set_value test (with_page s.0 o (pages_held ss)) w) [
   | None ↦ elim (test s.0) as (λ b. cond b (Some None) (lookup test ss) ≡ Some (Some p) → pages_held (cond b ((s.0, Some w) ∷ ss) ((s.0, None) ∷ set_value test ss (Some w))) ≡ set_value test (pages_held ss) w) [
-    | true ↦ λ e. absurd (no_spot p e)
+    | true ↦ λ e. absurd (none-some p (same_Some None (Some p) e))
     | false ↦ λ e. held_written test ss p w e
   ]
   | Some v ↦ elim (test s.0) as (λ b. cond b (Some (Some v)) (lookup test ss) ≡ Some (Some p) → pages_held (cond b ((s.0, Some w) ∷ ss) ((s.0, Some v) ∷ set_value test ss (Some w))) ≡ cond b ((s.0, w) ∷ pages_held ss) ((s.0, v) ∷ set_value test (pages_held ss) w)) [
@@ -89,7 +84,7 @@ pub held_emptied : (test : ℕ → Bool) (ss : Spots) (p : Page) → lookup test
 held_emptied test [] p h = cc
 held_emptied test (s ∷ ss) p h = (elim s.1 as (λ o. cond (test s.0) (Some o) (lookup test ss) ≡ Some (Some p) → pages_held (cond (test s.0) ((s.0, None) ∷ ss) ((s.0, o) ∷ set_value test ss None)) ≡ remove_entry test (with_page s.0 o (pages_held ss))) [
   | None ↦ elim (test s.0) as (λ b. cond b (Some None) (lookup test ss) ≡ Some (Some p) → pages_held (cond b ((s.0, None) ∷ ss) ((s.0, None) ∷ set_value test ss None)) ≡ remove_entry test (pages_held ss)) [
-    | true ↦ λ e. absurd (no_spot p e)
+    | true ↦ λ e. absurd (none-some p (same_Some None (Some p) e))
     | false ↦ λ e. held_emptied test ss p e
   ]
   | Some v ↦ elim (test s.0) as (λ b. cond b (Some (Some v)) (lookup test ss) ≡ Some (Some p) → pages_held (cond b ((s.0, None) ∷ ss) ((s.0, Some v) ∷ set_value test ss None)) ≡ cond b (pages_held ss) ((s.0, v) ∷ remove_entry test (pages_held ss))) [
@@ -128,13 +123,10 @@ module _ (ss : Spots) (r : AreRising ss) (k q : ℕ) (p : Page) (g : slice_get s
 pub gone_updates : (ss : Spots) → AreRising ss → (q n : ℕ) (ps : Pages) → ps ≡ remove_entry (is_at (nat_cmp q)) (pages_held ss) → page_of ps n ≡ cond (is_at (nat_cmp q) n) None (page_of (pages_held ss) n)
 gone_updates ss r q n ps is = ap (λ (xs : Pages). page_of xs n) is ∙ updates_without (pages_held ss) (rises_held ss r) q n
 
-same_spot : (s t : ℕ × Option Page) → Some s ≡ Some t → t ≡ s
-same_spot s t e = cc
-
 -- an empty spot that is emptied
 pub same_again : (ss : Spots) (k : ℕ) (s : ℕ × Option Page) → slice_get ss k ≡ Some s → slice_set ss k s ≡ ss
 same_again [] k s g = refl
-same_again (x ∷ ss) zero s g = ap (λ y. y ∷ ss) (same_spot x s g)
+same_again (x ∷ ss) zero s g = ap (λ y. y ∷ ss) (sym (same_Some x s g))
 same_again (x ∷ ss) (suc k) s g = ap (λ l. x ∷ l) (same_again ss k s g)
 
 -- no page has this number
@@ -167,7 +159,7 @@ abbrev before : ℕ → Option Page → Spots → Spots
 before n o ss = (n, o) ∷ ss
 
 first_or : (n : ℕ) (v : Page) (ss : Spots) (q : ℕ) (o : Option Page) (k : ℕ) → slice_get (before n (Some v) ss) k ≡ Some (q, o) → ((j : ℕ) → slice_get ss j ≡ Some (q, o) → (p : Page) × (o ≡ Some p)) → (p : Page) × (o ≡ Some p)
-first_or n v ss q o zero g later = let s : ℕ × Option Page = (n, Some v) in let t : ℕ × Option Page = (q, o) in (v, ap (λ (x : ℕ × Option Page). x.1) (same_spot s t g))
+first_or n v ss q o zero g later = (v, sym (some_pair_parts n q (Some v) o g).1)
 first_or n v ss q o (suc k) g later = later k g
 
 each_has : (ss : Spots) (q : ℕ) (o : Option Page) (k : ℕ) → slice_get (filter has_page ss) k ≡ Some (q, o) → (p : Page) × (o ≡ Some p)

@@ -30,9 +30,6 @@ pub word_ptr-suc : (p : Ptr) (k : ℕ) → word_ptr (p +ₚ 8) k ≡ word_ptr p 
 word_ptr-suc (block_ptr b o) k = ap (block_ptr b) (omega arith)
 word_ptr-suc null_ptr k = refl
 
-nowhere : (k : ℕ) → k < 0 → ⊥
-nowhere k h = omega (arith, h)
-
 module _ {M : Type 1} {𝓤 : Ura M} (𝓛 : Logic 𝓤) where
   abbrev ⟦◌⟧ : Fml → SProp 𝓤
   ⟦ P ⟧ = sem 𝓛 P
@@ -53,7 +50,7 @@ module _ {M : Type 1} {𝓤 : Ura M} (𝓛 : Logic 𝓤) where
   here P Q R = qed 𝓛 (‵ (fsep P R) ∷ []) ∵ fsplit ! $ frame ! $ assume ! (‵ Q) $ fjoin ! $ done !
 
   words_take : (ws : List Word) (p : Ptr) (k : ℕ) (x : Word) → k < length ws → Takes (words_own p ws) (word_owns (word_ptr p k) (word_of ws k)) (word_owns (word_ptr p k) x) (words_own p (with_word ws k x))
-  words_take [] p k x inside = absurd (nowhere k inside)
+  words_take [] p k x inside = absurd (omega (arith, inside))
   words_take (w ∷ ws) p zero x inside = subst (λ (q : Ptr). Takes (words_own p (w ∷ ws)) (word_owns q w) (word_owns q x) (words_own p (x ∷ ws))) (sym (word_ptr-zero p))
       (here (word_owns p w) (word_owns p x) (words_own (p +ₚ 8) ws))
   words_take (w ∷ ws) p (suc k) x inside =
@@ -67,7 +64,7 @@ module _ {M : Type 1} {𝓤 : Ura M} (𝓛 : Logic 𝓤) where
       (beside (words_own c.0 c.1) (word_owns (word_ptr c.0 k) (word_of c.1 k)) (word_owns (word_ptr c.0 k) x) (words_own c.0 (with_word c.1 k x)) (deed_owns c.0 (length c.1)) (words_take c.1 c.0 k x inside))
 
   pub store_take : (cs : Cells) (p : Ptr) (k : ℕ) (x : Word) → k < length (words_at cs p) → Takes (store_owns cs) (word_owns (word_ptr p k) (word_at cs p k)) (word_owns (word_ptr p k) x) (store_owns (put_word cs p k x))
-  store_take [] p k x = λ inside. absurd (nowhere k inside)
+  store_take [] p k x = λ inside. absurd (omega (arith, inside))
   store_take (c ∷ cs) p k x = elim (same_ptr c.0 p) as (λ y. (y ≡ true → c.0 ≡ p) → k < length (cond y c.1 (words_at cs p)) →
       Takes (store_owns (c ∷ cs)) (word_owns (word_ptr p k) (word_of (cond y c.1 (words_at cs p)) k)) (word_owns (word_ptr p k) x) (store_owns (cond y ((c.0, with_word c.1 k x) ∷ cs) (c ∷ put_word cs p k x)))) [
         | true ↦ λ is inside. subst (λ (q : Ptr). Takes (store_owns (c ∷ cs)) (word_owns (word_ptr q k) (word_of c.1 k)) (word_owns (word_ptr q k) x) (store_owns ((c.0, with_word c.1 k x) ∷ cs))) (is refl)

@@ -1,24 +1,16 @@
 -- Pure facts about the blocks.
-use Rattle.std.proofs.Common.{◌≡◌, ℕ, zero, suc, ◌<◌, Bool, true, false, ◌&&◌, ◌==◌, cond, List, [], ◌∷◌, length, refl, ap, subst, arith, eqb→eq, T}
-use lib.Dec.{eqb_refl}
+use Rattle.std.proofs.Common.{◌≡◌, ℕ, zero, suc, ◌<◌, true, false, ◌&&◌, ◌==◌, cond, List, [], ◌∷◌, length, refl, ap, subst, arith}
+use Rattle.std.proofs.lemmas.Bool.{and_parts}
 use denote.RawPtr.{Ptr, block_ptr, null_ptr}
+use Rattle.ss_records_blocks.proofs.Same.{same, equal}
 use Rattle.ss_records_blocks.specs.Cells.{Word, blank, number, counter, link, Cells, same_ptr, words_at, word_of, with_word, put_word, word_at, IsNumber, IsCounter, IsLink}
 
-true_of : (b : Bool) → T b → b ≡ true
-true_of true t = refl
-true_of false t = absurd t
-
 pub same_ptr_refl : (p : Ptr) → same_ptr p p ≡ true
-same_ptr_refl (block_ptr b o) = λ i. true_of (b == b) (eqb_refl b) i && true_of (o == o) (eqb_refl o) i
+same_ptr_refl (block_ptr b o) = λ i. same b i && same o i
 same_ptr_refl null_ptr = refl
 
-both : (x y : Bool) → (x && y) ≡ true → T x × T y
-both true true e = (tt, tt)
-both true false e = cc
-both false y e = cc
-
 pub same_ptr_eq : (p q : Ptr) → same_ptr p q ≡ true → p ≡ q
-same_ptr_eq (block_ptr b o) (block_ptr c p) e = let t = both (b == c) (o == p) e in λ i. block_ptr (eqb→eq b c t.0 i) (eqb→eq o p t.1 i)
+same_ptr_eq (block_ptr b o) (block_ptr c p) e = let t = and_parts (b == c) (o == p) e in λ i. block_ptr (equal b c t.0 i) (equal o p t.1 i)
 same_ptr_eq (block_ptr b o) null_ptr e = cc
 same_ptr_eq null_ptr (block_ptr c p) e = cc
 same_ptr_eq null_ptr null_ptr e = refl
@@ -41,26 +33,25 @@ put_same (c ∷ cs) p k = elim (same_ptr c.0 p) as (λ y. cond y ((c.0, with_wor
 ]
 
 -- a word that can be read is in the block
+word_inside : (P : Word → Type 0) → (P blank → ⊥) → (ws : List Word) (k : ℕ) → P (word_of ws k) → k < length ws
+word_inside P none [] k h = absurd (none h)
+word_inside P none (w ∷ ws) zero h = omega arith
+word_inside P none (w ∷ ws) (suc k) h = omega (arith, word_inside P none ws k h)
+
 pub number_inside : (ws : List Word) (k : ℕ) → IsNumber (word_of ws k) → k < length ws
-number_inside [] k h = absurd h
-number_inside (w ∷ ws) zero h = omega arith
-number_inside (w ∷ ws) (suc k) h = omega (arith, number_inside ws k h)
+number_inside = word_inside IsNumber (λ h. h)
 
 pub link_inside : (ws : List Word) (k : ℕ) → IsLink (word_of ws k) → k < length ws
-link_inside [] k h = absurd h
-link_inside (w ∷ ws) zero h = omega arith
-link_inside (w ∷ ws) (suc k) h = omega (arith, link_inside ws k h)
+link_inside = word_inside IsLink (λ h. h)
+
+pub counter_inside : (ws : List Word) (k : ℕ) → IsCounter (word_of ws k) → k < length ws
+counter_inside = word_inside IsCounter (λ h. h)
 
 pub is_number : (w : Word) → IsNumber w → (n : ℕ) × (w ≡ number n)
 is_number blank h = absurd h
 is_number (number n) h = (n, refl)
 is_number (counter n) h = absurd h
 is_number (link q) h = absurd h
-
-pub counter_inside : (ws : List Word) (k : ℕ) → IsCounter (word_of ws k) → k < length ws
-counter_inside [] k h = absurd h
-counter_inside (w ∷ ws) zero h = omega arith
-counter_inside (w ∷ ws) (suc k) h = omega (arith, counter_inside ws k h)
 
 pub is_counter : (w : Word) → IsCounter w → (n : ℕ) × (w ≡ counter n)
 is_counter blank h = absurd h

@@ -1,5 +1,5 @@
 -- Pages: what a number leads to once one is noted, let go of, or the current page turns.
-use Rattle.std.proofs.Common.{◌≡◌, ℕ, zero, suc, ◌+◌, ◌-◌, ◌*◌, ◌/◌, ◌%◌, ◌^◌, ◌<◌, ◌≤◌, Bool, true, false, cond, List, [], ◌∷◌, ◌++◌, length, slice_get, slice_set, replicate, Option, Some, None, refl, sym, ap, subst, ◌∙◌, arith}
+use Rattle.std.proofs.Common.{◌≡◌, ℕ, zero, suc, ◌+◌, ◌-◌, ◌*◌, ◌/◌, ◌%◌, ◌^◌, ◌<◌, ◌≤◌, Bool, true, false, cond, List, [], ◌∷◌, ◌++◌, length, get_or, slice_get, slice_set, replicate, Option, Some, None, inl, inr, refl, sym, ap, subst, ◌∙◌, arith}
 use Rattle.std.specs.Prelude.{nat_le, nat_eq, IfSome}
 use Rattle.std.specs.Ordering.{nat_cmp, is_eq}
 use Rattle.std.specs.Cmp.{nat_cmp_is}
@@ -9,15 +9,15 @@ use Rattle.std.specs.Map.{lookup, values_of, set_value, remove_entry}
 use Rattle.std.specs.List.{sum_by}
 use Rattle.std.specs.Option.{unwrap_or, option_map}
 use Rattle.std.proofs.lemmas.Map.Entries.{sum_by-set_value, sum_by-remove_entry}
-use Rattle.std.proofs.Math.Dec.{ltb}
-use Rattle.std.proofs.lemmas.List.{map-append}
+use Rattle.std.proofs.lemmas.List.{get_or-set_other, get_or-set_same, length-append, length-replicate, map-append, set-append_left}
 use Rattle.std.proofs.lemmas.List.Sums.{sum_by-cons, sum_by_push}
-use Rattle.std.proofs.lemmas.Bool.{le-leb, leb-true, ltb-true, ltb-false}
+use Rattle.std.proofs.lemmas.Bool.{cases_lt, eqb-false, le-leb, lt-leb}
+use Rattle.std.proofs.lemmas.Option.{none-some, same_Some, slice_get-get_or}
 use Rattle.ss_records_blocks.specs.declared.store.BlockPlace.{BlockPlace}
 use Rattle.ss_records_blocks.specs.Places.{living_count}
 use Rattle.ss_records_blocks.specs.Pages.{Page, Pages, in_page, slot, page_of, entry, tabulate, IsPaged}
 use Rattle.ss_records_blocks.proofs.Same.{same, differs, equal, by_same}
-use Rattle.ss_records_blocks.proofs.Entries.{get_inside, get_there, living_push, living_bound, living_gone, length_set}
+use Rattle.ss_records_blocks.proofs.Entries.{get_end, get_front, get_inside, living_push, living_bound, living_gone, length_set}
 
 pub quot : (i : ℕ) → i ≡ 256 * (i / 256) + i % 256
 quot i = omega arith
@@ -25,37 +25,16 @@ quot i = omega arith
 pub rem : (i : ℕ) → i % 256 < 256
 rem i = omega arith
 
-less_zero : (k : ℕ) → k < 0 → ⊥
-less_zero k h = omega (arith, h)
-
-get_front : {A : Type 0} (xs ys : List A) (i : ℕ) → i < length xs → slice_get (xs ++ ys) i ≡ slice_get xs i
-get_front [] ys i h = absurd (less_zero i h)
-get_front (x ∷ xs) ys zero h = refl
-get_front (x ∷ xs) ys (suc i) h = get_front xs ys i (omega (arith, h))
-
-get_end : {A : Type 0} (xs : List A) (x : A) → slice_get (xs ++ x ∷ []) (length xs) ≡ Some x
-get_end [] x = refl
-get_end (y ∷ ys) x = get_end ys x
-
-set_front : {A : Type 0} (xs ys : List A) (i : ℕ) (v : A) → i < length xs → slice_set (xs ++ ys) i v ≡ slice_set xs i v ++ ys
-set_front [] ys i v h = absurd (less_zero i h)
-set_front (x ∷ xs) ys zero v h = refl
-set_front (x ∷ xs) ys (suc i) v h = ap (λ l. x ∷ l) (set_front xs ys i v (omega (arith, h)))
-
 set_end : {A : Type 0} (xs : List A) (x v : A) → slice_set (xs ++ x ∷ []) (length xs) v ≡ xs ++ v ∷ []
 set_end [] x v = refl
 set_end (y ∷ ys) x v = ap (λ l. y ∷ l) (set_end ys x v)
 
-len_push : {A : Type 0} (xs : List A) (x : A) → length (xs ++ x ∷ []) ≡ suc (length xs)
-len_push [] x = refl
-len_push (y ∷ ys) x = ap suc (len_push ys x)
-
 pub upto_length : {A : Type 0} (f : ℕ → A) (n : ℕ) → length (tabulate f n) ≡ n
 upto_length f zero = refl
-upto_length f (suc n) = len_push (tabulate f n) (f n) ∙ ap suc (upto_length f n)
+upto_length f (suc n) = omega (arith, length-append (tabulate f n) (f n ∷ []), upto_length f n)
 
 pub upto_get : {A : Type 0} (f : ℕ → A) (n i : ℕ) → i < n → slice_get (tabulate f n) i ≡ Some (f i)
-upto_get f zero i h = absurd (less_zero i h)
+upto_get f zero i h = absurd (omega (arith, h))
 upto_get f (suc n) i h = by_same i n
     (λ e q. (λ z. slice_get (tabulate f n ++ f n ∷ []) ((q ∙ sym (upto_length f n)) z)) ∙ get_end (tabulate f n) (f n) ∙ ap (λ k. Some (f k)) (sym q))
     (λ e m. let k : i < n = omega (arith, h, m) in get_front (tabulate f n) (f n ∷ []) i (omega (arith, k, upto_length f n)) ∙ upto_get f n i k)
@@ -65,18 +44,21 @@ upto_same f g zero h = refl
 upto_same f g (suc n) h = λ z. upto_same f g n (λ i k. h i (omega (arith, k))) z ++ h n (omega arith) z ∷ []
 
 pub upto_set : {A : Type 0} (f g : ℕ → A) (n i : ℕ) (v : A) → i < n → g i ≡ v → ((j : ℕ) → j < n → (i ≡ j → ⊥) → g j ≡ f j) → tabulate g n ≡ slice_set (tabulate f n) i v
-upto_set f g zero i v h e o = absurd (less_zero i h)
+upto_set f g zero i v h e o = absurd (omega (arith, h))
 upto_set f g (suc n) i v h e o = by_same i n
     (λ z q.
     (λ t. upto_same f g n (λ j k. o j (omega (arith, k)) (λ r. absurd (not_less i j n r q k))) t ++ (ap g (sym q) ∙ e) t ∷ [])
     ∙ sym (set_end (tabulate f n) (f n) v) ∙ (λ t. slice_set (tabulate f n ++ f n ∷ []) ((upto_length f n ∙ sym q) t) v))
     (λ z m. let k : i < n = omega (arith, h, m) in
     (λ t. upto_set f g n i v k e (λ j a b. o j (omega (arith, a)) b) t ++ o n (omega arith) m t ∷ [])
-    ∙ sym (set_front (tabulate f n) (f n ∷ []) i v (omega (arith, k, upto_length f n)))) where
+    ∙ sym (set-append_left (tabulate f n) (f n ∷ []) i v (omega (arith, k, upto_length f n)))) where
       not_less : (a b c : ℕ) → a ≡ b → a ≡ c → b < c → ⊥
       not_less a b c p q r = omega (arith, p, q, r)
 
 -- ## Pages by themselves
+
+pub at_least_one : (n : ℕ) → nat_eq n 0 ≡ false → 1 ≤ n
+at_least_one n z = let h = eqb-false n 0 z in omega arith
 
 pub none_living : (p : Page) (k : ℕ) → living_count p ≡ 0 → slot (Some p) k ≡ None
 none_living [] k h = refl
@@ -98,27 +80,22 @@ pub living_none : (n : ℕ) → living_count (replicate n None) ≡ 0
 living_none zero = refl
 living_none (suc n) = living_none n
 
-pub length_none : (n : ℕ) → length (replicate {A = Option BlockPlace} n None) ≡ n
-length_none zero = refl
-length_none (suc n) = ap suc (length_none n)
-
 pub page_few : (p : Page) → length p ≡ 256 → living_count p ≤ 256
 page_few p h = omega (arith, living_bound p, h)
 
+slot_get : (p : Page) (k : ℕ) → slot (Some p) k ≡ get_or p k None
+slot_get [] k = refl
+slot_get (x ∷ xs) zero = refl
+slot_get (x ∷ xs) (suc k) = slot_get xs k
+
 slot_set : (p : Page) (k : ℕ) (v : Option BlockPlace) → k < length p → slot (Some (slice_set p k v)) k ≡ v
-slot_set [] k v h = absurd (less_zero k h)
-slot_set (x ∷ xs) zero v h = refl
-slot_set (x ∷ xs) (suc k) v h = slot_set xs k v (omega (arith, h))
+slot_set p k v h = slot_get (slice_set p k v) k ∙ get_or-set_same p k v None h
 
 slot_other : (p : Page) (k : ℕ) (v : Option BlockPlace) (j : ℕ) → (k ≡ j → ⊥) → slot (Some (slice_set p k v)) j ≡ slot (Some p) j
-slot_other [] k v j n = refl
-slot_other (x ∷ xs) zero v zero n = absurd (n refl)
-slot_other (x ∷ xs) zero v (suc j) n = refl
-slot_other (x ∷ xs) (suc k) v zero n = refl
-slot_other (x ∷ xs) (suc k) v (suc j) n = slot_other xs k v j (λ e. n (ap suc e))
+slot_other p k v j n = slot_get (slice_set p k v) j ∙ get_or-set_other p k j v None (λ e. n (sym e)) ∙ sym (slot_get p j)
 
 pub slot_is : (p : Page) (k : ℕ) → k < length p → slice_get p k ≡ Some (slot (Some p) k)
-slot_is p k h = let y = get_there p k h in y.1 ∙ ap Some (sym (ap in_page y.1))
+slot_is p k h = slice_get-get_or p k None h ∙ ap Some (sym (slot_get p k))
 
 -- ## The place of a number
 
@@ -126,39 +103,25 @@ pub is_at_same : (q : ℕ) → is_at (nat_cmp q) q ≡ true
 is_at_same q = ap is_eq (sym (nat_cmp_is q q Equal refl))
 
 pub is_at_other : (q j : ℕ) → (q ≡ j → ⊥) → is_at (nat_cmp q) j ≡ false
-is_at_other q j n = by_less (ltb q j) refl where
-  by_less : (b : Bool) → ltb q j ≡ b → is_at (nat_cmp q) j ≡ false
-  by_less true e = ap is_eq (sym (nat_cmp_is q j Less (ltb-true q j e)))
-  by_less false e = let h = ltb-false q j e in ap is_eq (sym (nat_cmp_is q j Greater (omega (arith, h, n))))
+is_at_other q j n = elim (cases_lt q j) as (λ _. is_at (nat_cmp q) j ≡ false) [
+  | inl h ↦ ap is_eq (sym (nat_cmp_is q j Less h))
+  | inr h ↦ ap is_eq (sym (nat_cmp_is q j Greater (omega (arith, h, n))))
+]
 
 pub at_current : (ps : Pages) (cur : Page) (start i : ℕ) → start ≤ i → entry ps cur start i ≡ slot (Some cur) (i - start)
 at_current ps cur start i h = let t : nat_le start i ≡ true = le-leb start i h in rw t refl
 
 pub at_earlier : (ps : Pages) (cur : Page) (start i : ℕ) → i < start → entry ps cur start i ≡ slot (page_of ps (i / 256)) (i % 256)
-at_earlier ps cur start i h = let t : nat_le start i ≡ false = not_le in rw t refl where
-  clash : nat_le start i ≡ true → ⊥
-  clash e = let k = leb-true start i e in omega (arith, h, k)
-
-  not_le : nat_le start i ≡ false
-  not_le = by_case (nat_le start i) refl where
-    by_case : (b : Bool) → nat_le start i ≡ b → nat_le start i ≡ false
-    by_case true e = absurd (clash e)
-    by_case false e = e
+at_earlier ps cur start i h = let t : nat_le start i ≡ false = lt-leb start i h in rw t refl
 
 by_part : {P : Type 0} (start i : ℕ) → (start ≤ i → P) → (i < start → P) → P
-by_part {P} start i here earlier = by_less (ltb i start) refl where
-  by_less : (b : Bool) → ltb i start ≡ b → P
-  by_less true e = earlier (ltb-true i start e)
-  by_less false e = here (ltb-false i start e)
+by_part {P} start i here earlier = elim (cases_lt i start) as (λ _. P) [ inl h ↦ earlier h | inr h ↦ here h ]
 
 -- ## A page after the others
 
 last_passes : (test : ℕ → Bool) (es : Pages) (q : ℕ) (cur : Page) → lookup test es ≡ None → test q ≡ true → lookup test (es ++ (q, cur) ∷ []) ≡ Some cur
 last_passes test [] q cur h t = ap (λ b. cond b (Some cur) None) t
-last_passes test (e ∷ es) q cur h t = by_test (test e.0) h (λ z. last_passes test es q cur z t) where
-  by_test : (b : Bool) → cond b (Some e.1) (lookup test es) ≡ None → (lookup test es ≡ None → lookup test (es ++ (q, cur) ∷ []) ≡ Some cur) → cond b (Some e.1) (lookup test (es ++ (q, cur) ∷ [])) ≡ Some cur
-  by_test true z later = cc
-  by_test false z later = later z
+last_passes test (e ∷ es) q cur h t = (elim (test e.0) as (λ b. cond b (Some e.1) (lookup test es) ≡ None → cond b (Some e.1) (lookup test (es ++ (q, cur) ∷ [])) ≡ Some cur) [ true ↦ λ z. cc | false ↦ λ z. last_passes test es q cur z t ]) h
 
 last_fails : (test : ℕ → Bool) (es : Pages) (q : ℕ) (cur : Page) → test q ≡ false → lookup test (es ++ (q, cur) ∷ []) ≡ lookup test es
 last_fails test [] q cur t = ap (λ b. cond b (Some cur) None) t
@@ -225,10 +188,7 @@ module _ (ps : Pages) (cur : Page) (start issued : ℕ) (P : IsPaged ps cur star
     before_here i a e = omega (arith, a, e, quot i, start_is)
 
     pub no_page_here : page_of ps here ≡ None
-    no_page_here = by_case (page_of ps here) refl where
-      by_case : (o : Option Page) → page_of ps here ≡ o → page_of ps here ≡ None
-      by_case None e = e
-      by_case (Some p) e = let k = (P.pages here p e).2 in absurd (omega (arith, k, start_is))
+    no_page_here = (elim (page_of ps here) as (λ o. page_of ps here ≡ o → o ≡ None) [ None ↦ λ e. refl | Some p ↦ λ e. absurd (omega (arith, (P.pages here p e).2, start_is)) ]) refl
 
     -- and all its numbers are destroyed: it serves the next
     module _ (none : living_count cur ≡ 0) where
@@ -273,17 +233,15 @@ module _ (ps : Pages) (cur : Page) (start issued : ℕ) (P : IsPaged ps cur star
       pub paged_turned : IsPaged es new (start + 256) issued
       paged_turned = record {
         pages = λ q p e. by_same here q
-            (λ z n. let s : cur ≡ p = the_same (sym has_here ∙ ap (page_of es) n ∙ e) in (ap length (sym s) ∙ P.size, subst (λ v. 1 ≤ living_count v) s some, omega (arith, n, start_is)))
+            (λ z n. let s : cur ≡ p = same_Some cur p (sym has_here ∙ ap (page_of es) n ∙ e) in (ap length (sym s) ∙ P.size, subst (λ v. 1 ≤ living_count v) s some, omega (arith, n, start_is)))
             (λ z n. let k = P.pages q p (sym (has_other q n) ∙ e) in (k.0, k.1, omega (arith, k.2)));
-        size = length_none 256;
+        size = length-replicate {A = Option BlockPlace} 256 None;
         whole = omega (arith, start_is);
         low = omega (arith, full);
         high = omega (arith, full);
         rest = λ k h. none_living new k (living_none 256);
         total = omega (arith, sum_turned ps here cur, P.total, ap living_count places_turned, living_none 256);
-      } where
-        the_same : {v w : Page} → Some v ≡ Some w → v ≡ w
-        the_same e = cc
+      }
 
   -- a number is let go of
   module _ (i : ℕ) (p : BlockPlace) (g : slice_get (tabulate f issued) i ≡ Some (Some p)) where
@@ -291,9 +249,7 @@ module _ (ps : Pages) (cur : Page) (start issued : ℕ) (P : IsPaged ps cur star
     inside = omega (arith, get_inside (tabulate f issued) i (Some p) g, upto_length f issued)
 
     is_there : f i ≡ Some p
-    is_there = the_same (sym (upto_get f issued i inside) ∙ g) where
-      the_same : {v w : Option BlockPlace} → Some v ≡ Some w → v ≡ w
-      the_same e = cc
+    is_there = same_Some (f i) (Some p) (sym (upto_get f issued i inside) ∙ g)
 
     pub gone : living_count (slice_set (tabulate f issued) i None) + 1 ≡ living_count (tabulate f issued)
     gone = living_gone (tabulate f issued) i p g
@@ -334,13 +290,8 @@ module _ (ps : Pages) (cur : Page) (start issued : ℕ) (P : IsPaged ps cur star
 
       pub its_page : (pg : Page) × (page_of ps q ≡ Some pg) × (length pg ≡ 256) × (slice_get pg (i % 256) ≡ Some (Some p))
       its_page = by_case (page_of ps q) refl where
-        clash : {o : Option BlockPlace} → o ≡ None → o ≡ Some p → ⊥
-        clash e k = none_some (sym e ∙ k) where
-          none_some : None ≡ Some p → ⊥
-          none_some z = cc
-
         by_case : (o : Option Page) → page_of ps q ≡ o → (pg : Page) × (page_of ps q ≡ Some pg) × (length pg ≡ 256) × (slice_get pg (i % 256) ≡ Some (Some p))
-        by_case None e = absurd (clash (at_earlier ps cur start i a ∙ ap (λ o. slot o (i % 256)) e) is_there)
+        by_case None e = absurd (none-some p (sym (at_earlier ps cur start i a ∙ ap (λ o. slot o (i % 256)) e) ∙ is_there))
         by_case (Some pg) e = let k = P.pages q pg e in
             (pg, e, k.0, slot_is pg (i % 256) (omega (arith, rem i, k.0)) ∙ ap Some (sym (at_earlier ps cur start i a ∙ ap (λ o. slot o (i % 256)) e) ∙ is_there))
 
@@ -445,11 +396,6 @@ module _ (ps : Pages) (cur : Page) (start issued : ℕ) (P : IsPaged ps cur star
     before : i < start
     before = omega (arith, a, e, quot i, rem i, quot start)
 
-pub get_beyond : {A : Type 0} (xs : List A) (i : ℕ) → length xs ≤ i → slice_get xs i ≡ None
-get_beyond [] i h = refl
-get_beyond (x ∷ xs) zero h = absurd (omega (arith, h))
-get_beyond (x ∷ xs) (suc i) h = get_beyond xs i (omega (arith, h))
-
 each_living : (es : Pages) → ((i q : ℕ) (p : Page) → slice_get es i ≡ Some (q, p) → 1 ≤ living_count p) → length es ≤ sum_by living_count (values_of es)
 each_living [] h = omega arith
 each_living (e ∷ es) h = omega (arith, each_living es (λ i q p g. h (suc i) q p g), h 0 e.0 e.1 refl, sum_by-cons living_count e.1 (values_of es))
@@ -461,7 +407,7 @@ pages_few ps cur start issued P found = omega (arith, P.total, each_living ps (�
 pub paged_first : IsPaged [] (replicate 256 None) 0 0
 paged_first = record {
   pages = λ q p e. cc;
-  size = length_none 256;
+  size = length-replicate {A = Option BlockPlace} 256 None;
   whole = omega arith;
   low = omega arith;
   high = omega arith;
@@ -487,15 +433,7 @@ module _ (ps : Pages) (cur : Page) (start issued : ℕ) (P : IsPaged ps cur star
 
     module _ (some : nat_eq (living_count left) 0 ≡ false) where
       good : (v : Page) → Some left ≡ Some v → (length v ≡ 256) × (1 ≤ living_count v)
-      good v e = subst (λ (u : Page). (length u ≡ 256) × (1 ≤ living_count u)) (the_same e) (length_set found.0 (i % 256) None ∙ found.2, not_zero (living_count left) some) where
-        the_same : {u w : Page} → Some u ≡ Some w → u ≡ w
-        the_same z = cc
-
-        not_zero : (n : ℕ) → nat_eq n 0 ≡ false → 1 ≤ n
-        not_zero zero z = absurd (clash (sym (same 0) ∙ z)) where
-          clash : true ≡ false → ⊥
-          clash y = cc
-        not_zero (suc n) z = omega arith
+      good v e = subst (λ (u : Page). (length u ≡ 256) × (1 ≤ living_count u)) (same_Some left v e) (length_set found.0 (i % 256) None ∙ found.2, at_least_one (living_count left) some)
 
       pub places_fewer : tabulate (entry ms cur start) issued ≡ slice_set (tabulate (entry ps cur start) issued) i None
       places_fewer = places_dropped ps cur start issued P i p g a found.0 found.1 ms (Some left) has (λ k. refl) good sum_set
@@ -537,9 +475,3 @@ full_is ps cur start issued P = by_same (issued - start) 256
 
       from : length (tabulate (entry ps cur start) issued) ≡ start + 256 → issued - start ≡ 256
       from z = omega (arith, z, upto_length (entry ps cur start) issued)
-
-pub at_least_one : (n : ℕ) → nat_eq n 0 ≡ false → 1 ≤ n
-at_least_one zero z = absurd (clash (sym (same 0) ∙ z)) where
-  clash : true ≡ false → ⊥
-  clash y = cc
-at_least_one (suc n) z = omega arith

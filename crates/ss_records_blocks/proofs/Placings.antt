@@ -1,17 +1,15 @@
 -- Blocks that are placed and given back together.
-use Rattle.std.proofs.Common.{◌≡◌, ℕ, zero, suc, ◌+◌, ◌<◌, ◌≤◌, List, [], ◌∷◌, ◌++◌, length, slice_get, slice_index_or, Some, ◌⊎◌, inl, inr, refl, sym, ap, subst, ◌∙◌, arith, length-append}
+use Rattle.std.proofs.Common.{◌≡◌, ℕ, zero, suc, ◌+◌, ◌<◌, ◌≤◌, List, [], ◌∷◌, ◌++◌, length, slice_get, Some, sym, ap, subst, ◌∙◌, arith, length-append}
+pub use Rattle.std.proofs.lemmas.Option.{slice_get-get_or as place_at}
+use Rattle.std.proofs.lemmas.Option.{same_Some}
 use denote.RawPtr.{Ptr}
 use Rattle.ss_records_blocks.specs.declared.store.BlockPlace.{BlockPlace}
 use Rattle.ss_records_blocks.specs.Cells.{Cells, words_at, blanks, without_block}
-use Rattle.ss_records_blocks.specs.Writes.{HasNoneAt, ArePlaced, AreUnchanged}
+use Rattle.ss_records_blocks.specs.Writes.{HasNoneAt, ArePlaced}
+use Rattle.ss_records_blocks.proofs.Same.{by_same}
+use Rattle.ss_records_blocks.proofs.Entries.{get_end, get_front, get_inside}
 use Rattle.ss_records_blocks.proofs.Puts.{words_new, words_old, words_without}
 use Rattle.ss_records_blocks.proofs.Count.{blocks_without}
-
--- what is at an index
-pub place_at : {A : Type 0} (ps : List A) (i : ℕ) (q : A) → i < length ps → slice_get ps i ≡ Some (slice_index_or ps i q)
-place_at [] i q h = absurd (omega (arith, h))
-place_at (p ∷ ps) zero q h = refl
-place_at (p ∷ ps) (suc i) q h = place_at ps i q (omega (arith, h))
 
 abbrev pub AreApart : List BlockPlace → Type 0
 AreApart ps = (i j : ℕ) (p q : BlockPlace) → slice_get ps i ≡ Some p → slice_get ps j ≡ Some q → p.at ≡ q.at → i ≡ j
@@ -22,9 +20,6 @@ pub record Backed (cs bs : Cells) (ps : List BlockPlace) (n : ℕ) : Type 0 wher
   pub others : (q : Ptr) → HasNoneAt ps q → words_at bs q ≡ words_at cs q
   pub count : length bs + n ≡ length cs
 
-pub backed_none : (cs : Cells) (ps : List BlockPlace) → Backed cs cs ps 0
-backed_none cs ps = record { rest = λ j p h g. refl; others = λ q h. refl; count = omega arith }
-
 pub backed_more : (cs bs : Cells) (ps : List BlockPlace) (n : ℕ) (p : BlockPlace) → slice_get ps n ≡ Some p → AreApart ps → 0 < length (words_at cs p.at) → Backed cs bs ps n → Backed cs (without_block bs p.at) ps (n + 1)
 backed_more cs bs ps n p g apart some b = record {
   rest = λ j q h k. words_without bs p.at q.at (λ z. past n j h (apart n j p q g k z)) ∙ b.rest j q (omega (arith, h)) k;
@@ -33,25 +28,6 @@ backed_more cs bs ps n p g apart some b = record {
 } where
   past : (x y : ℕ) → x + 1 ≤ y → x ≡ y → ⊥
   past x y h e = omega (arith, h, e)
-
--- one more place
-get_last : (ps : List BlockPlace) (p q : BlockPlace) (i : ℕ) → slice_get (ps ++ p ∷ []) i ≡ Some q → ((i ≡ length ps) × (p ≡ q)) ⊎ (slice_get ps i ≡ Some q)
-get_last [] p q zero h = let e : p ≡ q = cc in inl (refl, e)
-get_last [] p q (suc i) h = cc
-get_last (r ∷ rs) p q zero h = inr h
-get_last (r ∷ rs) p q (suc i) h = elim (get_last rs p q i h) as (λ _. ((suc i ≡ length (r ∷ rs)) × (p ≡ q)) ⊎ (slice_get rs i ≡ Some q)) [ inl e ↦ inl (ap suc e.0, e.1) | inr k ↦ inr k ]
-
-get_before : (ps : List BlockPlace) (p : BlockPlace) (i : ℕ) (q : BlockPlace) → slice_get ps i ≡ Some q → slice_get (ps ++ p ∷ []) i ≡ Some q
-get_before [] p i q h = cc
-get_before (r ∷ rs) p zero q h = h
-get_before (r ∷ rs) p (suc i) q h = get_before rs p i q h
-
-get_end : (ps : List BlockPlace) (p : BlockPlace) → slice_get (ps ++ p ∷ []) (length ps) ≡ Some p
-get_end [] p = refl
-get_end (r ∷ rs) p = get_end rs p
-
-pub placed_none : (cs : Cells) (w : ℕ) → ArePlaced cs cs w []
-placed_none cs w = record { fresh = λ i p h. cc; blank = λ i p h. cc; apart = λ i j p q h k z. cc; others = λ q h. refl; count = omega arith }
 
 not_blank : (w : ℕ) → 0 < w → blanks w ≡ [] → ⊥
 not_blank zero h e = omega (arith, h)
@@ -66,18 +42,13 @@ placed_more cs ds w ps p b free some = record {
   apart = λ i j q r h k z. by_place i q h
       (λ x y. by_place j r k (λ x' y'. x ∙ sym x') (λ x'. absurd (off j r x' (sym z ∙ ap (λ (o : BlockPlace). o.at) (sym y)))))
       (λ x. by_place j r k (λ x' y'. absurd (off i q x (z ∙ ap (λ (o : BlockPlace). o.at) (sym y')))) (λ x'. b.apart i j q r x x' z));
-  others = λ q h. words_old ds p.at q (blanks w) (λ z. h (length ps) p (get_end ps p) z) ∙ b.others q (λ i r g. h i r (get_before ps p i r g));
+  others = λ q h. words_old ds p.at q (blanks w) (λ z. h (length ps) p (get_end ps p) z) ∙ b.others q (λ i r g. h i r (get_front ps (p ∷ []) i (get_inside ps i r g) ∙ g));
   count = omega (arith, b.count, length-append ps (p ∷ []));
 } where
   off : HasNoneAt ps p.at
   off i q h z = not_blank w some (sym (b.blank i q h) ∙ ap (words_at ds) z ∙ free)
 
   by_place : {P : Type 0} (i : ℕ) (q : BlockPlace) → slice_get (ps ++ p ∷ []) i ≡ Some q → ((i ≡ length ps) → (p ≡ q) → P) → (slice_get ps i ≡ Some q → P) → P
-  by_place {P} i q h new was = elim (get_last ps p q i h) as (λ _. P) [ inl x ↦ new x.0 x.1 | inr x ↦ was x ]
-
--- blank blocks that were given back
-pub unchanged_by : (cs ds es : Cells) (w : ℕ) (ps : List BlockPlace) → ArePlaced cs ds w ps → ((q : Ptr) → HasNoneAt ps q → words_at es q ≡ words_at ds q) → length es + length ps ≡ length ds → AreUnchanged cs es
-unchanged_by cs ds es w ps b others count = record {
-  words = λ q n. let none : HasNoneAt ps q = λ i p g z. n (subst (λ r. words_at cs r ≡ []) z (b.fresh i p g)) in others q none ∙ b.others q none;
-  count = omega (arith, count, b.count);
-}
+  by_place i q h new was = by_same i (length ps)
+      (λ _ e. new e (same_Some p q (sym (get_end ps p) ∙ ap (slice_get (ps ++ p ∷ [])) (sym e) ∙ h)))
+      (λ _ n. was (sym (get_front ps (p ∷ []) i (omega (arith, n, get_inside (ps ++ p ∷ []) i q h, length-append ps (p ∷ [])))) ∙ h))

@@ -4,7 +4,7 @@ use denote.RawPtr.{Ptr}
 use Rattle.ss_records_blocks.specs.Cells.{Word, blank, Cells, same_ptr, words_at, word_of, with_word, word_at, put_word, without_block, blanks}
 use Rattle.ss_records_blocks.specs.Writes.{IsWrittenAt}
 use Rattle.ss_records_blocks.proofs.Numbers.{same_ptr_eq, same_ptr_refl, length-with_word}
-use Rattle.ss_records_blocks.proofs.Same.{same, differs, by_same, false_is_not_true}
+use Rattle.ss_records_blocks.proofs.Same.{by_same, false_is_not_true}
 use Rattle.ss_records_blocks.proofs.Count.{blocks_put}
 
 pub by_ptr : {P : Type 0} (p q : Ptr) → (same_ptr p q ≡ true → p ≡ q → P) → (same_ptr p q ≡ false → (p ≡ q → ⊥) → P) → P
@@ -22,21 +22,13 @@ words_put (c ∷ cs) p k w q = by_ptr c.0 p
     (λ e' i'. rw (e', ptr_differs p q (λ j. n (i' ∙ sym j))) refl)
     (λ e' n'. rw e' (words_put cs p k w q))))
 
-suc_same : (k j : ℕ) → (k == j) ≡ (suc k == suc j)
-suc_same k j = by_same k j (λ e i. e ∙ sym (subst (λ v. (suc k == suc v) ≡ true) i (same (suc k)))) (λ e n. e ∙ sym (differs (suc k) (suc j) (λ i. n (omega (arith, i)))))
-
-pub word_with : (ws : List Word) (k : ℕ) (w : Word) (j : ℕ) → k < length ws → word_of (with_word ws k w) j ≡ cond (k == j) w (word_of ws j)
-word_with [] k w j h = absurd (omega (arith, h))
-word_with (u ∷ us) zero w zero h = refl
-word_with (u ∷ us) zero w (suc j) h = rw (differs zero (suc j) (λ e. absurd (omega (arith, e)))) refl
-word_with (u ∷ us) (suc k) w zero h = rw (differs (suc k) zero (λ e. absurd (omega (arith, e)))) refl
-word_with (u ∷ us) (suc k) w (suc j) h = word_with us k w j (omega (arith, h)) ∙ ap (λ t. cond t w (word_of us j)) (suc_same k j)
-
 pub length_put : (cs : Cells) (p : Ptr) (k : ℕ) (w : Word) (q : Ptr) → length (words_at (put_word cs p k w) q) ≡ length (words_at cs q)
 length_put cs p k w q = rw (words_put cs p k w q) ((elim (same_ptr p q) as (λ t. length (cond t (with_word (words_at cs q) k w) (words_at cs q)) ≡ length (words_at cs q)) [ true ↦ length-with_word (words_at cs q) k w | false ↦ refl ]))
 
 pub word_here : (ws : List Word) (k : ℕ) (x : Word) → k < length ws → word_of (with_word ws k x) k ≡ x
-word_here ws k x h = word_with ws k x k h ∙ ap (λ t. cond t x (word_of ws k)) (same k)
+word_here [] k x h = absurd (omega (arith, h))
+word_here (w ∷ ws) zero x h = refl
+word_here (w ∷ ws) (suc k) x h = word_here ws k x (omega (arith, h))
 
 pub word_other : (ws : List Word) (k : ℕ) (x : Word) (j : ℕ) → (k ≡ j → ⊥) → word_of (with_word ws k x) j ≡ word_of ws j
 word_other [] k x j n = refl
@@ -44,6 +36,11 @@ word_other (w ∷ ws) zero x zero n = absurd (n refl)
 word_other (w ∷ ws) zero x (suc j) n = refl
 word_other (w ∷ ws) (suc k) x zero n = refl
 word_other (w ∷ ws) (suc k) x (suc j) n = word_other ws k x j (λ e. n (ap suc e))
+
+pub word_with : (ws : List Word) (k : ℕ) (w : Word) (j : ℕ) → k < length ws → word_of (with_word ws k w) j ≡ cond (k == j) w (word_of ws j)
+word_with ws k w j h = by_same k j
+    (λ e i. rw e (subst (λ m. word_of (with_word ws k w) m ≡ w) i (word_here ws k w h)))
+    (λ e n. rw e (word_other ws k w j n))
 
 pub put_other : (cs : Cells) (p : Ptr) (k : ℕ) (x : Word) (q : Ptr) (j : ℕ) → (p ≡ q → k ≡ j → ⊥) → word_at (put_word cs p k x) q j ≡ word_at cs q j
 put_other cs p k x q j n = rw (words_put cs p k x q) (by_ptr p q (λ e i. rw e (word_other (words_at cs q) k x j (n i))) (λ e m. rw e refl))

@@ -128,10 +128,7 @@ module _ {A : Type 0} (ps : List (ℕ × A)) (r : AreRising ps) (k q : ℕ) (p :
 
 pub absent : {A : Type 0} (test : ℕ → Bool) (ps : List (ℕ × A)) → lookup test ps ≡ None → remove_entry test ps ≡ ps
 absent test [] h = refl
-absent test (e ∷ es) h = by_test (test e.0) h (absent test es) where
-  by_test : (b : Bool) → cond b (Some e.1) (lookup test es) ≡ None → (lookup test es ≡ None → remove_entry test es ≡ es) → cond b es (e ∷ remove_entry test es) ≡ e ∷ es
-  by_test true z later = cc
-  by_test false z later = ap (λ l. e ∷ l) (later z)
+absent test (e ∷ es) h = (elim (test e.0) as (λ b. cond b (Some e.1) (lookup test es) ≡ None → cond b es (e ∷ remove_entry test es) ≡ e ∷ es) [ true ↦ λ z. cc | false ↦ λ z. ap (λ l. e ∷ l) (absent test es z) ]) h
 
 pub updates_without : {A : Type 0} (ps : List (ℕ × A)) → AreRising ps → (q n : ℕ) → under (remove_entry (is_at (nat_cmp q)) ps) n ≡ cond (is_at (nat_cmp q) n) None (under ps n)
 updates_without ps r q n = lookup-remove_entry (eq_by_cmp_equiv nat_cmp_total) (is_at (nat_cmp q)) (one_number q) n ps (IsDistinct-from_sorted nat_cmp (keys_of ps) r)

@@ -67,18 +67,15 @@ module _ {M : Type 1} {𝓤 : Ura M} (𝓛 : Logic 𝓤) (l : Lft) where
       (Lends-both 𝓛 (words_own c.0 c.1) (deed_owns c.0 (length c.1)) (words_lent c.0 c.1) (beside nothing (said F)) l (Lends-words c.0 c.1)
       (Lends-both 𝓛 T F nothing (said F) l (Lends-nothing 𝓛 T l) (Lends-said 𝓛 F tt l))) (Lends-store cs)
 
-nowhere : (k : ℕ) → k < 0 → ⊥
-nowhere k h = omega (arith, h)
-
 module _ {M : Type 1} {𝓤 : Ura M} (𝓛 : Logic 𝓤) (κ : Lft) where
   words_see : (ws : List Word) (p : Ptr) (k : ℕ) → k < length ws → ent 𝓤 (sem 𝓛 (words_lent p ws κ)) (sem 𝓛 (word_lent (word_ptr p k) (word_of ws k) κ))
-  words_see [] p k inside = absurd (nowhere k inside)
+  words_see [] p k inside = absurd (omega (arith, inside))
   words_see (w ∷ ws) p zero inside = subst (λ (q : Ptr). ent 𝓤 (sem 𝓛 (words_lent p (w ∷ ws) κ)) (sem 𝓛 (word_lent q w κ))) (sym (word_ptr-zero p)) (fst∗ 𝓤 (sem 𝓛 (word_lent p w κ)) (sem 𝓛 (words_lent (p +ₚ 8) ws κ)))
   words_see (w ∷ ws) p (suc k) inside = subst (λ (q : Ptr). ent 𝓤 (sem 𝓛 (words_lent p (w ∷ ws) κ)) (sem 𝓛 (word_lent q (word_of ws k) κ))) (word_ptr-suc p k)
       (via 𝓤 (sem 𝓛 (words_lent (p +ₚ 8) ws κ)) (snd∗ 𝓤 (sem 𝓛 (word_lent p w κ)) (sem 𝓛 (words_lent (p +ₚ 8) ws κ))) (words_see ws (p +ₚ 8) k (omega (arith, inside))))
 
   pub store_see : (cs : Cells) (p : Ptr) (k : ℕ) → k < length (words_at cs p) → ent 𝓤 (sem 𝓛 (store_lent cs κ)) (sem 𝓛 (word_lent (word_ptr p k) (word_at cs p k) κ))
-  store_see [] p k = λ inside. absurd (nowhere k inside)
+  store_see [] p k = λ inside. absurd (omega (arith, inside))
   store_see (c ∷ cs) p k = elim (same_ptr c.0 p) as (λ y. (y ≡ true → c.0 ≡ p) → k < length (cond y c.1 (words_at cs p)) → ent 𝓤 (sem 𝓛 (store_lent (c ∷ cs) κ)) (sem 𝓛 (word_lent (word_ptr p k) (word_of (cond y c.1 (words_at cs p)) k) κ))) [
     | true ↦ λ is inside. subst (λ (q : Ptr). ent 𝓤 (sem 𝓛 (store_lent (c ∷ cs) κ)) (sem 𝓛 (word_lent (word_ptr q k) (word_of c.1 k) κ))) (is refl)
         (qed 𝓛 (‵ (store_lent (c ∷ cs) κ) ∷ []) ∵ fsplit ! $ fsplit ! $ keep ! (0 ∷ []) $ by ! (words_see c.1 c.0 k inside))

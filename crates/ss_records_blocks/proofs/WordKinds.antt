@@ -1,38 +1,19 @@
 -- A word that is a number, a link or a count is there, and stays one.
-use Rattle.std.proofs.Common.{◌≡◌, ℕ, zero, suc, ◌+◌, ◌<◌, List, [], ◌∷◌, length, sym, subst, ap, ◌∙◌, arith}
+use Rattle.std.proofs.Common.{◌≡◌, ℕ, ◌+◌, ◌<◌, length, sym, subst, ap, ◌∙◌, arith}
 use denote.RawPtr.{Ptr}
-use Rattle.ss_records_blocks.specs.Cells.{Word, blank, number, counter, link, Cells, IsNumber, IsLink, IsCounter, MayBeNumber, MayBeLink, MayBeCounter, words_at, word_of, word_at, put_word}
-use Rattle.ss_records_blocks.proofs.Numbers.{number_inside}
+use Rattle.ss_records_blocks.specs.Cells.{Word, link, Cells, IsNumber, IsLink, IsCounter, MayBeNumber, MayBeLink, MayBeCounter, words_at, word_of, word_at, put_word}
+use Rattle.ss_records_blocks.proofs.Numbers.{number_inside, link_inside, counter_inside, is_number, is_link, is_counter}
 use Rattle.ss_records_blocks.proofs.Same.{by_same}
 use Rattle.ss_records_blocks.proofs.Puts.{by_ptr, put_other, word_here, words_written}
 
-link_room : (ws : List Word) (k : ℕ) → IsLink (word_of ws k) → k < length ws
-link_room [] k h = absurd h
-link_room (w ∷ ws) zero h = omega arith
-link_room (w ∷ ws) (suc k) h = omega (arith, link_room ws k h)
-
-counter_room : (ws : List Word) (k : ℕ) → IsCounter (word_of ws k) → k < length ws
-counter_room [] k h = absurd h
-counter_room (w ∷ ws) zero h = omega arith
-counter_room (w ∷ ws) (suc k) h = omega (arith, counter_room ws k h)
-
 pub number_may : (w : Word) → IsNumber w → MayBeNumber w
-number_may blank h = absurd h
-number_may (number n) h = tt
-number_may (counter n) h = absurd h
-number_may (link q) h = absurd h
+number_may w h = subst MayBeNumber (sym (is_number w h).1) tt
 
 link_may : (w : Word) → IsLink w → MayBeLink w
-link_may blank h = absurd h
-link_may (number n) h = absurd h
-link_may (counter n) h = absurd h
-link_may (link q) h = tt
+link_may w h = subst MayBeLink (sym (is_link w h).1) tt
 
 counter_may : (w : Word) → IsCounter w → MayBeCounter w
-counter_may blank h = absurd h
-counter_may (number n) h = absurd h
-counter_may (counter n) h = tt
-counter_may (link q) h = absurd h
+counter_may w h = subst MayBeCounter (sym (is_counter w h).1) tt
 
 pub may_number : (cs : Cells) (p : Ptr) (k : ℕ) → IsNumber (word_at cs p k) → (k < length (words_at cs p)) × MayBeNumber (word_at cs p k)
 may_number cs p k h = (number_inside (words_at cs p) k h, number_may (word_at cs p k) h)
@@ -42,23 +23,20 @@ pub may_next : (cs : Cells) (p : Ptr) (k : ℕ) (w : Word) → IsNumber (word_at
 may_next cs p k w h = may_number (put_word cs p k w) p (k + 1) (subst IsNumber (sym (put_other cs p k w p (k + 1) (λ _ e. absurd (omega (arith, e))))) h)
 
 pub may_link : (cs : Cells) (p : Ptr) (k : ℕ) → IsLink (word_at cs p k) → (k < length (words_at cs p)) × MayBeLink (word_at cs p k)
-may_link cs p k h = (link_room (words_at cs p) k h, link_may (word_at cs p k) h)
+may_link cs p k h = (link_inside (words_at cs p) k h, link_may (word_at cs p k) h)
 
 pub may_count : (cs : Cells) (p : Ptr) (k : ℕ) → IsCounter (word_at cs p k) → (k < length (words_at cs p)) × MayBeCounter (word_at cs p k)
-may_count cs p k h = (counter_room (words_at cs p) k h, counter_may (word_at cs p k) h)
+may_count cs p k h = (counter_inside (words_at cs p) k h, counter_may (word_at cs p k) h)
 
 not_both : (w : Word) → IsLink w → IsCounter w → ⊥
-not_both blank h k = h
-not_both (number n) h k = h
-not_both (counter n) h k = h
-not_both (link q) h k = k
+not_both w h k = subst IsCounter (is_link w h).1 k
 
 module _ (cs : Cells) (p : Ptr) (k : ℕ) (to : Ptr) (h : IsLink (word_at cs p k)) where
   abbrev ds : Cells
   ds = put_word cs p k (link to)
 
   here : word_at ds p k ≡ link to
-  here = ap (λ us. word_of us k) (words_written cs p k (link to)) ∙ word_here (words_at cs p) k (link to) (link_room (words_at cs p) k h)
+  here = ap (λ us. word_of us k) (words_written cs p k (link to)) ∙ word_here (words_at cs p) k (link to) (link_inside (words_at cs p) k h)
 
   by_place : {P : Type 0} (q : Ptr) (j : ℕ) → (p ≡ q → k ≡ j → P) → (word_at ds q j ≡ word_at cs q j → P) → P
   by_place q j same other = by_ptr p q

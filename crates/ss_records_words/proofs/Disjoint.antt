@@ -1,8 +1,8 @@
 -- The words of two set names are apart, and those of a name are none of a block's head.
-use Rattle.std.proofs.Common.{◌≡◌, ℕ, zero, suc, ◌+◌, ◌*◌, ◌<◌, ◌≤◌, true, false, List, [], ◌∷◌, length, slice_get, Some, None, inl, inr, refl, sym, ap, subst, ◌∙◌, arith}
-use Rattle.std.specs.Prelude.{Option, Bool}
-use Rattle.std.proofs.Math.Dec.{ltb}
-use Rattle.std.proofs.lemmas.Bool.{ltb-true, ltb-false}
+use Rattle.std.proofs.Common.{◌≡◌, ℕ, zero, suc, ◌+◌, ◌*◌, ◌<◌, ◌≤◌, true, List, [], ◌∷◌, length, slice_get, Some, None, inl, inr, refl, sym, ap, subst, ◌∙◌, arith}
+use Rattle.std.specs.Prelude.{Option, Bool, ◌⊎◌}
+use Rattle.std.proofs.lemmas.Bool.{cases_order}
+use Rattle.std.proofs.lemmas.Option.{same_Some}
 use denote.RawPtr.{Ptr}
 use Rattle.ss_records_words.proofs.Common.{ArePartsKept, block_words, BlockPlace, Cells, Class, class_at_place, count_before, count_sets, Directory, entity_at, IsListedAt, joins, Layout, links_start, listing, Members, owned_by, owned_start, Owner, owner_at, place_in_record, put_word, same, SetLayout, System, Word, words_at}
 use Rattle.ss_base.specs.Layout.{same_owner}
@@ -15,63 +15,50 @@ use Rattle.ss_records_blocks.proofs.Count.{blocks_put}
 
 count_inside : (p : SetLayout → Bool) (ts : List SetLayout) (s : ℕ) (t : SetLayout) → slice_get ts s ≡ Some t → p t ≡ true → count_before p ts s + 1 ≤ count_sets p ts
 count_inside p [] s t g h = cc
-count_inside p (u ∷ us) zero t g h = let e : p u ≡ true = ap (λ o. the p o) g ∙ h in rw e (omega arith) where
-  the : (SetLayout → Bool) → Option SetLayout → Bool
-  the q None = false
-  the q (Some v) = q v
+count_inside p (u ∷ us) zero t g h = let e : p u ≡ true = ap p (same_Some u t g) ∙ h in rw e (omega arith)
 count_inside p (u ∷ us) (suc s) t g h = omega (arith, count_inside p us s t g h)
 
 count_later : (p : SetLayout → Bool) (ts : List SetLayout) (s r : ℕ) (t : SetLayout) → slice_get ts s ≡ Some t → p t ≡ true → s < r → count_before p ts s + 1 ≤ count_before p ts r
 count_later p [] s r t g h l = cc
 count_later p (u ∷ us) s zero t g h l = absurd (omega (arith, l))
-count_later p (u ∷ us) zero (suc r) t g h l = let e : p u ≡ true = ap (λ o. the p o) g ∙ h in rw e (omega arith) where
-  the : (SetLayout → Bool) → Option SetLayout → Bool
-  the q None = false
-  the q (Some v) = q v
+count_later p (u ∷ us) zero (suc r) t g h l = let e : p u ≡ true = ap p (same_Some u t g) ∙ h in rw e (omega arith)
 count_later p (u ∷ us) (suc s) (suc r) t g h l = omega (arith, count_later p us s r t g h (omega (arith, l)))
 
 same_owner_refl : (o : Owner) → same_owner o o ≡ true
 same_owner_refl System = refl
 same_owner_refl (Class c) = same c
 
-pub member_range : (l : Layout) (s : ℕ) (t : SetLayout) (k : ℕ) → IsOfMember (slots_of l s t) k → (member_base l s t ≤ k) × (k < member_base l s t + 3)
-member_range l s t k (inl e) = (omega (arith, e), omega (arith, e))
-member_range l s t k (inr (inl e)) = (omega (arith, e), omega (arith, e))
-member_range l s t k (inr (inr e)) = (omega (arith, e), omega (arith, e))
-
-pub owner_range : (l : Layout) (s : ℕ) (t : SetLayout) (k : ℕ) → IsOfOwner (slots_of l s t) k → (owner_base l s t ≤ k) × (k < owner_base l s t + 3)
-owner_range l s t k (inl e) = (omega (arith, e), omega (arith, e))
-owner_range l s t k (inr (inl e)) = (omega (arith, e), omega (arith, e))
-owner_range l s t k (inr (inr e)) = (omega (arith, e), omega (arith, e))
+-- one of three words in a row
+in_three : (b k : ℕ) → (k ≡ b) ⊎ ((k ≡ b + 1) ⊎ (k ≡ b + 2)) → (b ≤ k) × (k < b + 3)
+in_three b k (inl e) = (omega (arith, e), omega (arith, e))
+in_three b k (inr (inl e)) = (omega (arith, e), omega (arith, e))
+in_three b k (inr (inr e)) = (omega (arith, e), omega (arith, e))
 
 -- the words of a name within a block
 pub member_inside : (l : Layout) (s : ℕ) (t : SetLayout) (k : ℕ) → slice_get l.sets s ≡ Some t → IsOfMember (slots_of l s t) k → (links_start l t.member ≤ k) × (k < owned_start l (Class t.member))
-member_inside l s t k g m = let r = member_range l s t k m in let c = count_inside (joins t.member) l.sets s t g (same t.member) in (omega (arith, r.0), omega (arith, r.1, c))
+member_inside l s t k g m = let r = in_three (member_base l s t) k m in let c = count_inside (joins t.member) l.sets s t g (same t.member) in (omega (arith, r.0), omega (arith, r.1, c))
 
 pub owner_inside : (l : Layout) (s : ℕ) (t : SetLayout) (k : ℕ) → slice_get l.sets s ≡ Some t → IsOfOwner (slots_of l s t) k → (owned_start l t.owner ≤ k) × (k < block_words l t.owner)
-owner_inside l s t k g m = let r = owner_range l s t k m in let c = count_inside (owned_by t.owner) l.sets s t g (same_owner_refl t.owner) in (omega (arith, r.0), omega (arith, r.1, c))
+owner_inside l s t k g m = let r = in_three (owner_base l s t) k m in let c = count_inside (owned_by t.owner) l.sets s t g (same_owner_refl t.owner) in (omega (arith, r.0), omega (arith, r.1, c))
 
 -- two names of one member class, or of one owner, have words of their own
 members_disjoint : (l : Layout) (s r : ℕ) (t u : SetLayout) (k : ℕ) → slice_get l.sets s ≡ Some t → slice_get l.sets r ≡ Some u → t.member ≡ u.member → s < r → IsOfMember (slots_of l s t) k → IsOfMember (slots_of l r u) k → ⊥
 members_disjoint l s r t u k g h e n a b =
-    let x = member_range l s t k a in let y = member_range l r u k b in
+    let x = in_three (member_base l s t) k a in let y = in_three (member_base l r u) k b in
     let c = count_later (joins t.member) l.sets s r t g (same t.member) n in
     let z : links_start l t.member + 3 * count_before (joins t.member) l.sets r ≤ k = subst (λ m. links_start l m + 3 * count_before (joins m) l.sets r ≤ k) (sym e) y.0 in
     omega (arith, x.1, z, c)
 
 owners_disjoint : (l : Layout) (s r : ℕ) (t u : SetLayout) (k : ℕ) → slice_get l.sets s ≡ Some t → slice_get l.sets r ≡ Some u → t.owner ≡ u.owner → s < r → IsOfOwner (slots_of l s t) k → IsOfOwner (slots_of l r u) k → ⊥
 owners_disjoint l s r t u k g h e n a b =
-    let x = owner_range l s t k a in let y = owner_range l r u k b in
+    let x = in_three (owner_base l s t) k a in let y = in_three (owner_base l r u) k b in
     let c = count_later (owned_by t.owner) l.sets s r t g (same_owner_refl t.owner) n in
     let z : owned_start l t.owner + 3 * count_before (owned_by t.owner) l.sets r ≤ k = subst (λ m. owned_start l m + 3 * count_before (owned_by m) l.sets r ≤ k) (sym e) y.0 in
     omega (arith, x.1, z, c)
 
 -- one of two numbers that differ is less
 lower : (s r : ℕ) → (s ≡ r → ⊥) → (s < r → ⊥) → (r < s → ⊥) → ⊥
-lower s r n a b = by_less (ltb s r) refl where
-  by_less : (v : Bool) → ltb s r ≡ v → ⊥
-  by_less true e = a (ltb-true s r e)
-  by_less false e = b (omega (arith, n, ltb-false s r e))
+lower s r n a b = elim (cases_order s r) [ inl e ↦ n e | inr c ↦ elim c [ inl x ↦ a x | inr y ↦ b y ] ]
 
 pub entry_of : (cs : Cells) (d : Directory) (c n : ℕ) → IsEntityOf cs d c n → (i : ℕ) × (p : BlockPlace) × (n ≡ suc i) × (slice_get (listing d c) i ≡ Some (Some p)) × (class_at_place cs p ≡ c)
 entry_of cs d c zero h = absurd h

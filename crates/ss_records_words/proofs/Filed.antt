@@ -1,71 +1,52 @@
 -- Whether an entity is in a set, by the lists and by its links.
-use Rattle.std.proofs.Common.{◌≡◌, ℕ, zero, suc, Bool, true, false, ◌==◌, List, [], ◌∷◌, slice_get, drop, ◌+◌, Option, Some, None, ◌⊎◌, inl, inr, refl, sym, ap, subst, ◌∙◌, arith}
+use Rattle.std.proofs.Common.{◌≡◌, ℕ, zero, suc, true, false, ◌==◌, List, [], ◌∷◌, slice_get, drop, ◌+◌, Some, None, ◌⊎◌, inl, inr, refl, sym, ap, subst, ◌∙◌, arith}
 use Rattle.std.specs.Prelude.{◌&&◌, ◌||◌, is_some}
+use Rattle.std.proofs.lemmas.Bool.{and_parts, and_right, both_ways, cases_Bool, eq-eqb, eqb-false, eqb-true, or_cases, or_left, or_parts, or_right}
+use Rattle.std.proofs.lemmas.List.{drop_more}
+use Rattle.std.proofs.lemmas.Option.{get_or_from_slice_get, same_Some}
 use denote.RawPtr.{Ptr}
-use Rattle.ss_records_words.proofs.Common.{ArePartsKept, by_same, Cells, Class, differs, Directory, entity_at, IsEntityOf, IsInList, IsNotInList, Layout, link, MayOwn, number, Owner, owner_at, place_in_record, same, SetLayout, slots_of, succ, System, word_at}
+use Rattle.ss_records_words.proofs.Common.{ArePartsKept, Cells, Class, differs, Directory, entity_at, IsEntityOf, IsInList, IsNotInList, Layout, link, MayOwn, number, Owner, owner_at, place_in_record, same, SetLayout, slice_get_within, slots_of, succ, System, word_at}
 use Rattle.ss_world.specs.State.{Members, members_of, contains, owner_among, owner_of, is_filed, has_members, in_a_set, owns_members, is_owner_class}
-use Rattle.ss_records_words.proofs.Splice.{not_and_in, succ_is, succ_differs}
+use Rattle.ss_records_words.proofs.Splice.{succ_is, succ_differs}
 use Rattle.ss_records_words.proofs.Listing.{listed}
 use Rattle.ss_records_words.proofs.Disjoint.{entry_of}
 
 pub contains_in : (l : List ℕ) (x : ℕ) → contains l x ≡ true → IsInList x l
 contains_in [] x h = cc
-contains_in (y ∷ ys) x h = by_same y x (λ e q. inl q) (λ e n. inr (contains_in ys x (sym (rw e refl) ∙ h)))
+contains_in (y ∷ ys) x h = elim (or_cases (y == x) (contains ys x) h) as (λ _. IsInList x (y ∷ ys)) [ inl e ↦ inl (eqb-true y x e) | inr k ↦ inr (contains_in ys x k) ]
 
-pub contains_not : (l : List ℕ) (x : ℕ) → contains l x ≡ false → IsNotInList x l
+contains_not : (l : List ℕ) (x : ℕ) → contains l x ≡ false → IsNotInList x l
 contains_not [] x h = tt
-contains_not (y ∷ ys) x h = by_same y x
-    (λ e q. absurd (clash (sym (left e) ∙ h)))
-    (λ e n. (n, contains_not ys x (sym (right e) ∙ h))) where
-      left : (y == x) ≡ true → contains (y ∷ ys) x ≡ true
-      left e = rw e refl
-
-      right : (y == x) ≡ false → contains (y ∷ ys) x ≡ contains ys x
-      right e = rw e refl
-
-      clash : true ≡ false → ⊥
-      clash e = cc
+contains_not (y ∷ ys) x h = let p = or_parts (y == x) (contains ys x) h in (eqb-false y x p.0, contains_not ys x p.1)
 
 pub in_contains : (l : List ℕ) (x : ℕ) → IsInList x l → contains l x ≡ true
-in_contains l x h = by_test (contains l x) refl where
-  by_test : (b : Bool) → contains l x ≡ b → contains l x ≡ true
-  by_test true e = e
-  by_test false e = absurd (not_and_in x l (contains_not l x e) h)
+in_contains [] x h = absurd h
+in_contains (y ∷ ys) x (inl e) = or_left (y == x) (contains ys x) (eq-eqb y x e)
+in_contains (y ∷ ys) x (inr h) = or_right (y == x) (contains ys x) (in_contains ys x h)
 
-owner_some : (ms all : List Members) (s x o : ℕ) → owner_among ms all s x ≡ Some o → contains (members_of all s o) x ≡ true
-owner_some [] all s x o h = cc
-owner_some (m ∷ ms) all s x o h = by_owner (λ k. owner_some ms all s x o k) (m.set == s) (contains (members_of all s m.owner) x) refl refl where
-  by_owner : (owner_among ms all s x ≡ Some o → contains (members_of all s o) x ≡ true) → (b c : Bool) → (m.set == s) ≡ b → contains (members_of all s m.owner) x ≡ c → contains (members_of all s o) x ≡ true
-  by_owner on true true e f = let q : Some m.owner ≡ Some o = sym (rw (e, f) refl) ∙ h in let r : m.owner ≡ o = cc in subst (λ n. contains (members_of all s n) x ≡ true) r f
-  by_owner on true false e f = on (sym (rw (e, f) refl) ∙ h)
-  by_owner on false c e f = on (sym (rw e refl) ∙ h)
+-- x is a member of a list that ms names, or of none
+abbrev IsFiledOrNot : List Members → List Members → ℕ → ℕ → Type 0
+IsFiledOrNot ms all s x = ((o : ℕ) × (owner_among ms all s x ≡ Some o) × (IsInList x (members_of all s o))) ⊎ ((owner_among ms all s x ≡ None) × ((o : ℕ) → (members_of ms s o ≡ []) ⊎ IsNotInList x (members_of all s o)))
 
-owner_none : (ms all : List Members) (s x o : ℕ) → owner_among ms all s x ≡ None → (members_of ms s o ≡ []) ⊎ (contains (members_of all s o) x ≡ false)
-owner_none [] all s x o h = inl refl
-owner_none (m ∷ ms) all s x o h = by_owner (λ k. owner_none ms all s x o k) (m.set == s) (m.owner == o) (contains (members_of all s m.owner) x) refl refl refl where
-  skips : (b c : Bool) → (m.set == s) ≡ b → (m.owner == o) ≡ c → (b && c) ≡ false → members_of (m ∷ ms) s o ≡ members_of ms s o
-  skips b c e f g = let k : ((m.set == s) && (m.owner == o)) ≡ false = (λ i. e i && f i) ∙ g in rw k refl
-
-  on : (members_of ms s o ≡ []) ⊎ (contains (members_of all s o) x ≡ false) → members_of (m ∷ ms) s o ≡ members_of ms s o → (members_of (m ∷ ms) s o ≡ []) ⊎ (contains (members_of all s o) x ≡ false)
-  on k e = elim k as (λ _. (members_of (m ∷ ms) s o ≡ []) ⊎ (contains (members_of all s o) x ≡ false)) [ inl y ↦ inl (e ∙ y) | inr y ↦ inr y ]
-
-  owner_is : (m.owner == o) ≡ true → m.owner ≡ o
-  owner_is f = by_same m.owner o (λ z q. q) (λ z n. absurd (clash (sym f ∙ z))) where
-    clash : true ≡ false → ⊥
-    clash z = cc
-
-  by_owner : (owner_among ms all s x ≡ None → (members_of ms s o ≡ []) ⊎ (contains (members_of all s o) x ≡ false)) → (b c t : Bool) → (m.set == s) ≡ b → (m.owner == o) ≡ c → contains (members_of all s m.owner) x ≡ t → (members_of (m ∷ ms) s o ≡ []) ⊎ (contains (members_of all s o) x ≡ false)
-  by_owner k false c t e f g = on (k (sym (rw e refl) ∙ h)) (skips false c e f refl)
-  by_owner k true c true e f g = let q : Some m.owner ≡ None = sym (rw (e, g) refl) ∙ h in cc
-  by_owner k true true false e f g = inr (subst (λ n. contains (members_of all s n) x ≡ false) (owner_is f) g)
-  by_owner k true false false e f g = on (k (sym (rw (e, g) refl) ∙ h)) (skips true false e f refl)
+filed_among : (ms all : List Members) (s x : ℕ) → IsFiledOrNot ms all s x
+filed_among [] all s x = inr (refl, λ o. inl refl)
+filed_among (m ∷ ms) all s x = elim (cases_Bool ((m.set == s) && contains (members_of all s m.owner) x)) as (λ _. IsFiledOrNot (m ∷ ms) all s x) [
+  | inl y ↦ inl (m.owner, rw y refl, contains_in (members_of all s m.owner) x (and_parts (m.set == s) (contains (members_of all s m.owner) x) y).1)
+  | inr n ↦ elim (filed_among ms all s x) as (λ _. IsFiledOrNot (m ∷ ms) all s x) [
+    | inl a ↦ inl (a.0, rw n a.1, a.2)
+    | inr a ↦ inr (
+      rw n a.0,
+      λ o. elim (cases_Bool ((m.set == s) && (m.owner == o))) as (λ _. (members_of (m ∷ ms) s o ≡ []) ⊎ IsNotInList x (members_of all s o)) [
+        | inl e ↦ let p = and_parts (m.set == s) (m.owner == o) e in inr (subst (λ k. IsNotInList x (members_of all s k)) (eqb-true m.owner o p.1) (contains_not (members_of all s m.owner) x (rw p.0 at n)))
+        | inr e ↦ rw e (a.1 o)
+      ],
+    )
+  ]
+]
 
 -- x is a member of a list of the name s, or of none
 pub filed_or_not : (ms : List Members) (s x : ℕ) → ((o : ℕ) × (owner_of ms s x ≡ Some o) × (IsInList x (members_of ms s o))) ⊎ ((owner_of ms s x ≡ None) × ((o : ℕ) → IsNotInList x (members_of ms s o)))
-filed_or_not ms s x = by_case (owner_of ms s x) refl where
-  by_case : (r : Option ℕ) → owner_of ms s x ≡ r → ((o : ℕ) × (owner_of ms s x ≡ Some o) × (IsInList x (members_of ms s o))) ⊎ ((owner_of ms s x ≡ None) × ((o : ℕ) → IsNotInList x (members_of ms s o)))
-  by_case (Some o) e = inl (o, e, contains_in (members_of ms s o) x (owner_some ms ms s x o e))
-  by_case None e = inr (e, (λ o. elim (owner_none ms ms s x o e) as (λ _. IsNotInList x (members_of ms s o)) [ inl y ↦ subst (IsNotInList x) (sym y) tt | inr y ↦ contains_not (members_of ms s o) x y ]))
+filed_or_not ms s x = elim (filed_among ms ms s x) [ inl a ↦ inl a | inr a ↦ inr (a.0, λ o. elim (a.1 o) as (λ _. IsNotInList x (members_of ms s o)) [ inl y ↦ subst (IsNotInList x) (sym y) tt | inr n ↦ n ]) ]
 
 module _ (l : Layout) (cs : Cells) (sys : Ptr) (d : Directory) (ms : List Members) (K : ArePartsKept l cs sys d ms) where
   -- the number in the block of an entity, or of the end
@@ -87,9 +68,7 @@ module _ (l : Layout) (cs : Cells) (sys : Ptr) (d : Directory) (ms : List Member
     f = members_of ms s
 
     pub above_zero : 0 ≡ x → ⊥
-    above_zero e = let a = entry_of cs d t.member x h in clash (e ∙ a.2) where
-      clash : {k : ℕ} → 0 ≡ suc k → ⊥
-      clash z = omega (arith, z)
+    above_zero e = let a = entry_of cs d t.member x h in let q : 0 ≡ suc a.0 = e ∙ a.2 in omega arith
 
     -- the next word of x leads to n, which is x itself where x is in no list
     pub record Next : Type 0 where
@@ -121,9 +100,7 @@ module _ (l : Layout) (cs : Cells) (sys : Ptr) (d : Directory) (ms : List Member
 
 -- the set at a place of the layout
 pub drop_at : {A : Type 0} (xs : List A) (s : ℕ) (t : A) → slice_get xs s ≡ Some t → drop s xs ≡ t ∷ drop (s + 1) xs
-drop_at [] s t g = cc
-drop_at (x ∷ xs) zero t g = let e : x ≡ t = cc in ap (λ y. y ∷ xs) e
-drop_at (x ∷ xs) (suc s) t g = let q : suc s + 1 ≡ suc (s + 1) = omega arith in rw q (drop_at xs s t g)
+drop_at xs s t g = drop_more xs s t (slice_get_within xs s t g) ∙ ap (λ y. y ∷ drop (s + 1) xs) (get_or_from_slice_get xs s t t g)
 
 -- the sets from s on, by what the set s says
 pub in_step : (ts : List SetLayout) (s c x : ℕ) (t : SetLayout) (ms : List Members) → slice_get ts s ≡ Some t → in_a_set (drop s ts) s ms c x ≡ (((t.member == c) && is_filed ms s x) || in_a_set (drop (s + 1) ts) (s + 1) ms c x)
@@ -133,10 +110,7 @@ pub in_here : (ts : List SetLayout) (s c x : ℕ) (t : SetLayout) (ms : List Mem
 in_here ts s c x t ms g e h = let q : (t.member == c) ≡ true = ap (λ n. n == c) e ∙ same c in in_step ts s c x t ms g ∙ rw (q, h) refl
 
 pub in_not_filed : (ts : List SetLayout) (s c x : ℕ) (t : SetLayout) (ms : List Members) → slice_get ts s ≡ Some t → is_filed ms s x ≡ false → in_a_set (drop s ts) s ms c x ≡ in_a_set (drop (s + 1) ts) (s + 1) ms c x
-in_not_filed ts s c x t ms g h = in_step ts s c x t ms g ∙ rw h (and_or (t.member == c) (in_a_set (drop (s + 1) ts) (s + 1) ms c x)) where
-  and_or : (b r : Bool) → ((b && false) || r) ≡ r
-  and_or true r = refl
-  and_or false r = refl
+in_not_filed ts s c x t ms g h = in_step ts s c x t ms g ∙ rw (and_right (t.member == c) (is_filed ms s x) h) refl
 
 pub in_other : (ts : List SetLayout) (s c x : ℕ) (t : SetLayout) (ms : List Members) → slice_get ts s ≡ Some t → (t.member ≡ c → ⊥) → in_a_set (drop s ts) s ms c x ≡ in_a_set (drop (s + 1) ts) (s + 1) ms c x
 in_other ts s c x t ms g n = in_step ts s c x t ms g ∙ rw (differs t.member c n) refl
@@ -148,55 +122,34 @@ pub owns_here : (ts : List SetLayout) (s c x : ℕ) (t : SetLayout) (ms : List M
 owns_here ts s c x t ms g e h = owns_step ts s c x t ms g ∙ rw (e, h) refl
 
 pub owns_not : (ts : List SetLayout) (s c x : ℕ) (t : SetLayout) (ms : List Members) → slice_get ts s ≡ Some t → has_members (members_of ms s x) ≡ false → owns_members (drop s ts) s ms c x ≡ owns_members (drop (s + 1) ts) (s + 1) ms c x
-owns_not ts s c x t ms g h = owns_step ts s c x t ms g ∙ rw h (and_or (is_owner_class t.owner c) (owns_members (drop (s + 1) ts) (s + 1) ms c x)) where
-  and_or : (b r : Bool) → ((b && false) || r) ≡ r
-  and_or true r = refl
-  and_or false r = refl
+owns_not ts s c x t ms g h = owns_step ts s c x t ms g ∙ rw (and_right (is_owner_class t.owner c) (has_members (members_of ms s x)) h) refl
 
 pub owns_other : (ts : List SetLayout) (s c x : ℕ) (t : SetLayout) (ms : List Members) → slice_get ts s ≡ Some t → is_owner_class t.owner c ≡ false → owns_members (drop s ts) s ms c x ≡ owns_members (drop (s + 1) ts) (s + 1) ms c x
 owns_other ts s c x t ms g n = owns_step ts s c x t ms g ∙ rw n refl
 
 pub class_of_owner : (o : Owner) (c : ℕ) → is_owner_class o c ≡ true → o ≡ Class c
 class_of_owner System c h = cc
-class_of_owner (Class d) c h = ap Class (by_same d c (λ e q. q) (λ e n. absurd (clash (sym e ∙ h)))) where
-  clash : false ≡ true → ⊥
-  clash z = cc
+class_of_owner (Class d) c h = ap Class (eqb-true d c h)
 
 -- what no set says of x
 pub in_none_of : (ts : List SetLayout) (s c x : ℕ) (ms : List Members) → in_a_set ts s ms c x ≡ false → (k : ℕ) (t : SetLayout) → slice_get ts k ≡ Some t → t.member ≡ c → is_filed ms (s + k) x ≡ false
 in_none_of [] s c x ms h k t g e = cc
 in_none_of (u ∷ us) s c x ms h zero t g e =
-    let q : u ≡ t = cc in let a : (u.member == c) ≡ true = ap (λ (v : SetLayout). v.member == c) q ∙ ap (λ n. n == c) e ∙ same c in let z : s + 0 ≡ s = omega arith in
-    rw z (first (is_filed ms s x) (in_a_set us (s + 1) ms c x) (sym (rw a refl) ∙ h)) where
-      first : (b r : Bool) → (b || r) ≡ false → b ≡ false
-      first true r k = k
-      first false r k = refl
-in_none_of (u ∷ us) s c x ms h (suc k) t g e = let z : s + suc k ≡ s + 1 + k = omega arith in rw z (in_none_of us (s + 1) c x ms (rest ((u.member == c) && is_filed ms s x) (in_a_set us (s + 1) ms c x) h) k t g e) where
-  rest : (b r : Bool) → (b || r) ≡ false → r ≡ false
-  rest true r k = absurd (clash k) where
-    clash : true ≡ false → ⊥
-    clash z = cc
-  rest false r k = k
+    let p = or_parts ((u.member == c) && is_filed ms s x) (in_a_set us (s + 1) ms c x) h in let z : s + 0 ≡ s = omega arith in
+    rw z (rw (eq-eqb u.member c (ap (λ (v : SetLayout). v.member) (same_Some u t g) ∙ e)) at p.0)
+in_none_of (u ∷ us) s c x ms h (suc k) t g e =
+    let z : s + suc k ≡ s + 1 + k = omega arith in rw z (in_none_of us (s + 1) c x ms (or_parts ((u.member == c) && is_filed ms s x) (in_a_set us (s + 1) ms c x) h).1 k t g e)
 
 pub owns_none_of : (ts : List SetLayout) (s c x : ℕ) (ms : List Members) → owns_members ts s ms c x ≡ false → (k : ℕ) (t : SetLayout) → slice_get ts k ≡ Some t → t.owner ≡ Class c → has_members (members_of ms (s + k) x) ≡ false
 owns_none_of [] s c x ms h k t g e = cc
 owns_none_of (u ∷ us) s c x ms h zero t g e =
-    let q : u ≡ t = cc in let a : is_owner_class u.owner c ≡ true = ap (λ (v : SetLayout). is_owner_class v.owner c) q ∙ ap (λ o. is_owner_class o c) e ∙ same c in let z : s + 0 ≡ s = omega arith in
-    rw z (first (has_members (members_of ms s x)) (owns_members us (s + 1) ms c x) (sym (rw a refl) ∙ h)) where
-      first : (b r : Bool) → (b || r) ≡ false → b ≡ false
-      first true r k = k
-      first false r k = refl
-owns_none_of (u ∷ us) s c x ms h (suc k) t g e = let z : s + suc k ≡ s + 1 + k = omega arith in rw z (owns_none_of us (s + 1) c x ms (rest (is_owner_class u.owner c && has_members (members_of ms s x)) (owns_members us (s + 1) ms c x) h) k t g e) where
-  rest : (b r : Bool) → (b || r) ≡ false → r ≡ false
-  rest true r k = absurd (clash k) where
-    clash : true ≡ false → ⊥
-    clash z = cc
-  rest false r k = k
+    let p = or_parts (is_owner_class u.owner c && has_members (members_of ms s x)) (owns_members us (s + 1) ms c x) h in let z : s + 0 ≡ s = omega arith in
+    let o = ap (λ o. is_owner_class o c) (ap (λ (v : SetLayout). v.owner) (same_Some u t g) ∙ e) ∙ same c in rw z (rw o at p.0)
+owns_none_of (u ∷ us) s c x ms h (suc k) t g e =
+    let z : s + suc k ≡ s + 1 + k = omega arith in rw z (owns_none_of us (s + 1) c x ms (or_parts (is_owner_class u.owner c && has_members (members_of ms s x)) (owns_members us (s + 1) ms c x) h).1 k t g e)
 
 pub not_filed_in : (ms : List Members) (s x : ℕ) → is_filed ms s x ≡ false → (o : ℕ) → IsNotInList x (members_of ms s o)
-not_filed_in ms s x h = elim (filed_or_not ms s x) as (λ _. (o : ℕ) → IsNotInList x (members_of ms s o)) [ inl a ↦ absurd (clash (sym (ap is_some a.1) ∙ h)) | inr a ↦ a.1 ] where
-  clash : true ≡ false → ⊥
-  clash z = cc
+not_filed_in ms s x h = elim (filed_or_not ms s x) [ inl a ↦ absurd (both_ways (is_filed ms s x) h (ap is_some a.1)) | inr a ↦ a.1 ]
 
 pub no_members : (l : List ℕ) → has_members l ≡ false → l ≡ []
 no_members [] h = refl

@@ -1,10 +1,8 @@
 mod Common
 pub mod Disjoint
 pub mod Filed
-pub mod Fills
 pub mod Listing
 pub mod Makings
-pub mod Planned
 pub mod Planning
 pub mod ReadBack
 pub mod Splice

@@ -1,5 +1,8 @@
 -- Where the entities of a class are listed.
 use Rattle.std.proofs.Common.{◌≡◌, ℕ, zero, suc, ◌^◌, ◌<◌, List, [], ◌∷◌, map, length, slice_get, Option, Some, None, inl, inr, refl, sym, ap, subst, ◌∙◌, arith}
+use Rattle.std.specs.Option.{option_map}
+use Rattle.std.proofs.lemmas.List.{length-map}
+use Rattle.std.proofs.lemmas.Option.{slice_get-map}
 use denote.RawPtr.{Ptr}
 use Rattle.ss_records_words.proofs.Common.{ArePartsKept, BlockPlace, Cells, Layout, Members}
 use Rattle.ss_records_words.specs.Places.{Directory, own_or, listing, IsListedAt, class_at_place}
@@ -10,13 +13,7 @@ unmapped (q ∷ qs) zero p h = cc
 unmapped (q ∷ qs) (suc i) p h = unmapped qs i p h
 
 pub mapped : (ps : List BlockPlace) (i : ℕ) (p : BlockPlace) → slice_get ps i ≡ Some p → slice_get (map Some ps) i ≡ Some (Some p)
-mapped [] i p h = cc
-mapped (q ∷ qs) zero p h = cc
-mapped (q ∷ qs) (suc i) p h = mapped qs i p h
-
-pub length_mapped : (ps : List BlockPlace) → length (map Some ps) ≡ length ps
-length_mapped [] = refl
-length_mapped (p ∷ ps) = ap suc (length_mapped ps)
+mapped ps i p h = slice_get-map Some ps i ∙ ap (option_map Some) h
 
 pub listed : (d : Directory) (c i : ℕ) (p : BlockPlace) → slice_get (listing d c) i ≡ Some (Some p) → IsListedAt d i p
 listed d c i p h = by_class (slice_get d.classes c) refl h where
@@ -41,4 +38,4 @@ module _ (l : Layout) (cs : Cells) (sys : Ptr) (d : Directory) (ms : List Member
     by_class : (o : Option (Option (List BlockPlace))) → slice_get d.classes c ≡ o → length (listing d c) < 4611686018427387904
     by_class None e = subst (λ o. length (own_or d.numbers o) < 4611686018427387904) (sym e) K.issued
     by_class (Some None) e = subst (λ o. length (own_or d.numbers o) < 4611686018427387904) (sym e) K.issued
-    by_class (Some (Some ps)) e = subst (λ o. length (own_or d.numbers o) < 4611686018427387904) (sym e) (omega (arith, length_mapped ps, (K.made c ps e).few))
+    by_class (Some (Some ps)) e = subst (λ o. length (own_or d.numbers o) < 4611686018427387904) (sym e) (omega (arith, length-map ps Some, (K.made c ps e).few))

@@ -1,25 +1,21 @@
 -- The blocks of the permanent entities of a class, which lie together.
-use Rattle.std.proofs.Common.{◌≡◌, ℕ, suc, ◌+◌, ◌≤◌, List, length, slice_get, Some, refl, sym, ap, subst, ◌∙◌, arith}
+use Rattle.std.proofs.Common.{◌≡◌, ℕ, suc, ◌+◌, ◌≤◌, List, length, slice_get, Some, sym, ap, subst, ◌∙◌, arith}
+use Rattle.std.proofs.lemmas.Option.{same_Some}
 use denote.RawPtr.{Ptr}
-use Rattle.ss_records_words.proofs.Common.{block_words, BlockPlace, by_same, Cells, Class, Layout, word_of, words_at}
+use Rattle.ss_records_words.proofs.Common.{block_words, BlockPlace, by_same, Cells, Class, Layout, words_at}
 use Rattle.ss_records_words.specs.Laid.{IsLaid, IsBorn, AreLaidTo}
 use Rattle.ss_records_blocks.proofs.Placings.{AreApart}
 
 -- a new block that stays as it was
 born_same : (l : Layout) (ds es : Cells) (end p : Ptr) (c n : ℕ) → words_at es p ≡ words_at ds p → IsBorn l ds end p c n → IsBorn l es end p c n
 born_same l ds es end p c n e b = record {
-  size = ap length e ∙ b.size;
-  its_class = same 0 ∙ b.its_class;
-  its_number = same 1 ∙ b.its_number;
-  values = λ k x y. same k ∙ b.values k x y;
-  links = λ k x y. same k ∙ b.links k x y;
-  owned = λ k x y. same k ∙ b.owned k x y;
-} where
-  same : (k : ℕ) → word_of (words_at es p) k ≡ word_of (words_at ds p) k
-  same k = ap (λ us. word_of us k) e
-
-pub laid_none : (l : Layout) (cs : Cells) (end : Ptr) (ps : List BlockPlace) (c : ℕ) → AreLaidTo l cs cs end ps c 0
-laid_none l cs end ps c = record { laid = λ i p g h. absurd (omega (arith, h)); rest = λ i p g h. refl; others = λ q h. refl; count = refl }
+  size = rw e b.size;
+  its_class = rw e b.its_class;
+  its_number = rw e b.its_number;
+  values = λ k x y. rw e (b.values k x y);
+  links = λ k x y. rw e (b.links k x y);
+  owned = λ k x y. rw e (b.owned k x y);
+}
 
 pub laid_more : (l : Layout) (cs ds es : Cells) (end : Ptr) (ps : List BlockPlace) (c n : ℕ) (p : BlockPlace) → slice_get ps n ≡ Some p → AreApart ps → length (words_at ds p.at) ≡ block_words l (Class c) → AreLaidTo l cs ds end ps c n → IsLaid l ds es end p.at c (n + 1) → AreLaidTo l cs es end ps c (n + 1)
 laid_more l cs ds es end ps c n p g apart size b laid = record {
@@ -37,9 +33,7 @@ laid_more l cs ds es end ps c n p g apart size b laid = record {
   next i z = omega (arith, z)
 
   cc_place : (i : ℕ) (q : BlockPlace) → slice_get ps i ≡ Some q → i ≡ n → q ≡ p
-  cc_place i q h z = some_same (sym h ∙ ap (slice_get ps) z ∙ g) where
-    some_same : {x y : BlockPlace} → Some x ≡ Some y → x ≡ y
-    some_same e = cc
+  cc_place i q h z = same_Some q p (sym h ∙ ap (slice_get ps) z ∙ g)
 
   born : IsBorn l es end p.at c (n + 1)
   born = record { size = laid.written.size ∙ size; its_class = laid.its_class; its_number = laid.its_number; values = laid.values; links = laid.links; owned = laid.owned }

@@ -1,5 +1,5 @@
 -- What a plan holds, and how far the words of a layout reach.
-use Rattle.std.proofs.Common.{◌≡◌, ℕ, zero, suc, ◌^◌, ◌<◌, ◌≤◌, nat_le, nat_lt, Bool, true, false, ◌&&◌, subst, List, [], ◌∷◌, ◌++◌, length, Some, slice_get, refl, ◌∙◌, arith}
+use Rattle.std.proofs.Common.{◌≡◌, ℕ, zero, suc, ◌^◌, ◌<◌, ◌≤◌, nat_le, nat_lt, Bool, true, false, ◌&&◌, subst, List, [], ◌∷◌, length, Some, slice_get, refl, ◌∙◌, arith}
 use Rattle.std.specs.Prelude.{cond, IsTrue, slice_index_or}
 use Rattle.ss_records_words.proofs.Common.{Bases, Class, count_before, count_sets, Extent, get_there, joins, Layout, links_start, list_all, member_base, owned_by, owned_start, Owner, owner_base, SetLayout, System}
 use Rattle.std.proofs.lemmas.Bool.{and_parts, leb-true, ltb-true}
@@ -8,7 +8,8 @@ use Rattle.ss_base.specs.Layout.{is_layout, is_narrow, is_sound, names_classes, 
 use Rattle.ss_base.specs.Plain.{PlainClass}
 use Rattle.ss_world.specs.State.{kind_of, is_notice, modes_in}
 use Rattle.ss_records_words.specs.Kept.{IsSmall}
-use Rattle.ss_records_words.specs.Plans.{extent_of, bases_of, IsPlan}
+use Rattle.ss_records_words.specs.Plans.{extent_of, bases_of, is_permanent_kind, is_system, IsPlan}
+use Rattle.ss_world.specs.Sets.{member_class, owner_kind}
 
 one : (b : Bool) → cond b 1 0 ≤ 1
 one true = omega arith
@@ -68,21 +69,17 @@ member_reach l h s t = omega (arith, links_reach l h t.member, few_before (joins
 pub owner_reach : (l : Layout) → IsSmall l → (s : ℕ) (t : SetLayout) → owner_base l s t ≤ 8388614
 owner_reach l h s t = omega (arith, owned_reach l h t.owner, few_before (owned_by t.owner) l.sets s, h.sets)
 
-pub get_front : {A : Type 0} (xs : List A) (x : A) (k : ℕ) → k < length xs → slice_get (xs ++ x ∷ []) k ≡ slice_get xs k
-get_front [] x k h = absurd (omega (arith, h))
-get_front (y ∷ ys) x zero h = refl
-get_front (y ∷ ys) x (suc k) h = get_front ys x k (omega (arith, h))
+-- how far the words of a class reach, and those of a set
+pub extent_within : {l : Layout} → IsSmall l → (c : ℕ) {x : Extent} → x ≡ extent_of l c → (x.links ≤ 2097155) × (x.owned ≤ 5242883) × (x.joined ≤ 1048576) × (x.sets ≤ 1048576) × (2 ≤ x.words) × (x.words < 2 ^ 32)
+extent_within {l} h c e =
+    let reach = owned_reach l h (Class c) in let few = few_sets (owned_by (Class c)) l.sets in
+    rw e (links_reach l h c, reach, omega (arith, few_sets (joins c) l.sets, h.sets), omega (arith, few, h.sets), omega arith, omega (arith, reach, few, h.sets))
 
-pub get_last_pushed : {A : Type 0} (xs : List A) (x : A) (k : ℕ) → k ≡ length xs → slice_get (xs ++ x ∷ []) k ≡ Some x
-get_last_pushed [] x zero h = refl
-get_last_pushed [] x (suc k) h = absurd (omega (arith, h))
-get_last_pushed (y ∷ ys) x zero h = absurd (omega (arith, h))
-get_last_pushed (y ∷ ys) x (suc k) h = get_last_pushed ys x k (omega (arith, h))
+pub bases_within : {l : Layout} → IsSmall l → (s : ℕ) (t : SetLayout) → slice_get l.sets s ≡ Some t → {x : Bases} → x ≡ bases_of l s t
+    → (x.member ≤ 5242883) × (x.owner ≤ 8388614) × (x.class < length l.classes) × (x.permanent ≡ is_permanent_kind (kind_of l (member_class l s))) × (x.system ≡ is_system (owner_kind l s))
+bases_within {l} h s t g e = rw (e, g) (member_reach l h s t, owner_reach l h s t, class_named (length l.classes) l.sets h.sound s t g, refl, refl)
 
-module _ (l : Layout) (cs : List Extent) (ss : List Bases) (n : ℕ) (P : IsPlan l cs ss n) where
-  pub class_within : (c : ℕ) → c < length l.classes → c < length cs
-  class_within c h = slice_get_within cs c (extent_of l c) (P.classes c h)
-
+module _ {l : Layout} {cs : List Extent} {ss : List Bases} {n : ℕ} (P : IsPlan l cs ss n) where
   pub extent_is : (c : ℕ) (x : Extent) → c < length l.classes → x ≡ slice_index_or cs c x → x ≡ extent_of l c
   extent_is c x h e = e ∙ get_or_from_slice_get cs c (extent_of l c) x (P.classes c h)
 

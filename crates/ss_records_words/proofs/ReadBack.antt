@@ -1,6 +1,6 @@
 -- A text comes out of its words as it went in.
 use Rattle.std.proofs.Common.{◌≡◌, ℕ, zero, suc, ◌+◌, ◌-◌, ◌≤◌, ◌<◌, true, List, [], ◌∷◌, ◌++◌, length, get_or, take, drop, refl, sym, subst, T, ◌∙◌, ap, arith, lit<, length-append, length-drop, length-take-le, take-append-drop, take_all, get_or-drop}
-use Rattle.std.specs.Prelude.{Option, Some, nat_le, replicate}
+use Rattle.std.specs.Prelude.{Some, nat_le, replicate}
 use Rattle.ss_records_words.proofs.Common.{Alpha, list_all, Text, value_of_words}
 use Rattle.std.specs.Int.{from_be_bytes, to_be_bytes}
 use Rattle.std.specs.Option.{unwrap_or}
@@ -59,43 +59,14 @@ read_back t a b h l e f =
 pad_length : (t : List ℕ) → length t ≤ text_limit → length (padded_text t) ≡ 16
 pad_length t h = omega (arith, h, length-append t (replicate (text_limit - length t) 0), length-replicate {A = ℕ} (text_limit - length t) 0)
 
--- in a room of sixteen bytes
-module _ (t bytes : List ℕ) (h : IsText t) (is : bytes ≡ t) where
-  pub text_fits : length bytes ≤ 16
-  text_fits = omega (arith, ap length is, h.short)
-
-  module _ (copied : List ℕ) (same : copied ≡ bytes) where
-    abbrev room : List ℕ
-    room = copied ++ drop (length bytes) (replicate text_limit 0)
-
-    room_is : room ≡ padded_text t
-    room_is = rw (same, is, drop-replicate {X = ℕ} (length t) text_limit 0) refl
-
-    room_length : length room ≡ 16
-    room_length = ap length room_is ∙ pad_length t h.short
-
-    pub room_fits : 16 ≤ length room
-    room_fits = omega (arith, room_length)
-
-    pub half_fits : 8 ≤ length room
-    half_fits = omega (arith, room_length)
-
-    pub first_half : length (take 8 room) ≡ 8
-    first_half = length-take-le 8 room half_fits
-
-    pub second_half : length (take 8 (drop 8 room)) ≡ 8
-    second_half = length-take-le 8 (drop 8 room) (omega (arith, room_length, length-drop 8 room))
+room_is : (t bytes copied : List ℕ) → bytes ≡ t → copied ≡ bytes → copied ++ drop (length bytes) (replicate text_limit 0) ≡ padded_text t
+room_is t bytes copied is same = rw (same, is, drop-replicate {X = ℕ} (length t) text_limit 0) refl
 
 -- the words of a text that was copied into zeros
 pub text_read : (t bytes copied : List ℕ) (a b : ℕ) → IsText t → bytes ≡ t → copied ≡ bytes
     → a ≡ from_be_bytes w64 (take 8 (copied ++ drop (length bytes) (replicate text_limit 0))) → b ≡ from_be_bytes w64 (take 8 (drop 8 (copied ++ drop (length bytes) (replicate text_limit 0)))) → value_of_words Alpha a b ≡ Text t
 text_read t bytes copied a b h is same e f =
-    let room = room_is t bytes h is copied same in
+    let room = room_is t bytes copied is same in
     let all = pad_length t h.short in
     let rest : take 8 (drop 8 (padded_text t)) ≡ drop 8 (padded_text t) = take_all 8 (drop 8 (padded_text t)) (omega (arith, all, length-drop 8 (padded_text t))) in
     read_back t a b h all (e ∙ ap (λ r. from_be_bytes w64 (take 8 r)) room) (f ∙ ap (λ r. from_be_bytes w64 (take 8 (drop 8 r))) room ∙ ap (from_be_bytes w64) rest)
-
--- the text that is found in the bytes of two words
-pub text_found : (a b : ℕ) (bytes used : List ℕ) (found : Option (List ℕ)) → bytes ≡ to_be_bytes w64 a ++ to_be_bytes w64 b → used ≡ before_zero bytes → found ≡ text_of used → value_of_words Alpha a b ≡ Text (unwrap_or found [])
-text_found a b bytes used found e f g =
-    ap (λ bs. Text (unwrap_or (text_of (before_zero bs)) [])) (sym e) ∙ ap (λ bs. Text (unwrap_or (text_of bs) [])) (sym f) ∙ ap (λ o. Text (unwrap_or o [])) (sym g)

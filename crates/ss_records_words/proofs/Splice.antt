@@ -3,17 +3,13 @@ use Rattle.std.proofs.Common.{append-nil, ◌≡◌, ℕ, ◌+◌, cond, ◌==�
 use Rattle.ss_world.specs.Lists.{head0, last_or, succ, pred_from, IsInList, IsNotInList, AreAllDistinct}
 use Rattle.ss_records_blocks.proofs.Same.{same, differs, by_same}
 
-pub not_in_left : (y : ℕ) (xs : List ℕ) (x : ℕ) (ys : List ℕ) → IsNotInList y (xs ++ x ∷ ys) → IsNotInList y xs
-not_in_left y [] x ys h = tt
-not_in_left y (z ∷ zs) x ys h = (h.0, not_in_left y zs x ys h.1)
+-- what is not in a list is in no part of it
+not_in_parts : (y : ℕ) (xs : List ℕ) (x : ℕ) (ys : List ℕ) → IsNotInList y (xs ++ x ∷ ys) → IsNotInList y xs × (x ≡ y → ⊥) × IsNotInList y ys
+not_in_parts y [] x ys h = (tt, h.0, h.1)
+not_in_parts y (z ∷ zs) x ys h = let r = not_in_parts y zs x ys h.1 in ((h.0, r.0), r.1, r.2)
 
 pub not_in_mid : (y : ℕ) (xs : List ℕ) (x : ℕ) (ys : List ℕ) → IsNotInList y (xs ++ x ∷ ys) → (x ≡ y → ⊥)
-not_in_mid y [] x ys h = h.0
-not_in_mid y (z ∷ zs) x ys h = not_in_mid y zs x ys h.1
-
-pub not_in_right : (y : ℕ) (xs : List ℕ) (x : ℕ) (ys : List ℕ) → IsNotInList y (xs ++ x ∷ ys) → IsNotInList y ys
-not_in_right y [] x ys h = h.1
-not_in_right y (z ∷ zs) x ys h = not_in_right y zs x ys h.1
+not_in_mid y xs x ys h = (not_in_parts y xs x ys h).1
 
 pub not_last : (y z : ℕ) (zs : List ℕ) → (z ≡ y → ⊥) → IsNotInList y zs → last_or z zs ≡ y → ⊥
 not_last y z [] h n = h
@@ -32,7 +28,7 @@ succ_splice y (z ∷ []) x ys h d = by_same z y
     (λ e q. rw e refl)
 succ_splice y (z ∷ w ∷ ws) x ys h d = by_same z y
     (λ e q. let n = subst (λ v. IsNotInList v (w ∷ ws ++ x ∷ ys)) q d.0 in
-    rw (e, differs x y (not_in_mid y (w ∷ ws) x ys n), differs (last_or w ws) y (not_last y w ws n.0 (not_in_left y ws x ys n.1))) refl)
+    rw (e, differs x y (not_in_mid y (w ∷ ws) x ys n), differs (last_or w ws) y (not_last y w ws n.0 (not_in_parts y ws x ys n.1).0)) refl)
     (λ e q. rw e (succ_splice y (w ∷ ws) x ys h d.1))
 
 pub pred_splice : (p y : ℕ) (xs : List ℕ) (x : ℕ) (ys : List ℕ) → (0 ≡ y → ⊥) → AreAllDistinct (xs ++ x ∷ ys)
@@ -41,7 +37,7 @@ pred_splice p y [] x [] h d = rw (differs 0 y h) refl
 pred_splice p y [] x (w ∷ ws) h d = by_same w y (λ e q. rw e refl) (λ e q. rw e refl)
 pred_splice p y (z ∷ zs) x ys h d = by_same z y
     (λ e q. let n = subst (λ v. IsNotInList v (zs ++ x ∷ ys)) q d.0 in
-    rw (e, differs x y (not_in_mid y zs x ys n), differs (head0 ys) y (not_head y ys h (not_in_right y zs x ys n))) refl)
+    rw (e, differs x y (not_in_mid y zs x ys n), differs (head0 ys) y (not_head y ys h (not_in_parts y zs x ys n).2)) refl)
     (λ e q. rw e (pred_splice z y zs x ys h d.1))
 
 pub in_left : (y : ℕ) (xs : List ℕ) (x : ℕ) (ys : List ℕ) → IsInList y (xs ++ ys) → IsInList y (xs ++ x ∷ ys)

@@ -3,7 +3,7 @@ use Rattle.std.proofs.Common.{◌≡◌, ℕ, zero, suc, ◌+◌, Bool, false, L
 use Rattle.std.specs.Prelude.{is_some, not, nat_eq}
 use denote.RawPtr.{Ptr}
 use Rattle.ss_records_words.proofs.Common.{ArePartsKept, BlockPlace, by_same, Class, class_at_place, count_before, count_sets, differs, Directory, entity_at, has_members, is_filed, IsEntityOf, IsListedAt, Layout, listing, MayOwn, member_base, Members, members_of, owner_at, owner_base, place_in_record, plain, SetLayout}
-use Rattle.ss_records_blocks.specs.Cells.{Word, number, counter, link, Cells, IsLink, IsCounter, word_at}
+use Rattle.ss_records_blocks.specs.Cells.{number, counter, link, Cells, IsCounter, word_at}
 use Rattle.ss_records_words.proofs.Listing.{lists_place}
 use Rattle.ss_records_words.proofs.Disjoint.{is_of}
 use Rattle.ss_records_words.proofs.Filed.{Next, next_of}
@@ -15,16 +15,10 @@ count_taken p (t ∷ ts) zero = refl
 count_taken p (t ∷ ts) (suc s) = omega (arith, count_taken p ts s)
 
 link_to : {p q : Ptr} → link p ≡ link q → p ≡ q
-link_to {p} {q} e = ap (λ w. pointed w) e where
-  pointed : Word → Ptr
-  pointed (link r) = r
-  pointed w = p
+link_to e = cc
 
 counter_is : {m n : ℕ} → counter m ≡ counter n → m ≡ n
-counter_is {m} {n} e = ap (λ w. counted w) e where
-  counted : Word → ℕ
-  counted (counter k) = k
-  counted w = 0
+counter_is e = cc
 
 module _ (l : Layout) (cs : Cells) (sys : Ptr) (d : Directory) (ms : List Members) (K : ArePartsKept l cs sys d ms) (s : ℕ) (t : SetLayout) (g : slice_get l.sets s ≡ Some t) (i : ℕ) (p : BlockPlace) (e : IsListedAt d i p) where
   abbrev at : ℕ → Ptr
@@ -45,9 +39,6 @@ module _ (l : Layout) (cs : Cells) (sys : Ptr) (d : Directory) (ms : List Member
 
     pub next_word : word_at cs p.at (member_base l s t) ≡ link (at its_next.to)
     next_word = (λ z. word_at cs (sym here z) (member_base l s t)) ∙ its_next.word
-
-    pub may_next : IsLink (word_at cs p.at (member_base l s t))
-    may_next = subst IsLink (sym next_word) tt
 
     pub next_number : (q : Ptr) → word_at cs p.at (member_base l s t) ≡ link q → word_at cs q 1 ≡ number its_next.to
     next_number q w = let k : q ≡ at its_next.to = link_to (sym w ∙ next_word) in (λ z. word_at cs (k z) 1) ∙ its_next.there

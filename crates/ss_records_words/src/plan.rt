@@ -6,7 +6,7 @@ ghost use Rattle.ss_records_words.specs.Shape.{values_end, links_start, owned_st
 ghost use Rattle.ss_records_words.specs.Kept.{IsSmall};
 ghost use Rattle.ss_records_words.specs.Slotted.{member_base, owner_base};
 ghost use Rattle.ss_world.specs.Sets.{member_class, owner_kind};
-ghost use Rattle.ss_records_words.specs.Plans.{AreExtents, AreBases, is_permanent_kind, is_system};
+ghost use Rattle.ss_records_words.specs.Plans.{AreExtents, AreBases, extent_of, bases_of, is_permanent_kind, is_system};
 
 use crate::shape::{self, VALUES};
 use ss_base::{ClassKind, Layout, Mode, Owner};
@@ -128,7 +128,7 @@ impl LayoutPlan {
         ensures at { result ≡ links_start self.now class }
         ensures bound { result ≤ 2097155 }
     {
-        self.classes[class].links
+        self.extent(class).links
     }
 
     /// Where the words of the sets that a class owns begin.
@@ -139,7 +139,7 @@ impl LayoutPlan {
     {
         match owner {
             Owner::System => VALUES,
-            Owner::Class(class) => self.classes[class].owned,
+            Owner::Class(class) => self.extent(class).owned,
         }
     }
 
@@ -150,8 +150,8 @@ impl LayoutPlan {
         ensures bound { result ≤ 1048576 }
     {
         match owner {
-            Owner::System => self.system_sets,
-            Owner::Class(class) => self.classes[class].sets,
+            Owner::System => self.system_sets(),
+            Owner::Class(class) => self.extent(class).sets,
         }
     }
 
@@ -162,7 +162,7 @@ impl LayoutPlan {
         ensures value { result ≡ count_sets (joins class) self.now.sets }
         ensures bound { result ≤ 1048576 }
     {
-        self.classes[class].joined
+        self.extent(class).joined
     }
 
     /// How many words a block of a class has.
@@ -172,8 +172,8 @@ impl LayoutPlan {
         ensures bound { (2 ≤ result) × (result < 2 ^ 32) }
     {
         match owner {
-            Owner::System => VALUES + 3 * self.system_sets,
-            Owner::Class(class) => self.classes[class].words,
+            Owner::System => VALUES + 3 * self.system_sets(),
+            Owner::Class(class) => self.extent(class).words,
         }
     }
 
@@ -183,7 +183,7 @@ impl LayoutPlan {
         ensures at { (t : SetLayout) → slice_get self.now.sets s ≡ Some t → result ≡ member_base self.now s t }
         ensures bound { result ≤ 5242883 }
     {
-        self.sets[s].member
+        self.bases(s).member
     }
 
     /// Where the words of a set are in an owner.
@@ -192,7 +192,7 @@ impl LayoutPlan {
         ensures at { (t : SetLayout) → slice_get self.now.sets s ≡ Some t → result ≡ owner_base self.now s t }
         ensures bound { result ≤ 8388614 }
     {
-        self.sets[s].owner
+        self.bases(s).owner
     }
 
     /// The class of the members of a set.
@@ -201,7 +201,7 @@ impl LayoutPlan {
         ensures is { (t : SetLayout) → slice_get self.now.sets s ≡ Some t → result ≡ t.member }
         ensures class { result < length self.now.classes }
     {
-        self.sets[s].class
+        self.bases(s).class
     }
 
     /// Whether the class of the members of a set is permanent.
@@ -210,7 +210,7 @@ impl LayoutPlan {
         requires { s < length self.now.sets }
         ensures { result ≡ is_permanent_kind (kind_of self.now (member_class self.now s)) }
     {
-        self.sets[s].permanent
+        self.bases(s).permanent
     }
 
     /// Whether a set is one of the system.
@@ -219,7 +219,7 @@ impl LayoutPlan {
         requires { s < length self.now.sets }
         ensures { result ≡ is_system (owner_kind self.now s) }
     {
-        self.sets[s].system
+        self.bases(s).system
     }
 
     /// The owner of a set.
@@ -240,6 +240,36 @@ impl LayoutPlan {
             Owner::System => false,
             Owner::Class(owner) => owner == class,
         }
+    }
+
+    // How many sets the system has.
+    #[inline(always)]
+    #[tactic(auto, using(crate::proofs::Planning::few_sets))]
+    fn system_sets(&self) -> usize
+        ensures value { result ≡ count_sets (owned_by Owner.System) self.now.sets }
+        ensures bound { result ≤ 1048576 }
+    {
+        self.system_sets
+    }
+
+    // The places of the words of a class.
+    #[inline(always)]
+    fn extent(&self, class: usize) -> &Extent
+        requires { class < length self.now.classes }
+        ensures is { result.now ≡ extent_of self.now class }
+        ensures bound { (result.now.links ≤ 2097155) × (result.now.owned ≤ 5242883) × (result.now.joined ≤ 1048576) × (result.now.sets ≤ 1048576) × (2 ≤ result.now.words) × (result.now.words < 2 ^ 32) }
+    {
+        &self.classes[class]
+    }
+
+    // The places of the words of a set.
+    #[inline(always)]
+    fn bases(&self, s: usize) -> &Bases
+        requires { s < length self.now.sets }
+        ensures is { (t : SetLayout) → slice_get self.now.sets s ≡ Some t → result.now ≡ bases_of self.now s t }
+        ensures says { (result.now.member ≤ 5242883) × (result.now.owner ≤ 8388614) × (result.now.class < length self.now.classes) × (result.now.permanent ≡ is_permanent_kind (kind_of self.now (member_class self.now s))) × (result.now.system ≡ is_system (owner_kind self.now s)) }
+    {
+        &self.sets[s]
     }
 }
 

@@ -132,6 +132,7 @@ fn owned(sets: &[SetLayout], owner: Owner) -> usize
 }
 
 /// Where the words of a set are in a member.
+#[tactic(auto, using(crate::proofs::Tied::count_taken))]
 pub fn member_base(layout: &Layout, s: usize) -> usize
     requires small { IsSmall layout.now }
     requires set { s < length layout.now.sets }
@@ -143,6 +144,7 @@ pub fn member_base(layout: &Layout, s: usize) -> usize
 }
 
 /// Where the words of a set are in an owner.
+#[tactic(auto, using(crate::proofs::Tied::count_taken))]
 pub fn owner_base(layout: &Layout, s: usize) -> usize
     requires small { IsSmall layout.now }
     requires set { s < length layout.now.sets }

@@ -2,9 +2,10 @@ use Rattle.std.proofs.Common.{◌≡◌, ◌+◌, length, slice_get, slice_set, 
 use Rattle.std.specs.Ordering.{nat_cmp}
 use Rattle.std.specs.BTreeMap.{is_at}
 use Rattle.std.specs.Map.{set_value}
+use Rattle.std.proofs.lemmas.Option.{none-some}
 use Rattle.ss_records_blocks.specs.Pages.{Page, Pages, Spots, AreRising, under, page_of, pages_held}
 use Rattle.ss_records_blocks.proofs.Rising.{read_is, rises_written}
-use Rattle.ss_records_blocks.proofs.Holding.{page_in, no_page, none_is, page_written, written_updates, written_count}
+use Rattle.ss_records_blocks.proofs.Holding.{page_in, no_page, page_written, written_updates, written_count}
 use Rattle.ss_records_blocks.proofs.pages.PageMap.clear.Goals as goal
 
 pub clear_in-requires : goal.clear_in-requires
@@ -46,6 +47,6 @@ returns-in-Some-clause-empty c page was = c.clear_in.ensures.empty page (ap (λ 
 pub returns-in-None : goal.returns-in-None
 returns-in-None c =
     record {
-      cleared = λ page was. absurd (none_is page (sym (no_page c.self.inside.spots.items c.self.invariant.0 c.args.number (ap (λ (x : Spots). under x c.args.number) (sym c.deref.ensures.value) ∙ c.in-None.ensures)) ∙ ap (λ (ps : Pages). page_of ps c.args.number) c.self.view_is ∙ was));
-      empty = λ page was. absurd (none_is page (sym (no_page c.self.inside.spots.items c.self.invariant.0 c.args.number (ap (λ (x : Spots). under x c.args.number) (sym c.deref.ensures.value) ∙ c.in-None.ensures)) ∙ ap (λ (ps : Pages). page_of ps c.args.number) c.self.view_is ∙ was));
+      cleared = λ page was. absurd (none-some page (sym (no_page c.self.inside.spots.items c.self.invariant.0 c.args.number (ap (λ (x : Spots). under x c.args.number) (sym c.deref.ensures.value) ∙ c.in-None.ensures)) ∙ ap (λ (ps : Pages). page_of ps c.args.number) c.self.view_is ∙ was));
+      empty = λ page was. absurd (none-some page (sym (no_page c.self.inside.spots.items c.self.invariant.0 c.args.number (ap (λ (x : Spots). under x c.args.number) (sym c.deref.ensures.value) ∙ c.in-None.ensures)) ∙ ap (λ (ps : Pages). page_of ps c.args.number) c.self.view_is ∙ was));
     }
