@@ -1,7 +1,7 @@
 -- An entry that goes out of its place, where the next of its line comes, or the last head.
 use Rattle.std.proofs.Common.{◌≡◌, ◌<◌, ◌≤◌, [], ◌∷◌, ◌++◌, ℕ, ℤ, zero, suc, ap, get_or, set, length, List, IsPermutation, sym, subst, ⊎_elim, arith}
 use Rattle.ss_events.proofs.Common.{comes_before, Entry, IsHeap, IsHeapBut, IsPermutation-append_left, IsPermutation-append_right, IsPermutation-cons, IsPermutation-middle, IsPermutation-trans}
-use Rattle.ss_events_entries.specs.HeapEntries.{HeadsAndFollowers, HasAdvanced, HasRemovedEntry}
+use Rattle.ss_events_entries.specs.HeapEntries.{HeadsAndFollowers, HasAdvanced, HasRemovedEntry, HasLostFollower}
 use Rattle.ss_events_entries.proofs.HeadsAndFollowers.{swap_two}
 use Rattle.ss_events.proofs.Sifts.{taken_long, taken_all, taken_last, taken_but, followed_long, followed_heap}
 
@@ -47,3 +47,9 @@ module _ (old new : HeadsAndFollowers) (at : ℕ) (event : ℤ × ℤ) (within :
       IsPermutation-trans (old.heads ++ old.followers) (a.next ∷ (old.heads ++ gs)) (r.entry ∷ (new.heads ++ gs)) front
       (IsPermutation-append_left gs (a.next ∷ old.heads) (r.entry ∷ new.heads) heads))
       r.rest
+
+-- a follower that went out
+pub lost_all : (old new : HeadsAndFollowers) (notice : ℤ) (l : HasLostFollower old new notice) → IsPermutation (old.heads ++ old.followers) (l.entry ∷ (new.heads ++ new.followers))
+lost_all old new notice l = subst (λ hs. IsPermutation (old.heads ++ old.followers) (l.entry ∷ (hs ++ new.followers))) (sym l.heads)
+    (IsPermutation-trans (old.heads ++ old.followers) (old.heads ++ l.entry ∷ new.followers) (l.entry ∷ (old.heads ++ new.followers))
+    (IsPermutation-append_right old.heads old.followers (l.entry ∷ new.followers) l.followers) (IsPermutation-middle old.heads l.entry new.followers))
