@@ -1,16 +1,15 @@
 -- Each step of an entry that rises or sinks in a heap.
-use Rattle.std.proofs.Common.{◌≡◌, ◌≢◌, ◌∙◌, ◌||◌, ℕ, ◌+◌, ◌-◌, ◌*◌, ◌/◌, ◌<◌, ◌≤◌, ◌^◌, Bool, true, false, List, length, get_or, set, swap, refl, sym, ap, subst, ⊎_elim, arith, [], ◌∷◌, ◌++◌, length-append, pow-add}
+use Rattle.std.proofs.Common.{◌≡◌, ◌≢◌, ◌∙◌, ◌||◌, ℕ, ◌+◌, ◌-◌, ◌*◌, ◌/◌, ◌<◌, ◌≤◌, ◌^◌, Bool, true, false, List, length, get_or, swap, refl, sym, ap, subst, ⊎_elim, arith, [], ◌∷◌, ◌++◌, length-append, pow-add}
 use Rattle.ss_events.proofs.Common.{all_of, but_one, cases_lt, comes_before, entries_rank, Entry, HeadsAndFollowers, heap_lines, HeapEntries, int_eq, IsPermutation, notices_of, scheduling_limit, Work}
-use Rattle.std.specs.List.{swap_remove, list_any}
-use Rattle.std.proofs.lemmas.List.Sorted.{IsPermutation-append_left, IsPermutation-sym, IsPermutation-to_front, IsPermutation-swap_remove, IsPermutation-swap, IsPermutation-trans, length_permutation}
-use Rattle.std.proofs.lemmas.List.{length-set}
+use Rattle.std.specs.List.{list_any}
+use Rattle.std.proofs.lemmas.List.Sorted.{IsPermutation-append_left, IsPermutation-sym, IsPermutation-to_front, IsPermutation-swap, IsPermutation-trans, length_permutation}
 use Rattle.std.proofs.lemmas.List.Edits.{length-swap}
 use Rattle.ss_events_entries.specs.HeapOrder.{IsChild, IsHeap, IsUnderParent, IsOverChildren, IsHeapBut, IsFirstChild}
 use Rattle.ss_events.specs.Sifting.{height, HasRisen, HasRaised, HasLowered, HasMended, HasClimbed, IsLogarithmic, IsTried, HasGoneIn, HasStayedOut, IsInsertion}
 use Rattle.ss_events_entries.specs.Digits.{binary_digits}
 use Rattle.std.specs.Int.Digits.{digits_of}
 use Rattle.std.proofs.lemmas.Int.Digits.{number_lt, number_digits_of, all_below_base_digits_of, length-digits_of-le, length-digits_of_step}
-use Rattle.ss_events_entries.proofs.Heaps.{up_but, up_over, down_but, down_under, leaf, closes, pushed as one_more, followed_but, removed_but, removed_last, long-swap_remove}
+use Rattle.ss_events_entries.proofs.Heaps.{up_but, up_over, down_but, down_under, leaf, closes, pushed as one_more}
 
 -- ---- heights
 
@@ -256,28 +255,6 @@ module _ (e : Entry) (mid put new : HeapEntries) (from to : ℕ) (pushed : put �
         compared = λ some. omega (arith, compared (omega arith));
         before = cost.before ∙ ap (λ h. h.before) pushed;
       }
-
--- an entry that was taken out of a heap, where the last entry took its place
-module _ (old mid : List Entry) (at : ℕ) (entry : Entry) (within : at < length old) (is : entry ≡ get_or old at entry) (rest : mid ≡ swap_remove old at entry) where
-  pub taken_long : length mid + 1 ≡ length old
-  taken_long = omega (arith, ap length rest, long-swap_remove comes_before old at entry within)
-
-  pub taken_all : IsPermutation old (entry ∷ mid)
-  taken_all = subst (λ es. IsPermutation old (entry ∷ es)) (sym rest) (IsPermutation-swap_remove old at entry within is)
-
-  pub taken_last : length mid ≤ at → IsHeap comes_before old → IsHeap comes_before mid
-  taken_last le h = subst (IsHeap comes_before) (sym rest) (removed_last comes_before old at entry within (omega (arith, taken_long)) h)
-
-  pub taken_but : IsHeap comes_before old → IsHeapBut comes_before mid at
-  taken_but h = subst (λ es. IsHeapBut comes_before es at) (sym rest) (removed_but comes_before old at entry within entries_rank h)
-
--- taking out an entry whose place the next of its line took
-module _ (old mid : List Entry) (at : ℕ) (next : Entry) (within : at < length old) (rest : mid ≡ set old at next) where
-  pub followed_long : length mid ≡ length old
-  followed_long = ap length rest ∙ length-set old at next
-
-  pub followed_heap : IsHeap comes_before old → IsHeapBut comes_before mid at
-  followed_heap h = subst (λ es. IsHeapBut comes_before es at) (sym rest) (followed_but comes_before old at next within entries_rank h)
 
 -- the work of taking one of so many out
 pub take_work : (old new : HeapEntries) (held : ℕ) → old.comparisons ≡ 0 → old.moves ≤ 2 → length old.entries ≤ held → HasClimbed 4 1 (height (length old.entries - 1)) old new → IsLogarithmic held new
