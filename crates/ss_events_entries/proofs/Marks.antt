@@ -20,19 +20,12 @@ in-not_plain m n w h = ap (λ b. cond b (record { key = w.key; number = w.number
 pub in-plain : (m : Mark) (n : ℤ) (w : Entry) → m.order ≢ not_plain → entry_in m n w ≡ plain_entry m n
 in-plain m n w h = ap (λ b. cond b (record { key = w.key; number = w.number; notice = n }) (plain_entry m n)) (ne_eqb m.order not_plain h)
 
--- what the mark of a plain entry holds
-rank_back : (o r n : ℕ) → o ≡ r * plain_numbers + n → n < plain_numbers → o / plain_numbers ≡ r
-rank_back o r n is lt = omega (arith, is, lt)
-
-number_back : (o r n : ℕ) → o ≡ r * plain_numbers + n → n < plain_numbers → o % plain_numbers ≡ n
-number_back o r n is lt = omega (arith, is, lt)
-
 pub plain_again : (e : Entry) (n : ℤ) → (order_of e ≡ not_plain → ⊥) → plain_entry (mark_of e) n ≡ record { key = e.key; number = e.number; notice = n }
 plain_again e n h =
     let it = plain_parts e h in
     let ties = sym (untied e.key.ties it.0) in
-    let rank = rank_back (order_of e) e.key.rank e.number it.3 it.2 in
-    let number = number_back (order_of e) e.key.rank e.number it.3 it.2 in
+    let rank : order_of e / plain_numbers ≡ e.key.rank = omega (arith, it.2, it.3) in
+    let number : order_of e % plain_numbers ≡ e.number = omega (arith, it.2, it.3) in
     λ i. record { key = record { time = e.key.time; rank = rank i; ties = ties i }; number = number i; notice = n }
 
 pub plain_small : (e : Entry) → (order_of e ≡ not_plain → ⊥) → order_of e < plain_ranks * plain_numbers
