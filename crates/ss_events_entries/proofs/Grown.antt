@@ -179,7 +179,8 @@ some_more count free n slots xs wholes nodes ts d h a e g more =
     subst (λ (p : ℕ × List Slot × List HeapNode). HasSome count p.0 slots p.1 wholes wholes nodes p.2 d) (λ i. (sym a i, sym e i, sym g i)) (now (free == 0) refl)
   where
     now : (b : Bool) → (free == 0) ≡ b
-        → HasSome count (cond b 1 free) slots (cond b (slots ++ record blank_slot { at = count } ∷ []) slots) wholes wholes nodes (cond b (set (nodes ++ no_node ∷ []) count (record no_node { slot = length slots })) nodes) d
+        → HasSome count (cond b 1 free) slots (cond b (slots ++ record blank_slot { at = count } ∷ []) slots) wholes wholes nodes
+        (cond b (set (nodes ++ no_node ∷ []) count (record no_node { slot = length slots })) nodes) d
     now true t =
         let none = eqb-true free 0 t in
         record {

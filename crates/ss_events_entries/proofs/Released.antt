@@ -30,7 +30,8 @@ module _ (count free : ℕ) (slots : List Slot) (wholes : List Entry) (nodes : L
       let long : length placed ≡ total = length-map (take total nodes) (λ (t : HeapNode). t.slot) ∙ length-take-le total nodes h.few in
       let read : (k c : ℕ) → k < length placed → (get_or placed k c < length slots) × ((slot_at slots (get_or placed k c)).at ≡ k)
       = (λ k c k_in.
-      let is = get_or-map (λ (t : HeapNode). t.slot) (take total nodes) k no_node c (omega (arith, k_in, long, length-take-le total nodes h.few)) ∙ ap (λ (t : HeapNode). t.slot) (get_or-take total nodes k no_node (omega (arith, k_in, long))) in
+      let is = get_or-map (λ (t : HeapNode). t.slot) (take total nodes) k no_node c (omega (arith, k_in, long, length-take-le total nodes h.few))
+      ∙ ap (λ (t : HeapNode). t.slot) (get_or-take total nodes k no_node (omega (arith, k_in, long))) in
       let there = h.there k (omega (arith, k_in, long)) in (omega (arith, is, there.0), ap (λ t. (slot_at slots t).at) is ∙ there.1)) in
       let apart : (k c : ℕ) → k < length placed → s ≢ get_or placed k c
       = (λ k c k_in e. omega (arith, long, k_in, (read k c k_in).1, ap (λ t. (slot_at slots t).at) e, s_follows, h.few, h.many, h.small)) in
