@@ -106,11 +106,13 @@ module _ (h : HeapEntries) (count : ℕ) (a : IsAgenda h.entries (all_of h) coun
 
     numbers_after : IsDistinct nat_eq (numbers_of (its ∷ all_of h))
     numbers_after = IsDistinct-cons nat_eq count (numbers_of (all_of h))
-        (recursion_from_All (λ m. nat_eq count m ≡ false) (numbers_of (all_of h)) (All-map (λ m. nat_eq count m ≡ false) (λ x. x.number) (all_of h) (λ k d within. let lt = a.numbered k d within in grind (arith, nat_tests)))) a.numbers
+        (recursion_from_All (λ m. nat_eq count m ≡ false) (numbers_of (all_of h))
+        (All-map (λ m. nat_eq count m ≡ false) (λ x. x.number) (all_of h) (λ k d within. let lt = a.numbered k d within in grind (arith, nat_tests)))) a.numbers
 
     notices_after : IsDistinct int_eq (notices_of (its ∷ all_of h))
     notices_after = IsDistinct-cons int_eq notice (notices_of (all_of h))
-        (none_any (int_eq notice) (notices_of (all_of h)) (ap (list_any (int_eq notice)) (map-append (λ (e : Entry). e.notice) h.entries h.followers) ∙ list_any-append (int_eq notice) (notices_of h.entries) (notices_of h.followers) ∙ g.apart)) a.notices
+        (none_any (int_eq notice) (notices_of (all_of h)) (ap (list_any (int_eq notice)) (map-append (λ (e : Entry). e.notice) h.entries h.followers)
+        ∙ list_any-append (int_eq notice) (notices_of h.entries) (notices_of h.followers) ∙ g.apart)) a.notices
 
     pub agenda-inserted : IsAgenda new.entries (all_of new) (count + 1)
     agenda-inserted = record {

@@ -43,7 +43,8 @@ height_few at small = length-digits_of-le 2 66 (3 * at + 1) (omega arith) (omega
 
 -- the place after so many others
 height_digits : (at : ℕ) → height at ≤ binary_digits at + 2
-height_digits at = length-digits_of-le 2 (binary_digits at + 2) (3 * at + 1) (omega arith) (let more : 2 ^ (binary_digits at + 2) ≡ 2 ^ binary_digits at * 2 ^ 2 = pow-add 2 (binary_digits at) 2 in omega (arith, below_power at))
+height_digits at = length-digits_of-le 2 (binary_digits at + 2) (3 * at + 1) (omega arith)
+    (let more : 2 ^ (binary_digits at + 2) ≡ 2 ^ binary_digits at * 2 ^ 2 = pow-add 2 (binary_digits at) 2 in omega (arith, below_power at))
 
 -- ---- rising
 
@@ -91,7 +92,8 @@ pub under_parent : (es : List Entry) (at : ℕ) → ((d : Entry) → comes_befor
 under_parent es at f = record { order = λ p child d. let e : p ≡ (at - 1) / 4 = omega (arith, child.from, child.to) in subst (λ q. comes_before (get_or es at d) (get_or es q d) ≡ false) (sym e) (f d) }
 
 -- the two were compared, and it goes on
-pub outranks : (old was new : HeapEntries) (from at : ℕ) → HasRisen old.entries was.entries from at → 0 < at → 0 < old.comparisons → old.comparisons ≤ was.comparisons → HasClimbed 1 (height at) (height from) (but_one old) was
+pub outranks : (old was new : HeapEntries) (from at : ℕ) → HasRisen old.entries was.entries from at → 0 < at
+    → 0 < old.comparisons → old.comparisons ≤ was.comparisons → HasClimbed 1 (height at) (height from) (but_one old) was
     → ((d : Entry) → comes_before (get_or was.entries at d) (get_or was.entries ((at - 1) / 4) d) ≡ true) → new ≡ record was { comparisons = was.comparisons + 1 } → Outranking old new from at ((at - 1) / 4)
 outranks old was new from at r some one compared c t is = subst (λ h. Outranking old h from at ((at - 1) / 4)) (sym is)
     record {
@@ -161,7 +163,8 @@ lowered old was new from at r over entries = subst (λ es. HasLowered old.entrie
     record { permutation = r.permutation; heap = λ h under. closes comes_before was.entries at (r.but h under).0 (r.but h under).1 over }
 
 -- after the last comparisons, which are four at most where the place has a child
-pub lowered_cost : (old was new : HeapEntries) (from at to : ℕ) → Sinking old was from at → height to ≤ height (length old.entries - 1) → 2 * new.comparisons + 4 * height at ≤ 2 * was.comparisons + 4 * height to → height at ≤ height to
+pub lowered_cost : (old was new : HeapEntries) (from at to : ℕ) → Sinking old was from at → height to ≤ height (length old.entries - 1)
+    → 2 * new.comparisons + 4 * height at ≤ 2 * was.comparisons + 4 * height to → height at ≤ height to
     → new.moves ≡ was.moves → new.followers ≡ was.followers → new.before ≡ was.before → HasClimbed 4 (height from) (height (length old.entries - 1)) old new
 lowered_cost old was new from at to r within comparisons further moves followers before = record {
   comparisons = omega (arith, r.cost.comparisons);
@@ -184,7 +187,8 @@ cost_up old new at within u =
     let lower = height_mono at (length old.entries - 1) (omega arith) in
     record { comparisons = omega (arith, u.comparisons, height_some at); moves = omega (arith, u.moves); grows = u.grows; followers = u.followers; before = u.before }
 
-pub cost_down : (old was new : HeapEntries) (at : ℕ) → length was.entries ≡ length old.entries → HasClimbed 1 1 (height at) old was → HasClimbed 4 (height at) (height (length was.entries - 1)) was new → HasClimbed 4 1 (height (length old.entries - 1)) old new
+pub cost_down : (old was new : HeapEntries) (at : ℕ) → length was.entries ≡ length old.entries → HasClimbed 1 1 (height at) old was
+    → HasClimbed 4 (height at) (height (length was.entries - 1)) was new → HasClimbed 4 1 (height (length old.entries - 1)) old new
 cost_down old was new at long u l =
     let same = ap (λ n. height (n - 1)) long in
     record {
@@ -237,10 +241,12 @@ module _ (e : Entry) (mid put new : HeapEntries) (from to : ℕ) (pushed : put �
       let over : IsOverChildren comes_before new.entries to = ⊎_elim (r.over but) (λ le. leaf comes_before new.entries to (omega (arith, r.up))) (cases_lt to (length mid.entries)) in
       closes comes_before new.entries to (r.but but) (raised_last.under but) over
 
-  pub goes_in : IsTried mid → IsHeap comes_before mid.entries → (list_any (int_eq e.notice) (notices_of mid.entries) || list_any (int_eq e.notice) (notices_of mid.followers)) ≡ false → e.number ≢ scheduling_limit → HasGoneIn e (heap_lines mid) mid.before new
+  pub goes_in : IsTried mid → IsHeap comes_before mid.entries → (list_any (int_eq e.notice) (notices_of mid.entries) || list_any (int_eq e.notice) (notices_of mid.followers)) ≡ false
+      → e.number ≢ scheduling_limit → HasGoneIn e (heap_lines mid) mid.before new
   goes_in tried ordered apart room =
       let others : new.followers ≡ mid.followers = cost.followers ∙ ap (λ h. h.followers) pushed in
-      let all = IsPermutation-trans (e ∷ mid.entries) (mid.entries ++ e ∷ []) new.entries (IsPermutation-sym (mid.entries ++ e ∷ []) (e ∷ mid.entries) (IsPermutation-to_front mid.entries e)) raised_last.risen.permutation in
+      let all = IsPermutation-trans (e ∷ mid.entries) (mid.entries ++ e ∷ []) new.entries (IsPermutation-sym (mid.entries ++ e ∷ []) (e ∷ mid.entries) (IsPermutation-to_front mid.entries e))
+      raised_last.risen.permutation in
       record {
         order = in_order_again ordered;
         all = subst (λ fs. IsPermutation (e ∷ all_of mid) (new.entries ++ fs)) (sym others) (IsPermutation-append_left mid.followers (e ∷ mid.entries) new.entries all);

@@ -39,7 +39,8 @@ returns c =
     subst (λ (z : ℤ). HasGoneIn (it c.args.key.now z) (heap_lines old) old.before new) (to_z-of_z c.ranges.notice)
     (subst (λ (k : SortKey). HasGoneIn (it k n) (heap_lines old) old.before new) (ap plain same ∙ sym c.in-Some.ensures)
     (retried e (heap_lines old) old.before mid new true s
-    (goes_in e mid c.push_plain.new.self new c.len-place.result c.raise.result (c.push_plain.ensures.done did) (c.len-place.ensures ∙ ap (λ (l : HeadsAndFollowers). length l.heads) (sym s.lines)) c.raise.ensures.raises c.raise.ensures.cost c.raise.ensures.compared s.tried ordered
+    (goes_in e mid c.push_plain.new.self new c.len-place.result c.raise.result (c.push_plain.ensures.done did) (c.len-place.ensures ∙ ap (λ (l : HeadsAndFollowers). length l.heads) (sym s.lines))
+    c.raise.ensures.raises c.raise.ensures.cost c.raise.ensures.compared s.tried ordered
     (or_from (list_any (int_eq n) (notices_of mid.entries)) (list_any (int_eq n) (notices_of mid.followers)) (c.push_plain.ensures.apart did) (c.push_plain.ensures.fresh did))
     room)))
 

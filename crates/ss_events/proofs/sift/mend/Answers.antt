@@ -17,7 +17,8 @@ returns-then-raise-at-clause-mends c = mended_down c.args.heap.now.entries c.rai
 
 pub returns-then-raise-at-clause-cost : goal.returns-then-raise-at-clause-cost
 returns-then-raise-at-clause-cost c =
-    cost_down c.args.heap.now c.raise.new.heap c.lower.new.heap c.args.at (length_permutation c.args.heap.now.entries c.raise.new.heap.entries c.raise.ensures.raises.risen.permutation) c.raise.ensures.cost c.lower.ensures.cost
+    cost_down c.args.heap.now c.raise.new.heap c.lower.new.heap c.args.at (length_permutation c.args.heap.now.entries c.raise.new.heap.entries c.raise.ensures.raises.risen.permutation)
+    c.raise.ensures.cost c.lower.ensures.cost
 
 pub returns-else-raise-at-clause-cost : goal.returns-else-raise-at-clause-cost
 returns-else-raise-at-clause-cost c = cost_up c.args.heap.now c.raise.new.heap c.args.at c.requires.within c.raise.ensures.cost

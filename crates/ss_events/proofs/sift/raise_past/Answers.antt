@@ -35,7 +35,8 @@ returns-then-not-is_before-clause-raises c =
 
 pub returns-then-not-is_before-clause-cost : goal.returns-then-not-is_before-clause-cost
 returns-then-not-is_before-clause-cost c =
-    compared_last (but_one c.args.heap.now) c.swap.new.self c.is_before.new.self c.loop-at.parent (height c.args.at) (omega (arith, c.if-at-eq0.false)) (spent (goal.at.returns-then-not-is_before-clause-cost c).After-swap) c.is_before.ensures.counted
+    compared_last (but_one c.args.heap.now) c.swap.new.self c.is_before.new.self c.loop-at.parent (height c.args.at)
+    (omega (arith, c.if-at-eq0.false)) (spent (goal.at.returns-then-not-is_before-clause-cost c).After-swap) c.is_before.ensures.counted
 
 pub returns-then-not-is_before-clause-compared : goal.returns-then-not-is_before-clause-compared
 returns-then-not-is_before-clause-compared c = omega (arith, c.loop-at.invariant.compared, ap (λ h. h.comparisons) c.swap.ensures, ap (λ h. h.comparisons) c.is_before.ensures.counted)

@@ -20,7 +20,8 @@ invariant_of-self c = agenda-taken c.self.inside.heap c.self.inside.schedulings 
 pub returns-in-Some-clause-ok : goal.returns-in-Some-clause-ok
 returns-in-Some-clause-ok c =
     let i = c.self.inside in let new = c.take_out-event.new.heap in let classes = map (λ shapes. shapes.items) i.classes.items in let entry = c.take_out-event.ensures.taken.entry in
-    let its = subst (λ (z : ℤ). int_eq z entry.notice ≡ true) (to_z-of_z c.ranges.notice) (found-at c.reset_counts.new.self.entries (to_z w64 (of_z w64 c.args.notice)) c.in-Some.at entry c.in-Some.ensures.place c.take_out-event.ensures.taken.there) in
+    let its = subst (λ (z : ℤ). int_eq z entry.notice ≡ true) (to_z-of_z c.ranges.notice)
+    (found-at c.reset_counts.new.self.entries (to_z w64 (of_z w64 c.args.notice)) c.in-Some.at entry c.in-Some.ensures.place c.take_out-event.ensures.taken.there) in
     subst (λ (v : CountedList). cancelled c.args.notice v.list ≡ Ok (listed new i.schedulings classes)) c.self.view_is
     (cancelled-taken i.heap i.schedulings c.self.invariant entry new (all c) c.args.notice its classes)
 
@@ -39,7 +40,8 @@ returns-in-Some-clause-moves c = (work c).moves
 -- ---- a follower left
 
 left : (c : Then-remove_follower) → HasLostFollower (heap_lines c.self.inside.heap) (heap_lines c.remove_follower.new.self) (to_z w64 (of_z w64 c.args.notice))
-left c = subst (λ (h : HeapEntries). HasLostFollower (heap_lines h) (heap_lines c.remove_follower.new.self) (to_z w64 (of_z w64 c.args.notice))) c.reset_counts.ensures (c.remove_follower.ensures.left c.if-remove_follower.true)
+left c = subst (λ (h : HeapEntries). HasLostFollower (heap_lines h) (heap_lines c.remove_follower.new.self) (to_z w64 (of_z w64 c.args.notice)))
+    c.reset_counts.ensures (c.remove_follower.ensures.left c.if-remove_follower.true)
 
 others : (c : Then-remove_follower) → IsPermutation (all_of c.self.inside.heap) ((left c).entry ∷ all_of c.remove_follower.new.self)
 others c = lost_all (heap_lines c.self.inside.heap) (heap_lines c.remove_follower.new.self) (to_z w64 (of_z w64 c.args.notice)) (left c)
@@ -60,7 +62,8 @@ returns-then-remove_follower-clause-ok c =
 pub returns-clause-refused : goal.returns-clause-refused
 returns-clause-refused c =
     let i = c.self.inside in let anew = c.reset_counts.new.self in let z = to_z w64 (of_z w64 c.args.notice) in
-    let none = or_from (list_any (int_eq z) (notices_of anew.entries)) (list_any (int_eq z) (notices_of anew.followers)) (sym c.in_default.ensures.found) (sym c.remove_follower.ensures.found ∙ c.if-remove_follower.false) in
+    let none = or_from (list_any (int_eq z) (notices_of anew.entries)) (list_any (int_eq z) (notices_of anew.followers))
+    (sym c.in_default.ensures.found) (sym c.remove_follower.ensures.found ∙ c.if-remove_follower.false) in
     let free = subst (λ (z : ℤ). is_held z i.heap ≡ false) (to_z-of_z c.ranges.notice) (subst (λ (h : HeapEntries). is_held z h ≡ false) c.reset_counts.ensures none) in
     subst (λ (v : CountedList). cancelled c.args.notice v.list ≡ Err NotScheduled) c.self.view_is
     (cancelled-none c.args.notice (listed i.heap i.schedulings (map (λ shapes. shapes.items) i.classes.items)) (pending-in_order c.args.notice i.heap ∙ free))

@@ -31,7 +31,8 @@ work c cost = subst (λ (v : CountedList). IsLogarithmic (length v.list.entries)
 
 pub invariant_of-self : goal.invariant_of-self
 invariant_of-self c =
-    agenda-inserted c.self.inside.heap c.self.inside.schedulings c.self.invariant c.args.key c.args.notice c.reset_counts.new.self.before c.insert.new.heap (went (goal.at.invariant_of-self c).After-insert c.if-insert.true)
+    agenda-inserted c.self.inside.heap c.self.inside.schedulings c.self.invariant c.args.key c.args.notice c.reset_counts.new.self.before c.insert.new.heap
+    (went (goal.at.invariant_of-self c).After-insert c.if-insert.true)
 
 pub returns-then-insert-clause-ok : goal.returns-then-insert-clause-ok
 returns-then-insert-clause-ok c =
@@ -48,7 +49,8 @@ returns-then-insert-clause-moves c = let a = (goal.at.returns-then-insert-clause
 pub returns-then-insert-clause-compared : goal.returns-then-insert-clause-compared
 returns-then-insert-clause-compared c = λ some.
     let following = subst (λ (h : HeapEntries). AreAfterHeads h.entries h.followers) c.reset_counts.ensures c.are_after_heads.ensures in
-    (went (goal.at.returns-then-insert-clause-compared c).After-insert c.if-insert.true).compared (some_head c.self.inside.heap following (subst (λ (v : CountedList). 0 < length v.list.entries) (sym c.self.view_is) some))
+    (went (goal.at.returns-then-insert-clause-compared c).After-insert c.if-insert.true).compared
+    (some_head c.self.inside.heap following (subst (λ (v : CountedList). 0 < length v.list.entries) (sym c.self.view_is) some))
 
 -- ---- it stayed out
 

@@ -15,7 +15,8 @@ following c = subst (λ (h : HeapEntries). AreAfterHeads h.entries h.followers) 
 pub returns-then-len-eq0-clause-next : goal.returns-then-len-eq0-clause-next
 returns-then-len-eq0-clause-next c =
     subst (λ (v : CountedList). None ≡ least_event v.list) c.self.view_is
-    (sym (ap (λ es. option_map event_of (least es)) (none_left c.self.inside.heap (following (goal.at.returns-then-len-eq0-clause-next c).After-are_after_heads) (omega (arith, ap (λ h. length h.entries) c.reset_counts.ensures)))))
+    (sym (ap (λ es. option_map event_of (least es)) (none_left c.self.inside.heap (following (goal.at.returns-then-len-eq0-clause-next c).After-are_after_heads)
+    (omega (arith, ap (λ h. length h.entries) c.reset_counts.ensures)))))
 
 pub returns-then-len-eq0-clause-rest : goal.returns-then-len-eq0-clause-rest
 returns-then-len-eq0-clause-rest c =
