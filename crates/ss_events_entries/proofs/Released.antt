@@ -36,10 +36,10 @@ module _ (count free : ℕ) (slots : List Slot) (wholes : List Entry) (nodes : L
       let apart : (k c : ℕ) → k < length placed → s ≢ get_or placed k c
       = (λ k c k_in e. omega (arith, long, k_in, (read k c k_in).1, ap (λ t. (slot_at slots t).at) e, s_follows, h.few, h.many, h.small)) in
       let distinct = IsDistinct-cons eqb s placed
-          (recursion_from_All (λ t. eqb s t ≡ false) placed (λ k c k_in. ne_eqb s (get_or placed k c) (apart k c k_in)))
-          (IsDistinct-from_apart eqb placed (λ j k c lt k_in. ne_eqb (get_or placed j c) (get_or placed k c)
-          (λ e. omega (arith, lt, (read j c (omega (arith, lt, k_in))).1, (read k c k_in).1, ap (λ t. (slot_at slots t).at) e)))) in
+      (recursion_from_All (λ t. eqb s t ≡ false) placed (λ k c k_in. ne_eqb s (get_or placed k c) (apart k c k_in)))
+      (IsDistinct-from_apart eqb placed (λ j k c lt k_in. ne_eqb (get_or placed j c) (get_or placed k c)
+      (λ e. omega (arith, lt, (read j c (omega (arith, lt, k_in))).1, (read k c k_in).1, ap (λ t. (slot_at slots t).at) e)))) in
       let within = All-cons (λ t. t < length slots) s placed s_in (λ k c k_in. (read k c k_in).0) in
       let few = length-le_from_distinct_below (s ∷ placed) (length slots) distinct
-          (λ q t. All-contains (λ u. u < length slots) (s ∷ placed) q within (Contains-from_any (λ x y e. eqb-true x y e) q (s ∷ placed) t)) in
+      (λ q t. All-contains (λ u. u < length slots) (s ∷ placed) q within (Contains-from_any (λ x y e. eqb-true x y e) q (s ∷ placed) t)) in
       omega (arith, few, long, h.many)

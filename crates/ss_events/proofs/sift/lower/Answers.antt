@@ -12,8 +12,12 @@ pub is_before-requires-clause-countable : goal.is_before-requires-clause-countab
 is_before-requires-clause-countable c = omega (arith, c.in-Some.ensures.comparisons, sunk_few c.args.heap.now c.loop-child.heap c.args.at c.loop-child.at c.loop-child.invariant c.requires.small)
 
 pub swap-requires-clause-countable : goal.swap-requires-clause-countable
-swap-requires-clause-countable c = omega (arith, ap (λ h. h.moves) c.is_before.ensures.counted, c.in-Some.ensures.moves,
-    sunk_few c.args.heap.now c.loop-child.heap c.args.at c.loop-child.at c.loop-child.invariant c.requires.small)
+swap-requires-clause-countable c = omega (
+  arith,
+  ap (λ h. h.moves) c.is_before.ensures.counted,
+  c.in-Some.ensures.moves,
+  sunk_few c.args.heap.now c.loop-child.heap c.args.at c.loop-child.at c.loop-child.invariant c.requires.small,
+)
 
 pub loop-child-preserved : goal.loop-child-preserved
 loop-child-preserved c =
