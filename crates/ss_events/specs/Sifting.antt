@@ -1,5 +1,5 @@
 -- What it does and costs to let an entry of a heap rise or sink.
-use Rattle.std.specs.Prelude.{◌≡◌, ◌≢◌, ℕ, ◌+◌, ◌*◌, ◌<◌, ◌≤◌, ◌^◌, Bool, true, false, List, ◌∷◌, ◌++◌, length}
+use Rattle.std.specs.Prelude.{◌≡◌, ◌≢◌, ℕ, ◌+◌, ◌*◌, ◌<◌, ◌≤◌, ◌||◌, Bool, true, false, List, ◌∷◌, ◌++◌, length}
 use Rattle.std.specs.Ordering.{int_eq}
 use Rattle.std.specs.List.{list_any}
 use Rattle.std.specs.List.Sorted.{IsPermutation}
@@ -11,51 +11,38 @@ use Rattle.ss_world.specs.Order.{comes_before}
 use Rattle.ss_world.specs.PendingList.{scheduling_limit}
 use Rattle.ss_events_entries.specs.Digits.{binary_digits}
 
--- the entry at `from` rose to the place `to`, under its parent, and if it moved it is over its children
-pub record HasRaised (old new : List Entry) (from to : ℕ) : Type 0 where
+-- how far a place is from the top: the parent of a place is at least two nearer
+abbrev pub height : ℕ → ℕ
+height at = binary_digits (3 * at + 1)
+
+-- the entry at `from` rose to the place `to`, and if it moved it is over its children
+pub record HasRisen (old new : List Entry) (from to : ℕ) : Type 0 where
   pub permutation : IsPermutation old new
   pub within : to < length new
   pub up : to ≤ from
   pub but : IsHeapBut comes_before old from → IsHeapBut comes_before new to
-  pub under : IsHeapBut comes_before old from → IsUnderParent comes_before new to
   pub over : IsHeapBut comes_before old from → to < from → IsOverChildren comes_before new to
 
--- it looked at so many levels, each a quarter as far from the top: a comparison each, and two moves for each that it passed
-pub record HasRaisingCost (old new : HeapEntries) (from to : ℕ) : Type 0 where
-  pub levels : ℕ
-  pub quartered : 4 ^ levels ≤ 3 * from + 1
-  pub comparisons : new.comparisons ≡ old.comparisons + levels
-  pub moves : new.moves ≤ old.moves + 2 * levels
-  pub some : 0 < from → 0 < levels
-  pub grows : old.moves ≤ new.moves
-  pub followers : new.followers ≡ old.followers
-  pub before : new.before ≡ old.before
+-- and it is under its parent
+pub record HasRaised (old new : List Entry) (from to : ℕ) : Type 0 where
+  pub risen : HasRisen old new from to
+  pub under : IsHeapBut comes_before old from → IsUnderParent comes_before new to
 
 -- the entry at `from`, which was under its parent, sank until all were in order
 pub record HasLowered (old new : List Entry) (from : ℕ) : Type 0 where
   pub permutation : IsPermutation old new
   pub heap : IsHeapBut comes_before old from → IsUnderParent comes_before old from → IsHeap comes_before new
 
--- it looked at so many levels, each four times as far from the top: four comparisons and two moves each at most
-pub record HasLoweringCost (old new : HeapEntries) (from : ℕ) : Type 0 where
-  pub levels : ℕ
-  pub quadrupled : (3 * from + 1) * 4 ^ levels ≤ 3 * length old.entries
-  pub comparisons : new.comparisons ≤ old.comparisons + 4 * levels
-  pub moves : new.moves ≤ old.moves + 2 * levels
-  pub followers : new.followers ≡ old.followers
-  pub before : new.before ≡ old.before
-
 -- the entry at `from` was put in order
 pub record HasMended (old new : List Entry) (from : ℕ) : Type 0 where
   pub permutation : IsPermutation old new
   pub heap : IsHeapBut comes_before old from → IsHeap comes_before new
 
--- it looked at so many levels, upwards and downwards: four comparisons and two moves each at most
-pub record HasMendingCost (old new : HeapEntries) : Type 0 where
-  pub levels : ℕ
-  pub fits : 4 ^ levels ≤ 3 * length old.entries
-  pub comparisons : new.comparisons ≤ old.comparisons + 4 * levels
-  pub moves : new.moves ≤ old.moves + 2 * levels
+-- what it cost to come from the one height to the other: for each two at most so many comparisons, and two moves
+pub record HasClimbed (each low high : ℕ) (old new : HeapEntries) : Type 0 where
+  pub comparisons : 2 * new.comparisons + each * low ≤ 2 * old.comparisons + each * high
+  pub moves : new.moves + low ≤ old.moves + high
+  pub grows : old.moves ≤ new.moves
   pub followers : new.followers ≡ old.followers
   pub before : new.before ≡ old.before
 
@@ -74,7 +61,7 @@ pub record IsTried (h : HeapEntries) : Type 0 where
 pub record HasGoneIn (e : Entry) (old : HeadsAndFollowers) (work : Work) (new : HeapEntries) : Type 0 where
   pub order : IsHeap comes_before new.entries
   pub all : IsPermutation (e ∷ (old.heads ++ old.followers)) (all_of new)
-  pub apart : list_any (int_eq e.notice) (notices_of (old.heads ++ old.followers)) ≡ false
+  pub apart : (list_any (int_eq e.notice) (notices_of old.heads) || list_any (int_eq e.notice) (notices_of old.followers)) ≡ false
   pub room : e.number ≢ scheduling_limit
   pub cost : IsLogarithmic (length old.heads) new
   pub moved : 0 < new.moves

@@ -4,7 +4,7 @@ ghost use Rattle.ss_events_entries.specs.declared.entry.Entry.{Entry};
 ghost use Rattle.ss_events_entries.specs.HeapEntries.{heap_lines, but_one, HasTakenOut};
 ghost use Rattle.ss_events_entries.specs.HeapOrder.{IsHeap};
 ghost use Rattle.ss_world.specs.Order.{comes_before};
-ghost use Rattle.ss_events.specs.Sifting.{HasRaised, HasRaisingCost, HasLowered, HasLoweringCost, HasMended, HasMendingCost, IsLogarithmic, IsTried, IsInsertion};
+ghost use Rattle.ss_events.specs.Sifting.{height, HasRaised, HasLowered, HasMended, HasClimbed, IsLogarithmic, IsTried, IsInsertion};
 
 use crate::children::first_child;
 use crate::pending::MOST_SCHEDULINGS;
@@ -99,7 +99,7 @@ fn mend(heap: &mut EntryHeap, at: usize)
     requires comparisons { heap.old.comparisons ≤ 1 }
     requires moves { heap.old.moves ≤ 2 }
     ensures mends { HasMended heap.old.entries heap.new.entries at }
-    ensures cost { HasMendingCost heap.old heap.new }
+    ensures cost { HasClimbed 4 1 (height (length heap.old.entries - 1)) heap.old heap.new }
 {
     if raise(heap, at) == at {
         lower(heap, at);
@@ -113,7 +113,8 @@ fn raise(heap: &mut EntryHeap, at: usize) -> usize
     requires comparisons { heap.old.comparisons < 2 ^ 32 }
     requires moves { heap.old.moves < 2 ^ 32 }
     ensures raises { HasRaised heap.old.entries heap.new.entries at result }
-    ensures cost { HasRaisingCost heap.old heap.new at result }
+    ensures cost { HasClimbed 1 1 (height at) heap.old heap.new }
+    ensures compared { 0 < at → heap.old.comparisons < heap.new.comparisons }
 {
     if at == 0 {
         return at;
@@ -136,7 +137,8 @@ fn raise_past(heap: &mut EntryHeap, mut at: usize, mut parent: usize) -> usize
     requires comparisons { heap.old.comparisons ≤ 2 ^ 32 }
     requires moves { heap.old.moves < 2 ^ 32 }
     ensures raises { HasRaised heap.old.entries heap.new.entries at result }
-    ensures cost { HasRaisingCost (but_one heap.old) heap.new at result }
+    ensures cost { HasClimbed 1 1 (height at) (but_one heap.old) heap.new }
+    ensures compared { heap.old.comparisons ≤ heap.new.comparisons }
 {
     loop {
         heap.swap(at, parent);
@@ -158,7 +160,7 @@ fn lower(heap: &mut EntryHeap, mut at: usize)
     requires comparisons { heap.old.comparisons < 2 ^ 32 }
     requires moves { heap.old.moves < 2 ^ 32 }
     ensures lowers { HasLowered heap.old.entries heap.new.entries at }
-    ensures cost { HasLoweringCost heap.old heap.new at }
+    ensures cost { HasClimbed 4 (height at) (height (length heap.old.entries - 1)) heap.old heap.new }
 {
     loop {
         let Some(child) = first_child(heap, at) else {

@@ -21,11 +21,7 @@ pub record Gone (old : HeadsAndFollowers) (k : ℕ) (e : Entry) (n f : ℕ) (ys 
 pub gone_like : (old : HeadsAndFollowers) (k : ℕ) (e : Entry) (n m f l : ℕ) (ys xs : List Slot) (vs ws : List Entry) (us ss : List HeapNode) (g : SlotDirectory)
     → n ≡ m → f ≡ l → ys ≡ xs → vs ≡ ws → us ≡ ss → Gone old k e m l xs ws ss g → Gone old k e n f ys vs us g
 gone_like old k e n m f l ys xs vs ws us ss g n_is f_is ys_is vs_is us_is gone =
-    subst (λ a. Gone old k e a f ys vs us g) (sym n_is)
-    (subst (λ a. Gone old k e m a ys vs us g) (sym f_is)
-    (subst (λ a. Gone old k e m l a vs us g) (sym ys_is)
-    (subst (λ a. Gone old k e m l xs a us g) (sym vs_is)
-    (subst (λ a. Gone old k e m l xs ws a g) (sym us_is) gone))))
+    subst (λ (p : ℕ × ℕ × List Slot × List Entry × List HeapNode). Gone old k e p.0 p.1 p.2 p.3 p.4 g) (λ i. (sym n_is i, sym f_is i, sym ys_is i, sym vs_is i, sym us_is i)) gone
 
 module _ (count free : ℕ) (slots : List Slot) (wholes : List Entry) (nodes : List HeapNode) (d : SlotDirectory) (h : AreHeld count free slots wholes nodes d) (k : ℕ) (k_in : k < count) where
   abbrev pub seen : HeadsAndFollowers

@@ -1,9 +1,9 @@
 -- One more slot, which is free.
-use Rattle.std.proofs.Common.{◌≡◌, ◌≢◌, ℕ, ◌+◌, ◌<◌, ◌≤◌, ℤ, cond, List, [], ◌∷◌, ◌++◌, length, get_or, set, refl, sym, ap, subst, ◌∙◌, ⊎_elim, arith}
+use Rattle.std.proofs.Common.{◌≡◌, ◌≢◌, ℕ, ◌+◌, ◌<◌, ◌≤◌, ℤ, Bool, true, false, cond, List, [], ◌∷◌, ◌++◌, length, get_or, set, refl, sym, ap, subst, ◌∙◌, ⊎_elim, arith}
 use Rattle.std.specs.Prelude.{◌==◌}
-use Rattle.ss_events_entries.proofs.Common.{AreDistinct, AreHeld, AreLed, blank_slot, cases_eq, Entry, entry_at, entry_in, followers, following, get_or-set_other, get_or-set_same, get_or_append_left, get_or_push, heads, HeapNode, IsGuess, IsTaken, length-set, length_push, mark_of, no_entry, no_node, no_slot, node, Slot, slot_at, SlotDirectory}
+use Rattle.ss_events_entries.proofs.Common.{AreDistinct, AreHeld, AreLed, blank_slot, cases_eq, Entry, entry_at, entry_in, followers, following, get_or-set_other, get_or-set_same, get_or_append_left, get_or_push, heads, HeapNode, IsGuess, IsTaken, length-set, length_push, mark_of, nat_tests, no_entry, no_node, no_slot, node, Slot, slot_at, SlotDirectory}
 use Rattle.ss_events_entries.proofs.HeadsAndFollowers.{same_heads, followers-pushed}
-use Rattle.ss_events_entries.proofs.Lists.{same_test, other_test}
+use Rattle.std.proofs.lemmas.Bool.{eqb-true}
 use Rattle.ss_events_entries.proofs.Parts.{not_taken, ArePlaced, there_by, back_by, marked_by, AreLined, next_by, before_as, AreNoted, held_of, held-noted, noted_kept}
 
 -- ---- a directory that leads to one slot more
@@ -161,23 +161,13 @@ module _ (count free : ℕ) (slots : List Slot) (wholes : List Entry) (nodes : L
 -- the invariant holds of equal lists
 pub same_held : (count free n : ℕ) (slots xs : List Slot) (wholes : List Entry) (nodes ts : List HeapNode) (d : SlotDirectory) → n ≡ free → xs ≡ slots → ts ≡ nodes
     → AreHeld count free slots wholes nodes d → AreHeld count n xs wholes ts d
-same_held count free n slots xs wholes nodes ts d a e g h =
-    subst (λ m. AreHeld count m xs wholes ts d) (sym a)
-    (subst (λ l. AreHeld count free l wholes ts d) (sym e)
-    (subst (λ l. AreHeld count free slots wholes l d) (sym g) h))
+same_held count free n slots xs wholes nodes ts d a e g h = subst (λ (p : ℕ × List Slot × List HeapNode). AreHeld count p.0 p.1 wholes p.2 d) (λ i. (sym a i, sym e i, sym g i)) h
 
 pub record HasSome (count n : ℕ) (slots xs : List Slot) (wholes ws : List Entry) (nodes ts : List HeapNode) (d : SlotDirectory) : Type 0 where
   pub held : AreHeld count n xs ws ts d
   pub some : 0 < n
   pub heads : heads count xs ws ts ≡ heads count slots wholes nodes
   pub followers : followers xs ≡ followers slots
-
-some_like : (count m n : ℕ) (slots ys xs : List Slot) (wholes ws : List Entry) (nodes us ts : List HeapNode) (d : SlotDirectory) → n ≡ m → xs ≡ ys → ts ≡ us
-    → HasSome count m slots ys wholes ws nodes us d → HasSome count n slots xs wholes ws nodes ts d
-some_like count m n slots ys xs wholes ws nodes us ts d a e g room =
-    subst (λ k. HasSome count k slots xs wholes ws nodes ts d) (sym a)
-    (subst (λ l. HasSome count m slots l wholes ws nodes ts d) (sym e)
-    (subst (λ l. HasSome count m slots ys wholes ws nodes l d) (sym g) room))
 
 pub some_more : (count free n : ℕ) (slots xs : List Slot) (wholes : List Entry) (nodes ts : List HeapNode) (d : SlotDirectory) → AreHeld count free slots wholes nodes d
     → n ≡ cond (free == 0) 1 free
@@ -186,23 +176,20 @@ pub some_more : (count free n : ℕ) (slots xs : List Slot) (wholes : List Entry
     → (free ≡ 0 → length slots + 1 < following)
     → HasSome count n slots xs wholes wholes nodes ts d
 some_more count free n slots xs wholes nodes ts d h a e g more =
-    let gs : List Slot = slots ++ record blank_slot { at = count } ∷ [] in
-    let gt : List HeapNode = set (nodes ++ no_node ∷ []) count (record no_node { slot = length slots }) in
-    ⊎_elim
-    (λ none.
-    let t = same_test free 0 none in
-    some_like count 1 n slots gs xs wholes wholes nodes gt ts d (a ∙ ap (λ b. cond b 1 free) t) (e ∙ ap (λ b. cond b gs slots) t) (g ∙ ap (λ b. cond b gt nodes) t)
-    (record {
-      held = held-grown count free slots wholes nodes d h none (more none);
-      some = omega arith;
-      heads = heads-grown count free slots wholes nodes d h none (more none);
-      followers = followers-grown count free slots wholes nodes d h none (more none);
-    }))
-    (λ other.
-    let t = other_test free 0 other in
-    some_like count free n slots slots xs wholes wholes nodes nodes ts d (a ∙ ap (λ b. cond b 1 free) t) (e ∙ ap (λ b. cond b gs slots) t) (g ∙ ap (λ b. cond b gt nodes) t)
-    (record { held = h; some = omega (arith, other); heads = refl; followers = refl }))
-    (cases_eq free 0)
+    subst (λ (p : ℕ × List Slot × List HeapNode). HasSome count p.0 slots p.1 wholes wholes nodes p.2 d) (λ i. (sym a i, sym e i, sym g i)) (now (free == 0) refl)
+  where
+    now : (b : Bool) → (free == 0) ≡ b
+        → HasSome count (cond b 1 free) slots (cond b (slots ++ record blank_slot { at = count } ∷ []) slots) wholes wholes nodes
+        (cond b (set (nodes ++ no_node ∷ []) count (record no_node { slot = length slots })) nodes) d
+    now true t =
+        let none = eqb-true free 0 t in
+        record {
+          held = held-grown count free slots wholes nodes d h none (more none);
+          some = omega arith;
+          heads = heads-grown count free slots wholes nodes d h none (more none);
+          followers = followers-grown count free slots wholes nodes d h none (more none);
+        }
+    now false t = record { held = h; some = grind (arith, nat_tests); heads = refl; followers = refl }
 
 -- room once there are cells, where calls say how many slots there are
 pub made_room : (count free n len : ℕ) (slots now xs : List Slot) (wholes : List Entry) (nodes ts : List HeapNode) (d g : SlotDirectory) → AreHeld count free slots wholes nodes d

@@ -42,17 +42,11 @@ same_heads count xs ys ws vs ss ts few_ss few_ts same =
 abbrev pub follower : Slot → Entry
 follower x = plain_entry x.mark x.notice
 
-is_follower : (x : Slot) → following ≤ x.at → nat_le following x.at ≡ true
-is_follower x h = grind (arith, nat_tests)
-
-nodes_apart : (x : Slot) → x.at < following → nat_le following x.at ≡ false
-nodes_apart x h = grind (arith, nat_tests)
-
 pub followers-following : (x : Slot) (xs : List Slot) → following ≤ x.at → followers (x ∷ xs) ≡ follower x ∷ followers xs
-followers-following x xs h = ap (λ b. cond b (follower x ∷ followers xs) (followers xs)) (is_follower x h)
+followers-following x xs h = grind (arith, nat_tests)
 
 pub followers-apart : (x : Slot) (xs : List Slot) → x.at < following → followers (x ∷ xs) ≡ followers xs
-followers-apart x xs h = ap (λ b. cond b (follower x ∷ followers xs) (followers xs)) (nodes_apart x h)
+followers-apart x xs h = grind (arith, nat_tests)
 
 -- a slot that is in a place before and after
 pub followers-placed : (xs : List Slot) (s : ℕ) (y : Slot) → s < length xs → (slot_at xs s).at < following → y.at < following → followers (set xs s y) ≡ followers xs

@@ -9,7 +9,6 @@ pub mod HeadsAndFollowers
 pub mod Parts
 pub mod Seen
 pub mod Swapped
-pub mod Fewer
 pub mod Released
 pub mod Removed
 pub mod Advanced
@@ -17,4 +16,3 @@ pub mod Gone
 pub mod Joined
 pub mod Grown
 pub mod Pushed
-pub mod Rises

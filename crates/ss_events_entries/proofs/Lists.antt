@@ -1,11 +1,12 @@
 -- Lists that calls change.
-use Rattle.std.proofs.Common.{◌≡◌, ◌≢◌, ℕ, zero, suc, ◌+◌, ◌-◌, ◌<◌, Bool, true, false, cond, ltb, Vec, List, [], ◌∷◌, length, get_or, set, take, swap, position, Some, None, refl, sym, ap, ◌∙◌, arith}
-use Rattle.std.specs.Prelude.{◌==◌}
-use Rattle.ss_events_entries.proofs.Common.{list_any, nat_tests, swap_remove, with_items}
+use Rattle.std.proofs.Common.{◌≡◌, ℕ, zero, suc, ◌+◌, ◌-◌, ◌<◌, Bool, true, false, cond, ltb, Vec, List, [], ◌∷◌, length, get_or, set, take, swap, position, Option, Some, None, is_some, refl, sym, ap, ◌∙◌, ⊎_elim, arith}
+use Rattle.ss_events_entries.proofs.Common.{cases_lt, list_any, nat_tests, swap_remove, with_items}
 use Rattle.std.proofs.lemmas.Bool.{or_parts, or_from, lt-ltb, le-ltb}
 use Rattle.std.proofs.lemmas.List.{with_items_is, take-set}
 use Rattle.std.proofs.lemmas.List.Edits.{swap_is}
-use Rattle.std.proofs.lemmas.List.Sums.{position_or_len_is}
+use Rattle.std.proofs.lemmas.List.Folds.{list_any_at}
+use Rattle.std.proofs.lemmas.List.Sums.{fails_before_first, passes_at_first, position_or_len_is}
+use Rattle.std.specs.List.{position_or_len}
 use Rattle.ss_events_entries.proofs.Exchanging.{exchange}
 
 -- ---- what a call left
@@ -36,13 +37,13 @@ module _ {X : Type 0} (p : X → Bool) where
       ap (λ n. cond (ltb n (length xs)) (Some n) None) (position_or_len_is p xs (length xs) d (omega arith) fails (λ lt. absurd (omega (arith, lt))))
       ∙ ap (λ b. cond b (Some (length xs)) None) (le-ltb (length xs) (length xs) (omega arith))
 
--- ---- whether two numbers are one
-
-pub same_test : (m n : ℕ) → m ≡ n → (m == n) ≡ true
-same_test m n e = grind (arith, nat_tests)
-
-pub other_test : (m n : ℕ) → m ≢ n → (m == n) ≡ false
-other_test m n e = grind (arith, nat_tests)
+  pub found_position : (xs : List X) (d : X) (r : Option ℕ) → r ≡ position p xs → is_some r ≡ list_any p xs
+  found_position xs d r is =
+      let n = position_or_len p xs in
+      ap is_some is ∙ ⊎_elim
+      (λ lt. ap (λ b. is_some (cond b (Some n) None)) (lt-ltb n (length xs) lt) ∙ sym (list_any_at p xs n d lt (passes_at_first p xs d lt)))
+      (λ past. ap (λ b. is_some (cond b (Some n) None)) (le-ltb n (length xs) past) ∙ sym (none_passes xs d (λ k lt. fails_before_first p xs k d (omega arith))))
+      (cases_lt n (length xs))
 
 -- ---- two numbers in each other's place
 

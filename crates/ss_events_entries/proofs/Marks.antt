@@ -3,7 +3,7 @@ use Rattle.std.proofs.Common.{◌≡◌, ◌≢◌, ℕ, ◌+◌, ◌*◌, ◌/�
 use Rattle.std.specs.Prelude.{◌==◌}
 use Rattle.ss_events_entries.proofs.Common.{cases_eq, Entry, entry_in, get_or-set_other, lt-ltb, Mark, mark_of, no_entry, not_plain, order_of, plain_entry, plain_numbers, plain_ranks}
 use Rattle.ss_events_entries.proofs.Times.{untied, plain_parts}
-use Rattle.ss_events_entries.proofs.Lists.{same_test, other_test}
+use Rattle.std.proofs.lemmas.Bool.{eq-eqb, ne_eqb}
 
 -- ---- one entry
 
@@ -15,24 +15,17 @@ pub notice_in : (m : Mark) (n : ℤ) (w : Entry) → (entry_in m n w).notice ≡
 notice_in m n w = by_test (m.order == not_plain) (record { key = w.key; number = w.number; notice = n }) (plain_entry m n) n refl refl
 
 pub in-not_plain : (m : Mark) (n : ℤ) (w : Entry) → m.order ≡ not_plain → entry_in m n w ≡ record { key = w.key; number = w.number; notice = n }
-in-not_plain m n w h = ap (λ b. cond b (record { key = w.key; number = w.number; notice = n }) (plain_entry m n)) (same_test m.order not_plain h)
+in-not_plain m n w h = ap (λ b. cond b (record { key = w.key; number = w.number; notice = n }) (plain_entry m n)) (eq-eqb m.order not_plain h)
 
 pub in-plain : (m : Mark) (n : ℤ) (w : Entry) → m.order ≢ not_plain → entry_in m n w ≡ plain_entry m n
-in-plain m n w h = ap (λ b. cond b (record { key = w.key; number = w.number; notice = n }) (plain_entry m n)) (other_test m.order not_plain h)
-
--- what the mark of a plain entry holds
-rank_back : (o r n : ℕ) → o ≡ r * plain_numbers + n → n < plain_numbers → o / plain_numbers ≡ r
-rank_back o r n is lt = omega (arith, is, lt)
-
-number_back : (o r n : ℕ) → o ≡ r * plain_numbers + n → n < plain_numbers → o % plain_numbers ≡ n
-number_back o r n is lt = omega (arith, is, lt)
+in-plain m n w h = ap (λ b. cond b (record { key = w.key; number = w.number; notice = n }) (plain_entry m n)) (ne_eqb m.order not_plain h)
 
 pub plain_again : (e : Entry) (n : ℤ) → (order_of e ≡ not_plain → ⊥) → plain_entry (mark_of e) n ≡ record { key = e.key; number = e.number; notice = n }
 plain_again e n h =
     let it = plain_parts e h in
     let ties = sym (untied e.key.ties it.0) in
-    let rank = rank_back (order_of e) e.key.rank e.number it.3 it.2 in
-    let number = number_back (order_of e) e.key.rank e.number it.3 it.2 in
+    let rank : order_of e / plain_numbers ≡ e.key.rank = omega (arith, it.2, it.3) in
+    let number : order_of e % plain_numbers ≡ e.number = omega (arith, it.2, it.3) in
     λ i. record { key = record { time = e.key.time; rank = rank i; ties = ties i }; number = number i; notice = n }
 
 pub plain_small : (e : Entry) → (order_of e ≡ not_plain → ⊥) → order_of e < plain_ranks * plain_numbers

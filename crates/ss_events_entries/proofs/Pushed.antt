@@ -6,7 +6,7 @@ use Rattle.ss_events_entries.specs.Slots.{no_entry, no_slot, no_node, not_plain,
 use Rattle.ss_events_entries.proofs.HeadsAndFollowers.{slot_at-same, slot_at-other, long_heads, head_at, followers-placed, heads_are}
 use Rattle.ss_events_entries.proofs.Marks.{in-plain, in_again, plain_mark, plain_differs, other_whole}
 use Rattle.ss_events_entries.proofs.Grown.{held-led}
-use Rattle.ss_events_entries.proofs.Lists.{same_test}
+use Rattle.std.proofs.lemmas.Bool.{eq-eqb}
 use Rattle.ss_events_entries.proofs.Parts.{entry_as, ArePlaced, there_by, back_by, marked_by, AreLined, next_by, before_as, AreNoted, held_of, IsFree, free_of, noted_with}
 
 -- the slot of an entry that is alone in its line
@@ -207,7 +207,7 @@ module _ (count free : ℕ) (slots : List Slot) (wholes : List Entry) (nodes : L
         let s = t.slot in
         let its : order_of e ≡ not_plain → get_or ws s no_entry ≡ e = λ o.
         let is_not_plain = ap (λ (x : Mark). x.order) marks ∙ o in
-        ap (λ l. get_or l s no_entry) (wholes_so ∙ ap (λ b. cond b (set wholes s e) wholes) (same_test m.order not_plain is_not_plain))
+        ap (λ l. get_or l s no_entry) (wholes_so ∙ ap (λ b. cond b (set wholes s e) wholes) (eq-eqb m.order not_plain is_not_plain))
         ∙ get_or-set_same wholes s e no_entry (room is_not_plain) in
         let is_e : entry_in m n (get_or ws s no_entry) ≡ e = (λ i. entry_in (marks i) (notices i) (get_or ws s no_entry)) ∙ in_again e (get_or ws s no_entry) its in
         let fit : m ≡ mark_of (entry_in m n (get_or ws s no_entry)) = marks ∙ sym (ap mark_of is_e) in

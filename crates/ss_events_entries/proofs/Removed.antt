@@ -4,7 +4,7 @@ use Rattle.std.specs.Prelude.{◌==◌}
 use Rattle.ss_events_entries.proofs.Common.{AreHeld, at_put, cases_eq, Entry, entry_at, followers, following, heads, HeapNode, IsBefore, IsGuess, IsPermutation, IsTaken, length-set, Mark, next_put, no_slot, node, Slot, slot_at, SlotDirectory}
 use Rattle.ss_events_entries.proofs.HeadsAndFollowers.{slot_at-same, slot_at-other, same_heads, follower, followers-kept, followers-left, followers-next_put}
 use Rattle.ss_events_entries.proofs.Released.{freed, freed-same, freed-other, freed-long, room_of_follower}
-use Rattle.ss_events_entries.proofs.Lists.{same_test, other_test}
+use Rattle.std.proofs.lemmas.Bool.{eq-eqb, ne_eqb}
 use Rattle.ss_events_entries.proofs.Parts.{taken_as, not_taken, unplaced, at_put_same, next_put_same, entry_as, ArePlaced, there_by, back_by, marked_by, AreLined, next_by, before_as, held_of, noted_kept, led_without}
 
 -- a line without the one between two
@@ -60,10 +60,10 @@ module _ (count free : ℕ) (slots : List Slot) (wholes : List Entry) (nodes : L
     closed = close slots before after
 
     closed_none : after ≡ no_slot → closed ≡ joined
-    closed_none e = ap (λ b. cond b joined (at_put joined after (following + before))) (same_test after no_slot e)
+    closed_none e = ap (λ b. cond b joined (at_put joined after (following + before))) (eq-eqb after no_slot e)
 
     closed_some : after ≢ no_slot → closed ≡ at_put joined after (following + before)
-    closed_some real = ap (λ b. cond b joined (at_put joined after (following + before))) (other_test after no_slot real)
+    closed_some real = ap (λ b. cond b joined (at_put joined after (following + before))) (ne_eqb after no_slot real)
 
     -- what holds whether there is one after it or not
     closed_by : (P : List Slot → Type 0) → (after ≡ no_slot → P joined) → (after ≢ no_slot → P (at_put joined after (following + before))) → P closed

@@ -24,32 +24,25 @@ apart_of_test m n e is =
     let same : int_eq m n ≡ true = ap (λ x. int_eq m x) (sym is) ∙ int_eq_equiv.refl m in
     cc
 
--- the notice in a place of a list
-pub notice_of : (es : List Entry) (k : ℕ) (d : Entry) → k < length es → get_or (notices_of es) k (pos 0) ≡ (get_or es k d).notice
-notice_of es k d within = get_or-map (λ (e : Entry). e.notice) es k d (pos 0) within
-
-pub long_notices : (es : List Entry) → length (notices_of es) ≡ length es
-long_notices es = length-map es (λ (e : Entry). e.notice)
-
 -- ---- the notices of followers
 
 module _ (slots : List Slot) (n : ℤ) where
   follower_notice : (s k : ℕ) → Follows slots s k → get_or (notices_of (followers slots)) k (pos 0) ≡ (slot_at slots s).notice
-  follower_notice s k f = notice_of (followers slots) k no_entry f.listed ∙ ap (λ (e : Entry). e.notice) (f.is no_entry)
+  follower_notice s k f = get_or-map (λ (e : Entry). e.notice) (followers slots) k no_entry (pos 0) f.listed ∙ ap (λ (e : Entry). e.notice) (f.is no_entry)
 
   -- no follower has a notice that no following slot has, and back
   pub no_follower_has : ((s : ℕ) → s < length slots → following ≤ (slot_at slots s).at → (slot_at slots s).notice ≢ n) → list_any (int_eq n) (notices_of (followers slots)) ≡ false
   no_follower_has none =
       none_passes (int_eq n) (notices_of (followers slots)) (pos 0)
       (λ k k_in.
-      let s = slot_of_follower slots k (omega (arith, k_in, long_notices (followers slots))) in
+      let s = slot_of_follower slots k (omega (arith, k_in, length-map (followers slots) (λ (e : Entry). e.notice))) in
       ap (int_eq n) (follower_notice s.0 k s.1)
       ∙ apart_by_test n (slot_at slots s.0).notice (λ is. none s.0 s.1.within s.1.nodes (sym is)))
 
   followers-without : list_any (int_eq n) (notices_of (followers slots)) ≡ false → (s : ℕ) → s < length slots → following ≤ (slot_at slots s).at → (slot_at slots s).notice ≢ n
   followers-without none s within node_so is =
       let k = follower_at slots s within node_so in
-      let fails = each_fails (int_eq n) (notices_of (followers slots)) (pos 0) none k.0 (omega (arith, k.1.listed, long_notices (followers slots))) in
+      let fails = each_fails (int_eq n) (notices_of (followers slots)) (pos 0) none k.0 (omega (arith, k.1.listed, length-map (followers slots) (λ (e : Entry). e.notice))) in
       apart_of_test n (slot_at slots s).notice (ap (int_eq n) (sym (follower_notice s k.0 k.1)) ∙ fails) (sym is)
 
   -- where a following slot has it, a follower has it
@@ -100,11 +93,11 @@ module _ (count free : ℕ) (slots : List Slot) (wholes : List Entry) (nodes : L
   -- the notice of a head
   pub head_notice : (k : ℕ) → k < count → get_or (notices_of (heads count slots wholes nodes)) k (pos 0) ≡ (slot_at slots (node nodes k).slot).notice
   head_notice k within =
-      notice_of (heads count slots wholes nodes) k no_entry (omega (arith, within, long_heads count slots wholes nodes few_places))
+      get_or-map (λ (e : Entry). e.notice) (heads count slots wholes nodes) k no_entry (pos 0) (omega (arith, within, long_heads count slots wholes nodes few_places))
       ∙ ap (λ (e : Entry). e.notice) (head_at count slots wholes nodes few_places k no_entry within) ∙ notice_at (node nodes k).slot
 
   pub many_heads : length (notices_of (heads count slots wholes nodes)) ≡ count
-  many_heads = long_notices (heads count slots wholes nodes) ∙ long_heads count slots wholes nodes few_places
+  many_heads = length-map (heads count slots wholes nodes) (λ (e : Entry). e.notice) ∙ long_heads count slots wholes nodes few_places
 
   module _ (n : ℤ) where
     -- no head has a notice that no slot in a place has, and back

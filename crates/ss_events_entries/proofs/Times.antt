@@ -3,9 +3,9 @@ use Rattle.std.proofs.Common.{◌≡◌, ℕ, ◌+◌, ◌*◌, ◌<◌, ℤ, Bo
 use Rattle.std.specs.Prelude.{int_lt, nat_lt, ◌==◌}
 use Rattle.ss_events_entries.proofs.Common.{cases_eq, cases_lt, Entry, Equal, Greater, ints, is_tied, IsBut, le-ltb, Less, lt-ltb, not_plain, order_of, Ordering, plain_numbers, plain_ranks, slice_cmp, Tie}
 use Rattle.std.specs.Ordering.{int_cmp, nat_cmp, is_lt, ordering_then}
+use Rattle.std.proofs.lemmas.Bool.{ltb-true, ne_eqb}
 use Rattle.std.proofs.lemmas.Cmp.{tied_itself, nat_cmp_total, int_cmp_total}
 use Rattle.ss_world.specs.Order.{tie_order, key_order, comes_before}
-use Rattle.ss_events_entries.proofs.Lists.{other_test}
 
 by_tests : (b c : Bool) (r s : Ordering) → (b ≡ false → c ≡ false → ⊥) → b ≡ is_lt (ordering_then (ordering_then (cond b Less (cond c Greater Equal)) r) s)
 by_tests true c r s h = refl
@@ -41,7 +41,7 @@ pub ranks_tell : (e f : Entry) → e.key.time ≡ f.key.time → (e.key.rank ≡
 unfolding comes_before
 ranks_tell e f same differ =
     by_ranks (nat_lt e.key.rank f.key.rank) (e.key.rank == f.key.rank) (int_cmp e.key.time f.key.time) (slice_cmp tie_order e.key.ties f.key.ties) (nat_cmp e.number f.number)
-    (same_time e.key.time f.key.time same) (other_test e.key.rank f.key.rank differ)
+    (same_time e.key.time f.key.time same) (ne_eqb e.key.rank f.key.rank differ)
 
 by_number : (b q : Bool) → b ≡ is_lt (cond b Less (cond q Equal Greater))
 by_number true q = refl
@@ -71,16 +71,13 @@ by_three false false d u x h = absurd (h refl)
 by_three false true false u x h = absurd (h refl)
 by_three false true true u x h = (refl, refl, refl)
 
-below : (m n : ℕ) → ltb m n ≡ true → m < n
-below m n e = ⊎_elim (λ lt. lt) (λ past. absurd (let x : ltb m n ≡ false = le-ltb m n past in cc)) (cases_lt m n)
-
 -- what is known of a plain entry
 pub plain_parts : (e : Entry) → (order_of e ≡ not_plain → ⊥) → (is_tied e.key.ties ≡ false) × (e.key.rank < plain_ranks) × (e.number < plain_numbers) × (order_of e ≡ e.key.rank * plain_numbers + e.number)
 plain_parts e h =
     let it = by_three (is_tied e.key.ties) (ltb e.key.rank plain_ranks) (ltb e.number plain_numbers) not_plain (e.key.rank * plain_numbers + e.number) h in (
       it.0,
-      below e.key.rank plain_ranks it.1,
-      below e.number plain_numbers it.2,
+      ltb-true e.key.rank plain_ranks it.1,
+      ltb-true e.number plain_numbers it.2,
       (λ i. cond (it.0 i) not_plain (cond (it.1 i) (cond (it.2 i) (e.key.rank * plain_numbers + e.number) not_plain) not_plain)),
     )
 

@@ -1,5 +1,5 @@
 // Entries in lines, of which the first is in a place of the heap: no entry moves while lines change places.
-ghost use Rattle.std.specs.Prelude.{true, false, ℕ, ◌+◌, ◌*◌, ◌^◌, ◌≢◌, ◌||◌, ◌≡◌, ◌<◌, ◌≤◌, ◌++◌, ◌∷◌, [], length, swap, slice_index_or, IfOk, OnOk, OnErr, position, is_some};
+ghost use Rattle.std.specs.Prelude.{true, false, ℕ, ◌+◌, ◌*◌, ◌^◌, ◌≢◌, ◌||◌, ◌≡◌, ◌<◌, ◌≤◌, ◌++◌, ◌∷◌, [], length, swap, slice_index_or, IfOk, OnOk, OnErr, position};
 ghost use Rattle.std.specs.Ordering.{int_eq};
 ghost use Rattle.std.specs.List.{list_any};
 ghost use Rattle.std.specs.List.Sorted.{IsPermutation};
@@ -88,8 +88,7 @@ impl Places {
 
     /// The place of the entry of a notice, where it is the first of its line.
     pub(crate) fn find(&self, notice: i64) -> Option<usize>
-        ensures place { result ≡ position (int_eq notice) (notices_of self.now.heads) }
-        ensures found { is_some result ≡ list_any (int_eq notice) (notices_of self.now.heads) }
+        ensures { result ≡ position (int_eq notice) (notices_of self.now.heads) }
     {
         let slot = slot_of(&self.directory, &self.slots, self.count, notice)?;
         let at = self.slots[slot].at;

@@ -1,7 +1,6 @@
 use Rattle.std.proofs.Common.{◌≡◌, ◌≢◌, ◌∷◌, ◌++◌, [], ◌∙◌, ℤ, List, true, IsPermutation, int_eq, length, w64, to_z, of_z, rules, ap, sym, subst, to_z-of_z, arith}
 use Rattle.ss_events.proofs.Common.{comes_before, Entry, HasGoneIn, HasStayedOut, HeadsAndFollowers, heap_lines, HeapEntries, IsHeap, IsPermutation-append_right, IsPermutation-middle, IsPermutation-sym, IsPermutation-trans, list_any, notices_of, or_from, scheduling_limit, SortKey}
 use Rattle.ss_events.proofs.Sifts.{append_work, stays, retried, goes_in}
-use Rattle.ss_events.proofs.Agendas.{any-append}
 use Rattle.ss_events.proofs.sift.insert_at_once.Goals as goal
 use Rattle.ss_events.proofs.sift.insert_at_once.Goals.{After-push_plain, else-place-ge-MANY-via-then-place-ge-MANY+else-append_plain, else-place-ge-MANY-via-else-place-ge-MANY}
 
@@ -25,30 +24,6 @@ ready c = elim c.else-place-ge-MANY.branch [
   | else-place-ge-MANY-via-else-place-ge-MANY w ↦ subst (λ (h : HeapEntries). HasStayedOut (heap_lines c.args.heap.now) c.args.heap.now.before h) (sym w.heap-is) (stays c.args.heap.now c.requires.tried)
 ]
 
--- ---- not put anywhere
-
-pub returns-in_default : goal.returns-in_default
-returns-in_default c = stays c.args.heap.now c.requires.tried
-
-pub returns-then-rank-ge-PLAIN_RANKS : goal.returns-then-rank-ge-PLAIN_RANKS
-returns-then-rank-ge-PLAIN_RANKS c = stays c.args.heap.now c.requires.tried
-
-pub returns-then-not-push_plain : goal.returns-then-not-push_plain
-returns-then-not-push_plain c =
-    subst (λ (h : HeapEntries). HasStayedOut (heap_lines c.args.heap.now) c.args.heap.now.before h) (sym (c.push_plain.ensures.kept c.if-not-push_plain.true)) (ready (goal.at.returns-then-not-push_plain c).After-push_plain)
-
--- ---- put in a place of its own
-
-pub raise-requires-clause-comparisons : goal.raise-requires-clause-comparisons
-raise-requires-clause-comparisons c =
-    let s = ready (goal.at.raise-requires-clause-comparisons c).After-push_plain in
-    omega (arith, ap (λ h. h.comparisons) (c.push_plain.ensures.done c.if-not-push_plain.false), s.tried.one)
-
-pub raise-requires-clause-moves : goal.raise-requires-clause-moves
-raise-requires-clause-moves c =
-    let s = ready (goal.at.raise-requires-clause-moves c).After-push_plain in
-    omega (arith, ap (λ h. h.moves) (c.push_plain.ensures.done c.if-not-push_plain.false), s.tried.unmoved)
-
 pub returns : goal.returns
 returns c =
     let s = ready (goal.at.returns c).After-push_plain in
@@ -64,14 +39,12 @@ returns c =
     subst (λ (z : ℤ). HasGoneIn (it c.args.key.now z) (heap_lines old) old.before new) (to_z-of_z c.ranges.notice)
     (subst (λ (k : SortKey). HasGoneIn (it k n) (heap_lines old) old.before new) (ap plain same ∙ sym c.in-Some.ensures)
     (retried e (heap_lines old) old.before mid new true s
-    (goes_in e mid c.push_plain.new.self new c.len-place.result c.raise.result (c.push_plain.ensures.done did) (c.len-place.ensures ∙ ap (λ (l : HeadsAndFollowers). length l.heads) (sym s.lines)) c.raise.ensures.raises c.raise.ensures.cost s.tried ordered
-    (any-append n mid.entries mid.followers ∙ or_from (list_any (int_eq n) (notices_of mid.entries)) (list_any (int_eq n) (notices_of mid.followers)) (c.push_plain.ensures.apart did) (c.push_plain.ensures.fresh did))
+    (goes_in e mid c.push_plain.new.self new c.len-place.result c.raise.result (c.push_plain.ensures.done did) (c.len-place.ensures ∙ ap (λ (l : HeadsAndFollowers). length l.heads) (sym s.lines))
+    c.raise.ensures.raises c.raise.ensures.cost c.raise.ensures.compared s.tried ordered
+    (or_from (list_any (int_eq n) (notices_of mid.entries)) (list_any (int_eq n) (notices_of mid.followers)) (c.push_plain.ensures.apart did) (c.push_plain.ensures.fresh did))
     room)))
 
 -- ---- put after another one
-
-pub append_plain-requires-clause-comparable : goal.append_plain-requires-clause-comparable
-append_plain-requires-clause-comparable c = omega (arith, c.comparisons.ensures, c.if-comparisons-gt0.false)
 
 pub returns-then-append_plain : goal.returns-then-append_plain
 returns-then-append_plain c =
@@ -90,7 +63,7 @@ returns-then-append_plain c =
     record {
       order = subst (IsHeap comes_before) (sym put.entries) c.requires.order;
       all = subst (λ (hs : List Entry). IsPermutation (e ∷ (es ++ fs)) (hs ++ gs)) (sym put.entries) all;
-      apart = any-append n es fs ∙ or_from (list_any (int_eq n) (notices_of es)) (list_any (int_eq n) (notices_of fs)) (put.apart did) (put.fresh did);
+      apart = or_from (list_any (int_eq n) (notices_of es)) (list_any (int_eq n) (notices_of fs)) (put.apart did) (put.fresh did);
       room = omega (arith, c.if-number-ge-PLAIN_NUMBERS.false);
       cost = append_work new (length es) (omega (arith, c.if-place-ge-MANY.true, c.len-place.ensures))
           (omega (arith, put.compared did, c.comparisons.ensures, c.if-comparisons-gt0.false))

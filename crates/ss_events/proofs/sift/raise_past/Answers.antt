@@ -1,61 +1,48 @@
-use Rattle.std.proofs.Common.{ap, sym, arith}
-use Rattle.ss_events_entries.specs.HeapEntries.{but_one}
-use Rattle.ss_events.proofs.Sifts.{Rising, rising_begins, rising_few, rising_rests, rising_tops, passes_parent, outranks}
+use Rattle.std.proofs.Common.{ap, sym, subst, arith}
+use Rattle.ss_events.proofs.Common.{but_one}
+use Rattle.ss_events.specs.Sifting.{height, HasRisen, HasRaised, HasClimbed}
+use Rattle.ss_events.proofs.Sifts.{height_few, passes, passed, under_top, under_parent, outranks, climbed_top, compared_last}
 use Rattle.ss_events.proofs.sift.raise_past.Goals as goal
 use Rattle.ss_events.proofs.sift.raise_past.Goals.{After-swap}
 
-pub loop-at-init : goal.loop-at-init
-loop-at-init c = record {
-  rising = rising_begins (but_one c.args.heap.now) c.args.at c.requires.within;
-  some = c.requires.some;
-  parent_is = c.requires.parent;
-  before = c.requires.before;
-  compared = c.requires.compared;
-}
-
-pub swap-requires-clause-a_within : goal.swap-requires-clause-a_within
-swap-requires-clause-a_within c = c.loop-at.invariant.rising.within
-
-pub swap-requires-clause-b_within : goal.swap-requires-clause-b_within
-swap-requires-clause-b_within c = omega (arith, c.loop-at.invariant.parent_is, c.loop-at.invariant.rising.within)
-
 pub swap-requires-clause-countable : goal.swap-requires-clause-countable
-swap-requires-clause-countable c = omega (arith, c.requires.moves, rising_few (but_one c.args.heap.now) (but_one c.loop-at.heap) c.args.at c.loop-at.at c.loop-at.invariant.rising (omega arith))
+swap-requires-clause-countable c = omega (arith, c.loop-at.invariant.cost.moves, height_few c.args.at (omega arith))
 
 -- once the two have changed places
-past : (c : After-swap) → Rising (but_one c.args.heap.now) c.swap.new.self c.args.at c.loop-at.parent
-past c = passes_parent c.args.heap.now c.loop-at.heap c.swap.new.self c.args.at c.loop-at.at c.loop-at.parent c.loop-at.invariant c.swap.ensures
+past : (c : After-swap) → HasRisen c.args.heap.now.entries c.swap.new.self.entries c.args.at c.loop-at.parent
+past c = passes c.args.heap.now c.loop-at.heap c.swap.new.self c.args.at c.loop-at.at c.loop-at.parent c.loop-at.invariant c.swap.ensures
+
+spent : (c : After-swap) → HasClimbed 1 (height c.loop-at.parent) (height c.args.at) (but_one c.args.heap.now) c.swap.new.self
+spent c = passed c.args.heap.now c.loop-at.heap c.swap.new.self c.args.at c.loop-at.at c.loop-at.parent c.loop-at.invariant c.swap.ensures c.requires.compared
 
 pub returns-then-at-eq0-clause-raises : goal.returns-then-at-eq0-clause-raises
-returns-then-at-eq0-clause-raises c = (rising_tops (but_one c.args.heap.now) c.swap.new.self c.args.at c.loop-at.parent (omega (arith, c.if-at-eq0.true)) (past (goal.at.returns-then-at-eq0-clause-raises c).After-swap)).0
+returns-then-at-eq0-clause-raises c = record { risen = past (goal.at.returns-then-at-eq0-clause-raises c).After-swap; under = λ h. under_top c.swap.new.self.entries c.loop-at.parent c.if-at-eq0.true }
 
 pub returns-then-at-eq0-clause-cost : goal.returns-then-at-eq0-clause-cost
-returns-then-at-eq0-clause-cost c = (rising_tops (but_one c.args.heap.now) c.swap.new.self c.args.at c.loop-at.parent (omega (arith, c.if-at-eq0.true)) (past (goal.at.returns-then-at-eq0-clause-cost c).After-swap)).1
+returns-then-at-eq0-clause-cost c = climbed_top (but_one c.args.heap.now) c.swap.new.self c.loop-at.parent (height c.args.at) (spent (goal.at.returns-then-at-eq0-clause-cost c).After-swap)
 
-pub is_before-requires-clause-a_within : goal.is_before-requires-clause-a_within
-is_before-requires-clause-a_within c = (past (goal.at.is_before-requires-clause-a_within c).After-swap).within
-
-pub is_before-requires-clause-b_within : goal.is_before-requires-clause-b_within
-is_before-requires-clause-b_within c = omega (arith, (past (goal.at.is_before-requires-clause-b_within c).After-swap).within)
+pub returns-then-at-eq0-clause-compared : goal.returns-then-at-eq0-clause-compared
+returns-then-at-eq0-clause-compared c = omega (arith, c.loop-at.invariant.compared, ap (λ h. h.comparisons) c.swap.ensures)
 
 pub is_before-requires-clause-countable : goal.is_before-requires-clause-countable
-is_before-requires-clause-countable c = omega (arith, c.requires.comparisons, rising_few (but_one c.args.heap.now) c.swap.new.self c.args.at c.loop-at.parent (past (goal.at.is_before-requires-clause-countable c).After-swap) (omega arith))
+is_before-requires-clause-countable c =
+    let cost = spent (goal.at.is_before-requires-clause-countable c).After-swap in omega (arith, c.requires.comparisons, cost.comparisons, height_few c.args.at (omega arith))
 
 pub returns-then-not-is_before-clause-raises : goal.returns-then-not-is_before-clause-raises
 returns-then-not-is_before-clause-raises c =
-    let looked = c.is_before.ensures.counted in
-    (rising_rests (but_one c.args.heap.now) c.swap.new.self c.is_before.new.self c.args.at c.loop-at.parent (omega (arith, c.if-at-eq0.false)) (past (goal.at.returns-then-not-is_before-clause-raises c).After-swap) (λ d. sym (c.if-not-is_before.ensures.value d))
-    (ap (λ h. h.entries) looked) (ap (λ h. h.comparisons) looked) (ap (λ h. h.moves) looked) (ap (λ h. h.followers) looked) (ap (λ h. h.before) looked)).0
+    subst (λ es. HasRaised c.args.heap.now.entries es c.args.at c.loop-at.parent) (sym (ap (λ h. h.entries) c.is_before.ensures.counted))
+    record { risen = past (goal.at.returns-then-not-is_before-clause-raises c).After-swap; under = λ h. under_parent c.swap.new.self.entries c.loop-at.parent (λ d. sym (c.if-not-is_before.ensures.value d)) }
 
 pub returns-then-not-is_before-clause-cost : goal.returns-then-not-is_before-clause-cost
 returns-then-not-is_before-clause-cost c =
-    let looked = c.is_before.ensures.counted in
-    (rising_rests (but_one c.args.heap.now) c.swap.new.self c.is_before.new.self c.args.at c.loop-at.parent (omega (arith, c.if-at-eq0.false)) (past (goal.at.returns-then-not-is_before-clause-cost c).After-swap) (λ d. sym (c.if-not-is_before.ensures.value d))
-    (ap (λ h. h.entries) looked) (ap (λ h. h.comparisons) looked) (ap (λ h. h.moves) looked) (ap (λ h. h.followers) looked) (ap (λ h. h.before) looked)).1
+    compared_last (but_one c.args.heap.now) c.swap.new.self c.is_before.new.self c.loop-at.parent (height c.args.at)
+    (omega (arith, c.if-at-eq0.false)) (spent (goal.at.returns-then-not-is_before-clause-cost c).After-swap) c.is_before.ensures.counted
 
-pub loop-at-smaller : goal.loop-at-smaller
-loop-at-smaller c = omega (arith, c.loop-at.invariant.parent_is, c.loop-at.invariant.some)
+pub returns-then-not-is_before-clause-compared : goal.returns-then-not-is_before-clause-compared
+returns-then-not-is_before-clause-compared c = omega (arith, c.loop-at.invariant.compared, ap (λ h. h.comparisons) c.swap.ensures, ap (λ h. h.comparisons) c.is_before.ensures.counted)
 
 pub loop-at-preserved : goal.loop-at-preserved
 loop-at-preserved c =
-    outranks c.args.heap.now c.swap.new.self c.is_before.new.self c.args.at c.loop-at.parent (omega (arith, c.if-at-eq0.false)) (past (goal.at.loop-at-preserved c).After-swap) (λ d. sym (c.if-not-is_before.ensures.value d)) c.is_before.ensures.counted
+    let a = (goal.at.loop-at-preserved c).After-swap in
+    outranks c.args.heap.now c.swap.new.self c.is_before.new.self c.args.at c.loop-at.parent (past a) (omega (arith, c.if-at-eq0.false)) c.requires.compared
+    (omega (arith, c.loop-at.invariant.compared, ap (λ h. h.comparisons) c.swap.ensures)) (spent a) (λ d. sym (c.if-not-is_before.ensures.value d)) c.is_before.ensures.counted

@@ -31,9 +31,6 @@ returns-then-at-len-clause-work c =
     (removed_few (heap_lines c.args.heap.now) (heap_lines c.remove-event.new.self) c.args.at c.remove-event.result c.requires.within c.remove-event.ensures.removed)
     c.mend.ensures.cost
 
-pub returns-then-at-len-clause-before : goal.returns-then-at-len-clause-before
-returns-then-at-len-clause-before c = c.mend.ensures.cost.before ∙ c.remove-event.ensures.moved.before
-
 pub returns-else-at-len-clause-order : goal.returns-else-at-len-clause-order
 returns-else-at-len-clause-order c =
     removed_end (heap_lines c.args.heap.now) (heap_lines c.remove-event.new.self) c.args.at c.remove-event.result c.requires.within c.remove-event.ensures.removed (omega (arith, c.if-at-len.false, c.len.ensures)) c.requires.order
@@ -47,6 +44,3 @@ returns-else-at-len-clause-taken c =
       is = r.is;
       rest = removed_all (heap_lines c.args.heap.now) (heap_lines c.remove-event.new.self) c.args.at c.remove-event.result c.requires.within r;
     }
-
-pub returns-else-at-len-clause-before : goal.returns-else-at-len-clause-before
-returns-else-at-len-clause-before c = c.remove-event.ensures.moved.before

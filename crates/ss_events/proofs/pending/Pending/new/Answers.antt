@@ -1,12 +1,11 @@
-use Rattle.std.proofs.Common.{◌∙◌, [], map, ap}
+use Rattle.std.proofs.Common.{◌∙◌, [], map, ap, subst, sym}
 use Rattle.ss_events_entries.specs.CountedList.{no_work, with_work}
-use Rattle.ss_events_entries.specs.HeapEntries.{all_of}
-use Rattle.ss_events.specs.InOrder.{in_order}
+use Rattle.ss_events.proofs.Common.{all_of, HeapEntries, in_order, IsAgenda}
 use Rattle.ss_events.proofs.Agendas.{agenda-none}
 use Rattle.ss_events.proofs.pending.Pending.new.Goals as goal
 
 pub invariant_of-result : goal.invariant_of-result
-invariant_of-result c = agenda-none c.new.result.entries c.new.result.followers (ap (λ h. h.entries) c.new.ensures) (ap (λ h. h.followers) c.new.ensures)
+invariant_of-result c = subst (λ (h : HeapEntries). IsAgenda h.entries (all_of h) 0) (sym c.new.ensures) agenda-none
 
 pub returns : goal.returns
 unfolding in_order

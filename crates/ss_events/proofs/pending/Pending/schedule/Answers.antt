@@ -1,9 +1,9 @@
-use Rattle.std.proofs.Common.{◌≡◌, ◌≢◌, true, false, ◌+◌, ◌++◌, ◌∙◌, map, ℤ, Bool, w64, to_z, of_z, Ok, ap, refl, sym, subst, to_z-of_z, arith}
-use Rattle.ss_world.specs.PendingList.{PendingList, scheduling_limit, with_entry, is_pending, scheduled, IsRefusal}
-use Rattle.ss_events.proofs.Common.{all_of, AreAfterHeads, comes_before, Entry, HasGoneIn, HasStayedOut, HeadsAndFollowers, heap_lines, HeapEntries, in_order, IsAgenda, IsHeap, IsInsertion, with_work, Work}
+use Rattle.std.proofs.Common.{◌≡◌, ◌<◌, ◌+◌, true, false, ◌∙◌, map, ℤ, Bool, w64, to_z, of_z, length, Ok, ap, sym, subst, to_z-of_z}
+use Rattle.ss_world.specs.PendingList.{PendingList, scheduled, IsRefusal}
+use Rattle.ss_events_entries.specs.CountedList.{CountedList}
+use Rattle.ss_events.proofs.Common.{AreAfterHeads, Entry, HasGoneIn, HasStayedOut, HeadsAndFollowers, heap_lines, HeapEntries, IsInsertion, IsLogarithmic}
 use Rattle.ss_events.proofs.Sifts.{tried_work}
-use Rattle.ss_events.proofs.Agendas.{any-pending, some_head, work_of, in_order-inserted, agenda-inserted}
-use Rattle.ss_events.proofs.Outcomes.{scheduled-room}
+use Rattle.ss_events.proofs.Agendas.{listed, some_head, work_of, agenda-inserted, scheduled-inserted}
 use Rattle.ss_events.proofs.pending.Pending.schedule.Goals as goal
 use Rattle.ss_events.proofs.pending.Pending.schedule.Goals.{After-insert}
 
@@ -11,92 +11,58 @@ use Rattle.ss_events.proofs.pending.Pending.schedule.Goals.{After-insert}
 abbrev its : (c : After-insert) → ℤ → Entry
 its c z = record { key = c.args.key; number = c.self.inside.schedulings; notice = z }
 
--- what became of it, after the work of all calls before
-outcome : (c : After-insert) → IsInsertion (its c c.args.notice) (heap_lines c.self.inside.heap) c.args.self.now.total c.insert.new.heap c.insert.result
+-- what became of it
+outcome : (c : After-insert) → IsInsertion (its c c.args.notice) (heap_lines c.self.inside.heap) c.reset_counts.new.self.before c.insert.new.heap c.insert.result
 outcome c =
-    let new = c.insert.new.heap in let b = c.insert.result in let n = to_z w64 (of_z w64 c.args.notice) in
-    let lines = ap heap_lines c.reset_counts.ensures in
-    let begun = ap (λ h. h.before) c.reset_counts.ensures ∙ ap (λ v. v.total) c.self.view_is in
-    subst (λ (z : ℤ). IsInsertion (its c z) (heap_lines c.self.inside.heap) c.args.self.now.total new b) (to_z-of_z c.ranges.notice)
-    (subst (λ (p : HeadsAndFollowers × Work). IsInsertion (its c n) p.0 p.1 new b) (λ i. (lines i, begun i)) c.insert.ensures)
+    let work = c.reset_counts.new.self.before in let new = c.insert.new.heap in let b = c.insert.result in
+    subst (λ (z : ℤ). IsInsertion (its c z) (heap_lines c.self.inside.heap) work new b) (to_z-of_z c.ranges.notice)
+    (subst (λ (h : HeapEntries). IsInsertion (its c (to_z w64 (of_z w64 c.args.notice))) (heap_lines h) work new b) c.reset_counts.ensures c.insert.ensures)
 
-went : (c : After-insert) → c.insert.result ≡ true → HasGoneIn (its c c.args.notice) (heap_lines c.self.inside.heap) c.args.self.now.total c.insert.new.heap
-went c did = subst (λ (b : Bool). IsInsertion (its c c.args.notice) (heap_lines c.self.inside.heap) c.args.self.now.total c.insert.new.heap b) did (outcome c)
+went : (c : After-insert) → c.insert.result ≡ true → HasGoneIn (its c c.args.notice) (heap_lines c.self.inside.heap) c.reset_counts.new.self.before c.insert.new.heap
+went c did = subst (λ (b : Bool). IsInsertion (its c c.args.notice) (heap_lines c.self.inside.heap) c.reset_counts.new.self.before c.insert.new.heap b) did (outcome c)
 
-stayed : (c : After-insert) → c.insert.result ≡ false → HasStayedOut (heap_lines c.self.inside.heap) c.args.self.now.total c.insert.new.heap
-stayed c not = subst (λ (b : Bool). IsInsertion (its c c.args.notice) (heap_lines c.self.inside.heap) c.args.self.now.total c.insert.new.heap b) not (outcome c)
+stayed : (c : After-insert) → c.insert.result ≡ false → HasStayedOut (heap_lines c.self.inside.heap) c.reset_counts.new.self.before c.insert.new.heap
+stayed c not = subst (λ (b : Bool). IsInsertion (its c c.args.notice) (heap_lines c.self.inside.heap) c.reset_counts.new.self.before c.insert.new.heap b) not (outcome c)
 
-pub insert-requires-clause-order : goal.insert-requires-clause-order
-insert-requires-clause-order c = subst (λ (h : HeapEntries). IsHeap comes_before h.entries) (sym c.reset_counts.ensures) c.self.invariant.order
-
-pub insert-requires-clause-tried : goal.insert-requires-clause-tried
-insert-requires-clause-tried c =
-    let none = ap (λ h. h.comparisons) c.reset_counts.ensures in
-    record { one = omega (arith, none); few = omega (arith, none); unmoved = ap (λ h. h.moves) c.reset_counts.ensures }
+work : (c : After-insert) → IsLogarithmic (length c.self.inside.heap.entries) c.insert.new.heap → IsLogarithmic (length c.args.self.now.list.entries) c.insert.new.heap
+work c cost = subst (λ (v : CountedList). IsLogarithmic (length v.list.entries) c.insert.new.heap) c.self.view_is (work_of c.self.inside.heap c.insert.new.heap cost)
 
 -- ---- it went in
 
 pub invariant_of-self : goal.invariant_of-self
 invariant_of-self c =
-    let a = (goal.at.invariant_of-self c).After-insert in
-    let g = went a c.if-insert.true in let h = c.self.inside.heap in let new = c.insert.new.heap in
-    agenda-inserted h.entries (all_of h) c.self.inside.schedulings c.self.invariant (its a c.args.notice) refl new.entries (all_of new) g.order g.all g.apart (omega (arith, g.room, c.self.invariant.few))
+    agenda-inserted c.self.inside.heap c.self.inside.schedulings c.self.invariant c.args.key c.args.notice c.reset_counts.new.self.before c.insert.new.heap
+    (went (goal.at.invariant_of-self c).After-insert c.if-insert.true)
 
-pub returns-then-insert : goal.returns-then-insert
-returns-then-insert c =
-    let a = (goal.at.returns-then-insert c).After-insert in
-    let g = went a c.if-insert.true in
-    let i = c.self.inside in let h = i.heap in let new = c.insert.new.heap in
-    let p = c.args.self.now.list in let n = c.args.notice in
-    let view = ap (λ v. v.list.entries) c.self.view_is in
-    let free : is_pending n p.entries ≡ false = sym (any-pending h p.entries view n) ∙ g.apart in
-    let room : p.schedulings ≢ scheduling_limit = omega (arith, g.room, ap (λ v. v.list.schedulings) c.self.view_is) in
-    let last = in_order-inserted h.entries (all_of h) i.schedulings c.self.invariant (its a n) refl (all_of new) g.all in
-    let following : AreAfterHeads h.entries h.followers = subst (λ (h : HeapEntries). AreAfterHeads h.entries h.followers) c.reset_counts.ensures c.are_after_heads.ensures in
-    let cost = work_of h p.entries view h.entries new refl g.cost in
-    record {
-      ok = scheduled-room c.args.key n p free room
-          ∙ ap (λ v. Ok (with_entry c.args.key n v.list)) (sym c.self.view_is)
-          ∙ ap (λ es. Ok (record { entries = es; schedulings = i.schedulings + 1; classes = map (λ shapes. shapes.items) i.classes.items })) (sym last);
-      refused = tt;
-      unchanged = tt;
-      comparisons = cost.comparisons;
-      moves = cost.moves;
-      moved = g.moved;
-      compared = λ some. g.compared (some_head h p.entries view following some);
-      total = ap (λ t. with_work t new.comparisons new.moves) g.before;
-    }
+pub returns-then-insert-clause-ok : goal.returns-then-insert-clause-ok
+returns-then-insert-clause-ok c =
+    let i = c.self.inside in let new = c.insert.new.heap in let classes = map (λ shapes. shapes.items) i.classes.items in
+    subst (λ (v : CountedList). scheduled c.args.key c.args.notice v.list ≡ Ok (listed new (i.schedulings + 1) classes)) c.self.view_is
+    (scheduled-inserted i.heap i.schedulings c.self.invariant c.args.key c.args.notice c.reset_counts.new.self.before new (went (goal.at.returns-then-insert-clause-ok c).After-insert c.if-insert.true) classes)
+
+pub returns-then-insert-clause-comparisons : goal.returns-then-insert-clause-comparisons
+returns-then-insert-clause-comparisons c = let a = (goal.at.returns-then-insert-clause-comparisons c).After-insert in (work a (went a c.if-insert.true).cost).comparisons
+
+pub returns-then-insert-clause-moves : goal.returns-then-insert-clause-moves
+returns-then-insert-clause-moves c = let a = (goal.at.returns-then-insert-clause-moves c).After-insert in (work a (went a c.if-insert.true).cost).moves
+
+pub returns-then-insert-clause-compared : goal.returns-then-insert-clause-compared
+returns-then-insert-clause-compared c = λ some.
+    let following = subst (λ (h : HeapEntries). AreAfterHeads h.entries h.followers) c.reset_counts.ensures c.are_after_heads.ensures in
+    (went (goal.at.returns-then-insert-clause-compared c).After-insert c.if-insert.true).compared
+    (some_head c.self.inside.heap following (subst (λ (v : CountedList). 0 < length v.list.entries) (sym c.self.view_is) some))
 
 -- ---- it stayed out
 
--- the list is what it was
-same : (c : After-insert) → c.insert.result ≡ false
-    → record { entries = in_order (all_of c.insert.new.heap); schedulings = c.self.inside.schedulings; classes = map (λ shapes. shapes.items) c.self.inside.classes.items } ≡ c.args.self.now.list
-same c not =
-    let i = c.self.inside in
-    ap (λ (l : HeadsAndFollowers). record { entries = in_order (l.heads ++ l.followers); schedulings = i.schedulings; classes = map (λ shapes. shapes.items) i.classes.items }) (stayed c not).lines
-    ∙ ap (λ v. v.list) c.self.view_is
+pub returns-clause-refused : goal.returns-clause-refused
+returns-clause-refused c =
+    let i = c.self.inside in let classes = map (λ shapes. shapes.items) i.classes.items in
+    let s = stayed (goal.at.returns-clause-refused c).After-insert c.if-insert.false in
+    let kept = ap (λ (l : HeadsAndFollowers). listed (record i.heap { entries = l.heads; followers = l.followers }) i.schedulings classes) s.lines ∙ ap (λ v. v.list) c.self.view_is in
+    subst (λ (z : ℤ). IsRefusal c.refusal.result (scheduled c.args.key z c.args.self.now.list)) (to_z-of_z c.ranges.notice)
+    (subst (λ (q : PendingList). IsRefusal c.refusal.result (scheduled c.args.key (to_z w64 (of_z w64 c.args.notice)) q)) kept (c.refusal.ensures c.args.key))
 
-pub invariant_of-self-else-insert : goal.invariant_of-self-else-insert
-invariant_of-self-else-insert c =
-    let s = stayed (goal.at.invariant_of-self-else-insert c).After-insert c.if-insert.false in
-    subst (λ (l : HeadsAndFollowers). IsAgenda l.heads (l.heads ++ l.followers) c.self.inside.schedulings) (sym s.lines) c.self.invariant
-
-pub returns : goal.returns
-returns c =
-    let a = (goal.at.returns c).After-insert in
-    let s = stayed a c.if-insert.false in let kept = same a c.if-insert.false in
-    let h = c.self.inside.heap in let new = c.insert.new.heap in
-    let p = c.args.self.now.list in let n = c.args.notice in
-    let cost = work_of h p.entries (ap (λ v. v.list.entries) c.self.view_is) new.entries new (ap (λ (l : HeadsAndFollowers). l.heads) s.lines) (tried_work new s.tried) in
-    record {
-      ok = tt;
-      refused = subst (λ (z : ℤ). IsRefusal c.refusal.result (scheduled c.args.key z p)) (to_z-of_z c.ranges.notice)
-          (subst (λ (q : PendingList). IsRefusal c.refusal.result (scheduled c.args.key (to_z w64 (of_z w64 n)) q)) kept (c.refusal.ensures c.args.key));
-      unchanged = kept;
-      comparisons = cost.comparisons;
-      moves = cost.moves;
-      moved = tt;
-      compared = tt;
-      total = ap (λ t. with_work t new.comparisons new.moves) s.before;
-    }
+pub returns-clause-comparisons : goal.returns-clause-comparisons
+returns-clause-comparisons c =
+    let a = (goal.at.returns-clause-comparisons c).After-insert in let s = stayed a c.if-insert.false in let new = c.insert.new.heap in
+    (work a (subst (λ (l : HeadsAndFollowers). IsLogarithmic (length l.heads) new) s.lines (tried_work new s.tried))).comparisons

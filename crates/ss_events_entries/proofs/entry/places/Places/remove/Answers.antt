@@ -146,21 +146,3 @@ returns-clause-removed c =
       is = λ i. (time i, notice i);
       rest = (gone e).rest;
     })
-
-pub returns-clause-moved : goal.returns-clause-moved
-returns-clause-moved c = elim c.if-next.branch [
-  | then-next w ↦
-      let is = w.counter-is ∙ w.advance.ensures.moved in record {
-        comparisons = ap (λ t. t.comparisons) is;
-        some = omega (arith, ap (λ t. t.moves) is);
-        moves = omega (arith, ap (λ t. t.moves) is);
-        before = ap (λ t. t.before) is;
-      }
-  | else-next w ↦
-      let is = w.counter-is ∙ w.exchange.ensures.moved in record {
-        comparisons = ap (λ t. t.comparisons) is;
-        some = omega (arith, ap (λ t. t.moves) is);
-        moves = omega (arith, ap (λ t. t.moves) is);
-        before = ap (λ t. t.before) is;
-      }
-]
