@@ -3,6 +3,7 @@ use Rattle.std.proofs.Common.{◌≡◌, ◌≢◌, ℕ, zero, suc, ◌+◌, ◌
 use Rattle.std.specs.Prelude.{slice_get, slice_set, reverse, ℤ}
 use Rattle.std.specs.Vec.{with_items}
 use Rattle.std.proofs.lemmas.Option.{slice_get-get_or}
+pub use Rattle.std.proofs.lemmas.List.{length-set as set_length}
 use Rattle.std.proofs.lemmas.List.{length-take-le, length-reverse, length-drop, get_or-reverse, with_items_is}
 use Rattle.ss_machine_frames.specs.Rows.{TwoRows, AreGrown, IsTurned, IsMovedDown, IsTurnedDown}
 
@@ -17,11 +18,6 @@ set_other (x ∷ xs) zero zero v h = absurd (h refl)
 set_other (x ∷ xs) zero (suc j) v h = refl
 set_other (x ∷ xs) (suc i) zero v h = refl
 set_other (x ∷ xs) (suc i) (suc j) v h = set_other xs i j v (λ e. h (ap suc e))
-
-pub set_length : {A : Type 0} (xs : List A) (i : ℕ) (v : A) → length (slice_set xs i v) ≡ length xs
-set_length [] i v = refl
-set_length (x ∷ xs) zero v = refl
-set_length (x ∷ xs) (suc i) v = ap suc (set_length xs i v)
 
 -- ## Parts of lists
 
