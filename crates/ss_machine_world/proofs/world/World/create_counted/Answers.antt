@@ -1,7 +1,6 @@
-use Rattle.std.proofs.Common.{rules, ◌≡◌, ◌≤ℤ◌, ℤ, ap, sym, ◌∙◌, subst, to_z, of_z, w64, refl}
+use Rattle.std.proofs.Common.{rules, ◌≡◌, ◌≤ℤ◌, ℤ, ap, sym, ◌∙◌, subst, to_z, of_z, w64}
 use Rattle.ss_machine_world.proofs.Common.{Class, HasRooms, Layout, Times}
 use Rattle.ss_machine_world.proofs.Starting.{all_made, less_room}
-use Rattle.ss_machine_world.proofs.Said.{said_still}
 use Rattle.ss_machine_world.proofs.world.World.create_counted.Goals as goal
 
 pub start_all-requires : goal.start_all-requires
@@ -17,19 +16,10 @@ start_all-requires c =
     record { room = subst (λ (l : Layout). HasRooms l (Class class) (to_z w64 (of_z w64 c.count-made.result)) ss rs) layout (less_room c.layout.result.now (Class class) _ many ss rs most room) }
 
 pub invariant_of-self : goal.invariant_of-self
-invariant_of-self c =
-    let i = c.self.inside in let ss = i.timeline.histories.statistics in
-    said_still i.population.layout i.population.layout i.notices.items ss c.reserve.new.self.histories.statistics i.classes.items
-    refl (ap (λ (t : Times). t.histories.statistics) c.reserve.ensures.same) c.self.invariant
+invariant_of-self c = rw (ap (λ (t : Times). t.histories.statistics) c.reserve.ensures.same) c.self.invariant
 
 pub invariant_of-self-in-Ok : goal.invariant_of-self-in-Ok
-invariant_of-self-in-Ok c =
-    let i = c.self.inside in let ss = i.timeline.histories.statistics in
-    said_still i.population.layout c.create_all.new.self.layout i.notices.items ss c.start_all.new.self.histories.statistics i.classes.items
-    c.create_all.ensures.layout (c.start_all.ensures.same.2 ∙ ap (λ (t : Times). t.histories.statistics) c.reserve.ensures.same) c.self.invariant
+invariant_of-self-in-Ok c = rw (c.create_all.ensures.layout, c.start_all.ensures.same.2 ∙ ap (λ (t : Times). t.histories.statistics) c.reserve.ensures.same) c.self.invariant
 
 pub invariant_of-self-in-Err : goal.invariant_of-self-in-Err
-invariant_of-self-in-Err c =
-    let i = c.self.inside in let ss = i.timeline.histories.statistics in
-    said_still i.population.layout c.create_all.new.self.layout i.notices.items ss c.reserve.new.self.histories.statistics i.classes.items
-    c.create_all.ensures.layout (ap (λ (t : Times). t.histories.statistics) c.reserve.ensures.same) c.self.invariant
+invariant_of-self-in-Err c = rw (c.create_all.ensures.layout, ap (λ (t : Times). t.histories.statistics) c.reserve.ensures.same) c.self.invariant

@@ -1,9 +1,8 @@
-use Rattle.std.proofs.Common.{rules, ◌≡◌, ℤ, Some, Err, sym, subst, to_z, of_z, w64, refl}
+use Rattle.std.proofs.Common.{rules, ◌≡◌, ℤ, Some, Err, sym, subst, to_z, of_z, w64}
 use Rattle.std.specs.Prelude.{slice_get}
 use Rattle.ss_machine_world.proofs.Common.{attribute_noted, HasChanged, Integer, modes_of, OfAttribute, Seen, value_in, Whole}
 use Rattle.ss_machine_world.proofs.Noting.{attribute_not, noted_statistics}
 use Rattle.ss_machine_world.proofs.Starting.{seen_of}
-use Rattle.ss_machine_world.proofs.Said.{said_still}
 use Rattle.ss_machine_world.proofs.world.World.note_attribute.Goals as goal
 
 pub returns-in-Err : goal.returns-in-Err
@@ -17,7 +16,4 @@ returns-in-Err c =
     subst (λ (old : Seen). HasChanged (attribute_noted class field x) old old (Err k)) c.self.view_is (attribute_not e class field x mode k is)
 
 pub invariant_of-self : goal.invariant_of-self
-invariant_of-self c =
-    let i = c.self.inside in let ss = i.timeline.histories.statistics in
-    said_still i.population.layout i.population.layout i.notices.items ss c.note.new.self.histories.statistics i.classes.items
-    refl (noted_statistics (OfAttribute c.args.class c.args.field) (to_z w64 (of_z w64 c.args.entity)) (Whole (to_z w64 (of_z w64 c.in-Ok.value))) i.timeline c.note.new.self c.note.result c.note.ensures) c.self.invariant
+invariant_of-self c = rw (noted_statistics (OfAttribute c.args.class c.args.field) (to_z w64 (of_z w64 c.args.entity)) (Whole (to_z w64 (of_z w64 c.in-Ok.value))) c.self.inside.timeline c.note.new.self c.note.result c.note.ensures) c.self.invariant
