@@ -4,11 +4,8 @@ use Rattle.ss_machine_notices.proofs.Common.{IsNoticeMade, IsSettledIn, number_o
 use Rattle.ss_machine_notices.proofs.Giving.{create_class, create_single, gives_after, made, not_made}
 use Rattle.ss_machine_notices.proofs.scheduling.new_notice.Goals as goal
 
-pub create-requires-clause-class : goal.create-requires-clause-class
-create-requires-clause-class c = create_class c.args.what.class c.args.what.noted c.args.what.from c.args.given c.args.rows.now c.args.world.now c.requires c.args.time
-
-pub create-requires-clause-single : goal.create-requires-clause-single
-create-requires-clause-single c = create_single c.args.what.class c.args.what.noted c.args.what.from c.args.given c.args.rows.now c.args.world.now c.requires c.args.time
+pub create-requires : goal.create-requires
+create-requires c = record { class = create_class c.requires; single = create_single c.requires }
 
 pub returns-in-Err : goal.returns-in-Err
 returns-in-Err c = λ g. not_made c.args.what.class c.args.what.noted c.args.what.from c.args.given c.args.rows.now c.args.world.now g c.args.time c.create.new.self c.in-Err.refused c.in-Err.ensures
