@@ -87,9 +87,7 @@ returns-in-Ok-receive c = λ w core all n.
     let at = entry_read w core c.args.here s c.args.cell c.args.notice c.args.class n es k d all rank c.index-events-rank.is in
     let here : slice_get s1.world.notices k ≡ Some n.coming.ranked.said = ap (slice_get s1.world.notices) rank ∙ ap (λ (t : State). slice_get t.world.notices n.coming.ranked.rank) enters.is ∙ begun_said w core c.args.here s c.args.cell c.args.notice c.args.class n in
     let same : to_z w64 (of_z w64 x) ≡ x = search rules in
-    let got =
-    subst (λ (ms : List Mode). HasReceived n.coming.ranked.said class x ms frame s1 c.receive.new.state (Ok tt)) c.deref.ensures.value
-    (subst (λ (y : ℤ). HasReceived n.coming.ranked.said class y c.deref.result.now frame s1 c.receive.new.state (Ok tt)) same (c.in-Ok-receive.ensures n.coming.ranked.said here)) in
+    let got : HasReceived n.coming.ranked.said class x d.given.items frame s1 c.receive.new.state (Ok tt) = simp (same, c.deref.ensures.value) at (c.in-Ok-receive.ensures n.coming.ranked.said here) in
     begins w core c.args.here s c.args.cell c.args.notice c.args.class n d at s1 frame enters c.receive.new.state got (begun_event_at c.args.here c.args.cell (Some d.place)) (ap (λ (f : ℕ). let h : Here = record { place = d.place; frame = f } in Some h) (sym enters.begin)) (omega (arith, enters.begin))
 
 pub returns-in-Err : goal.returns-in-Err
@@ -101,9 +99,7 @@ returns-in-Err c = λ w core all n.
     let at = entry_read w core c.args.here s c.args.cell c.args.notice c.args.class n es k d all rank c.index-events-rank.is in
     let here : slice_get s1.world.notices k ≡ Some n.coming.ranked.said = ap (slice_get s1.world.notices) rank ∙ ap (λ (t : State). slice_get t.world.notices n.coming.ranked.rank) enters.is ∙ begun_said w core c.args.here s c.args.cell c.args.notice c.args.class n in
     let same : to_z w64 (of_z w64 x) ≡ x = search rules in
-    let got =
-    subst (λ (ms : List Mode). HasReceived n.coming.ranked.said class x ms frame s1 c.receive.new.state (Err c.in-Err.kind)) c.deref.ensures.value
-    (subst (λ (y : ℤ). HasReceived n.coming.ranked.said class y c.deref.result.now frame s1 c.receive.new.state (Err c.in-Err.kind)) same (c.in-Err.ensures n.coming.ranked.said here)) in
+    let got : HasReceived n.coming.ranked.said class x d.given.items frame s1 c.receive.new.state (Err c.in-Err.kind) = simp (same, c.deref.ensures.value) at (c.in-Err.ensures n.coming.ranked.said here) in
     let kept = receives_not n.coming.ranked.said class x d.given.items frame s1 c.receive.new.state c.in-Err.kind got in
     let still : slice_get c.receive.new.state.world.notices k ≡ Some n.coming.ranked.said = ap (λ (e : Seen). slice_get e.notices k) kept ∙ here in
     begins_fault w core c.args.here s c.args.cell c.args.notice c.args.class n d at s1 frame enters c.receive.new.state c.in-Err.kind got c.fault_of_event.new.state (begun_event_at c.args.here c.args.cell c.fault_of_event.result) (c.fault_of_event.ensures.state n.coming.ranked.said still) (ap (begun_event_at c.args.here c.args.cell) c.fault_of_event.ensures.none)

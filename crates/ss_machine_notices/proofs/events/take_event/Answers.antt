@@ -1,4 +1,4 @@
-use Rattle.std.proofs.Common.{Option, rules, ◌≡◌, ℤ, Some, None, true, false, ap, sym, ◌∙◌, subst, to_z, of_z, w64}
+use Rattle.std.proofs.Common.{Option, rules, ◌≡◌, ℤ, Some, None, true, ap, sym, ◌∙◌, subst, to_z, of_z, w64}
 use Rattle.ss_machine_notices.proofs.Common.{act, frame_small, HasOneTick, Here, is_due, IsNextEvent, IsNextNotice, least_event, living, Seen, State}
 use Rattle.ss_code_instructions.specs.declared.instruction.Instruction.TheVariants.{TakeEvent as Runs}
 use Rattle.ss_machine_instructions.specs.Ways.{led, begun_event_at, led_to}

@@ -1,4 +1,4 @@
-use Rattle.std.proofs.Common.{rules, ◌≡◌, ℤ, subst, to_z, of_z, w64, ap}
+use Rattle.std.proofs.Common.{rules, ◌≡◌, to_z, of_z, w64, ap}
 use Rattle.ss_machine_notices.proofs.Common.{frame_small, IsSettledWithMemory, on_after, rescheduled, Whole}
 use Rattle.ss_machine_notices.proofs.Notices.{again_in, again_room, again_gives, reschedules}
 use Rattle.ss_machine_notices.proofs.scheduling.reschedule.Goals as goal
@@ -22,7 +22,5 @@ returns c = λ w core r.
     let same : to_z w64 (of_z w64 t) ≡ t = search rules in
     let same_n : to_z w64 (of_z w64 n) ≡ n = search rules in
     let g = again_gives r c.cell-from.result c.cell-from.ensures in
-    let did =
-    subst (λ (x : ℤ). IsSettledWithMemory core.store (rescheduled c.args.values.class (Whole x) g.values t) c.args.state.now.world e q) same_n
-    (subst (λ (y : ℤ). IsSettledWithMemory core.store (rescheduled c.args.values.class (Whole (to_z w64 (of_z w64 n))) g.values y) c.args.state.now.world e q) same (c.schedule_again-answer.ensures g)) in
+    let did : IsSettledWithMemory core.store (rescheduled c.args.values.class (Whole n) g.values t) c.args.state.now.world e q = simp (same, same_n) at (c.schedule_again-answer.ensures g) in
     reschedules r c.cell-from.result c.cell-from.ensures n t e q c.settled.new.state (on_after c.args.here c.settled.result) c.number-notice.ensures c.number_at-time.ensures did c.settled.ensures.state (ap (on_after c.args.here) c.settled.ensures.way)
