@@ -1,4 +1,4 @@
--- Items of lists that are cut, joined, turned and written to.
+-- Items of lists that are cut and written to.
 use Rattle.std.proofs.Common.{◌≡◌, ◌≢◌, ℕ, zero, suc, ◌+◌, ◌-◌, ◌<◌, ◌≤◌, List, [], ◌∷◌, ◌++◌, length, take, drop, Some, refl, ap, arith}
 use Rattle.std.specs.Prelude.{slice_get, slice_set, ℤ}
 pub use Rattle.std.proofs.lemmas.List.{length-set as set_length}
