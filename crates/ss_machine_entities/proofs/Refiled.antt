@@ -1,5 +1,5 @@
 -- Filing and removing change the members of sets alone.
-use Rattle.std.proofs.Common.{◌≡◌, ℕ, ℤ, Bool, true, false, List, [], ◌∷◌, ◌++◌, Ok, Err, refl, ap, ◌∙◌, subst}
+use Rattle.std.proofs.Common.{◌≡◌, ℕ, ℤ, Bool, true, false, List, [], ◌∷◌, ◌++◌, Ok, Err, refl, ap, subst}
 use Rattle.std.specs.Prelude.{pos, negsuc, zero, suc, if◌then◌else◌, MatchResult, Result as OkOr}
 use Rattle.ss_base.specs.declared.fault.FaultKind.{FaultKind}
 use Rattle.ss_base.specs.declared.fault.FaultKind.TheVariants.{FiledTwice, NotFiled}
@@ -13,44 +13,36 @@ use Rattle.ss_machine_entities.proofs.Counting.{Keeps, keeps_same, keeps_done, k
 
 -- ## Parts of what is done
 
-and_then_ok : {A B : Type 0} (r : OkOr A FaultKind) (f : A → OkOr B FaultKind) (b : B) → and_then r f ≡ Ok b → (a : A) × (r ≡ Ok a) × (f a ≡ Ok b)
-and_then_ok (Ok a) f b e = (a, refl, e)
-and_then_ok (Err k) f b e = absurd cc
+-- what holds of all that comes of the second part holds of all that comes of both
+when_ok : {A B : Type 0} (P : B → Type 0) (r : OkOr A FaultKind) (f : A → OkOr B FaultKind) → ((a : A) (b : B) → f a ≡ Ok b → P b) → (b : B) → and_then r f ≡ Ok b → P b
+when_ok P (Ok a) f h b e = h a b e
+when_ok P (Err k) f h b e = absurd cc
 
-ok_state : {x y : State} → (let r : OkOr State FaultKind = Ok x in r ≡ Ok y) → x ≡ y
-ok_state e = cc
+-- the lists alone change, if anything does
+abbrev Lists : State → State → Type 0
+Lists st t = t ≡ record st { lists = t.lists }
 
-listed : (st t : State) (l : List Members) → (let r : OkOr State FaultKind = Ok (record st { lists = l }) in r ≡ Ok t) → t ≡ record st { lists = t.lists }
-listed st t l e = subst (λ (y : State). y ≡ record st { lists = y.lists }) (ok_state e) refl
+listed : (st t : State) (l : List Members) → (let r : OkOr State FaultKind = Ok (record st { lists = l }) in r ≡ Ok t) → Lists st t
+listed st t l e = let same : record st { lists = l } ≡ t = cc in subst (Lists st) same refl
 
-put_kept : (b : Bool) (st t : State) (l : List Members) → (if b then Err FiledTwice else Ok (record st { lists = l })) ≡ Ok t → t ≡ record st { lists = t.lists }
-put_kept true st t l e = absurd cc
-put_kept false st t l e = listed st t l e
-
-beside_kept : (a b : Bool) (st t : State) (l : List Members) → (if a then Err FiledTwice else (if b then Ok (record st { lists = l }) else Err NotFiled)) ≡ Ok t → t ≡ record st { lists = t.lists }
-beside_kept true b st t l e = absurd cc
-beside_kept false true st t l e = listed st t l e
-beside_kept false false st t l e = absurd cc
-
-out_kept : (b : Bool) (st t : State) (l : List Members) → (if b then Ok (record st { lists = l }) else Err NotFiled) ≡ Ok t → t ≡ record st { lists = t.lists }
-out_kept true st t l e = listed st t l e
-out_kept false st t l e = absurd cc
+put_kept : (a b : Bool) (st t : State) (l : List Members) → (if a then Err FiledTwice else (if b then Ok (record st { lists = l }) else Err NotFiled)) ≡ Ok t → Lists st t
+put_kept true b st t l e = absurd cc
+put_kept false true st t l e = listed st t l e
+put_kept false false st t l e = absurd cc
 
 -- ## Filing and removing
 
 module _ (st t : State) (s : ℕ) (o x : ℤ) where
-  put_refiled : (put : ℕ → List ℕ → List ℕ) → and_then (joiner st s x) (λ n. and_then (owner st s o) (λ m. put_in put st s m n)) ≡ Ok t → t ≡ record st { lists = t.lists }
+  put_refiled : (put : ℕ → List ℕ → List ℕ) → and_then (joiner st s x) (λ n. and_then (owner st s o) (λ m. put_in put st s m n)) ≡ Ok t → Lists st t
   put_refiled put e =
-      let a = and_then_ok (joiner st s x) (λ n. and_then (owner st s o) (λ m. put_in put st s m n)) t e in
-      let b = and_then_ok (owner st s o) (λ m. put_in put st s m a.0) t a.2 in
-      put_kept (is_filed st.lists s a.0) st t (with_members st.lists s b.0 (put a.0 (members_of st.lists s b.0))) b.2
+      when_ok (Lists st) (joiner st s x) (λ n. and_then (owner st s o) (λ m. put_in put st s m n))
+      (λ n. when_ok (Lists st) (owner st s o) (λ m. put_in put st s m n) (λ m t. put_kept (is_filed st.lists s n) true st t (with_members st.lists s m (put n (members_of st.lists s m))))) t e
 
-  beside_refiled : (put : ℕ → ℕ → List ℕ → List ℕ) (y : ℤ) → and_then (joiner st s x) (λ n. and_then (joiner st s y) (λ k. and_then (owner st s o) (λ m. put_beside put st s m n k))) ≡ Ok t → t ≡ record st { lists = t.lists }
+  beside_refiled : (put : ℕ → ℕ → List ℕ → List ℕ) (y : ℤ) → and_then (joiner st s x) (λ n. and_then (joiner st s y) (λ k. and_then (owner st s o) (λ m. put_beside put st s m n k))) ≡ Ok t → Lists st t
   beside_refiled put y e =
-      let a = and_then_ok (joiner st s x) (λ n. and_then (joiner st s y) (λ k. and_then (owner st s o) (λ m. put_beside put st s m n k))) t e in
-      let b = and_then_ok (joiner st s y) (λ k. and_then (owner st s o) (λ m. put_beside put st s m a.0 k)) t a.2 in
-      let d = and_then_ok (owner st s o) (λ m. put_beside put st s m a.0 b.0) t b.2 in
-      beside_kept (is_filed st.lists s a.0) (contains (members_of st.lists s d.0) b.0) st t (with_members st.lists s d.0 (put b.0 a.0 (members_of st.lists s d.0))) d.2
+      when_ok (Lists st) (joiner st s x) (λ n. and_then (joiner st s y) (λ k. and_then (owner st s o) (λ m. put_beside put st s m n k)))
+      (λ n. when_ok (Lists st) (joiner st s y) (λ k. and_then (owner st s o) (λ m. put_beside put st s m n k))
+      (λ k. when_ok (Lists st) (owner st s o) (λ m. put_beside put st s m n k) (λ m t. put_kept (is_filed st.lists s n) (contains (members_of st.lists s m) k) st t (with_members st.lists s m (put k n (members_of st.lists s m)))))) t e
 
   pub first_refiled : filed_first st s o x ≡ Ok t → t ≡ record st { lists = t.lists }
   first_refiled e = put_refiled (λ y l. y ∷ l) e
@@ -71,33 +63,31 @@ module _ (st t : State) (s : ℕ) (o x : ℤ) where
 
   pub out_refiled : removed st s o x ≡ Ok t → t ≡ record st { lists = t.lists }
   out_refiled e =
-      let a = and_then_ok (joiner st s x) (λ n. and_then (owner st s o) (λ m. taken_out st s m n)) t e in
-      let b = and_then_ok (owner st s o) (λ m. taken_out st s m a.0) t a.2 in
-      out_kept (contains (members_of st.lists s b.0) a.0) st t (with_members st.lists s b.0 (less a.0 (members_of st.lists s b.0))) b.2
+      when_ok (Lists st) (joiner st s x) (λ n. and_then (owner st s o) (λ m. taken_out st s m n))
+      (λ n. when_ok (Lists st) (owner st s o) (λ m. taken_out st s m n) (λ m t. put_kept false (contains (members_of st.lists s m) n) st t (with_members st.lists s m (less n (members_of st.lists s m))))) t e
 
 module _ (st t : State) (s : ℕ) (o x : ℤ) where
-  abbrev state_of : OkOr (ℤ × State) FaultKind → State
-  state_of (Ok p) = p.1
-  state_of (Err k) = t
+  rest_refiled : (y : ℤ) → and_then {B = ℤ × State} (removed st s o y) (λ u. Ok (y, u)) ≡ Ok (x, t) → Lists st t
+  rest_refiled y e = by (removed st s o y) (λ u. out_refiled st u s o y) e
+    where
+      by : (r : OkOr State FaultKind) → ((u : State) → r ≡ Ok u → Lists st u) → and_then {B = ℤ × State} r (λ u. Ok (y, u)) ≡ Ok (x, t) → Lists st t
+      by (Ok u) h e = subst (Lists st) (ap (state_with t) e) (h u refl)
+      by (Err k) h e = absurd cc
 
-  paired : (y : ℤ) (u : State) → (let r : OkOr (ℤ × State) FaultKind = Ok (y, u) in r ≡ Ok (x, t)) → u ≡ t
-  paired y u e = ap state_of e
-
-  rest_refiled : (y : ℤ) → and_then {B = ℤ × State} (removed st s o y) (λ u. Ok (y, u)) ≡ Ok (x, t) → t ≡ record st { lists = t.lists }
-  rest_refiled y e =
-      let a = and_then_ok {B = ℤ × State} (removed st s o y) (λ u. Ok (y, u)) (x, t) e in
-      out_refiled st t s o y (a.1 ∙ ap Ok (paired y a.0 a.2))
-
-  take_refiled : (y : ℤ) → take st s o y ≡ Ok (x, t) → t ≡ record st { lists = t.lists }
+  take_refiled : (y : ℤ) → take st s o y ≡ Ok (x, t) → Lists st t
   take_refiled (pos zero) e = absurd cc
   take_refiled (pos (suc n)) e = rest_refiled (pos (suc n)) e
   take_refiled (negsuc k) e = rest_refiled (negsuc k) e
 
+  drawn_refiled : (r : OkOr ℤ FaultKind) → and_then r (take st s o) ≡ Ok (x, t) → Lists st t
+  drawn_refiled (Ok y) e = take_refiled y e
+  drawn_refiled (Err k) e = absurd cc
+
   pub first_out_refiled : first_removed st s o ≡ Ok (x, t) → t ≡ record st { lists = t.lists }
-  first_out_refiled e = let a = and_then_ok (first_in st s o) (take st s o) (x, t) e in take_refiled a.0 a.2
+  first_out_refiled e = drawn_refiled (first_in st s o) e
 
   pub last_out_refiled : last_removed st s o ≡ Ok (x, t) → t ≡ record st { lists = t.lists }
-  last_out_refiled e = let a = and_then_ok (last_in st s o) (take st s o) (x, t) e in take_refiled a.0 a.2
+  last_out_refiled e = drawn_refiled (last_in st s o) e
 
 -- ## What they keep
 

@@ -1,11 +1,10 @@
 -- The values that attributes have now, as ties.
-use Rattle.std.proofs.Common.{◌≡◌, ℕ, zero, suc, ◌<◌, ℤ, Bool, true, List, [], ◌∷◌, ◌++◌, length, Ok, Err, refl, ap, sym, ◌∙◌, arith}
+use Rattle.std.proofs.Common.{◌≡◌, ℕ, zero, suc, ◌<◌, ℤ, true, List, [], ◌∷◌, ◌++◌, length, Ok, Err, refl, ap, sym, ◌∙◌, arith}
 use Rattle.std.specs.Prelude.{pos, slice_get, slice_index_or, is_some, Result as OkOr}
 use Rattle.std.specs.List.{All}
 use Rattle.std.proofs.lemmas.List.{append_assoc}
 use Rattle.std.proofs.lemmas.List.Elements.{All-head, All-tail}
 use Rattle.ss_base.specs.declared.fault.FaultKind.{FaultKind}
-use Rattle.ss_base.specs.declared.fault.Refused.{Refused}
 use Rattle.ss_base.specs.declared.layout.RankKey.{RankKey}
 use Rattle.ss_base.specs.declared.value.Value.{Value}
 use Rattle.ss_base.specs.declared.value.Value.TheVariants.{Whole}
@@ -16,7 +15,7 @@ use Rattle.ss_meaning.specs.Store.{Store}
 use Rattle.ss_meaning.specs.Entities.{field_at, entity, attribute}
 use Rattle.ss_meaning.specs.Events.{ties_of}
 use Rattle.ss_machine_world.specs.Seen.{Seen, with_seen}
-use Rattle.ss_machine_events.specs.Scheduled.{HasKeyField, IsTied, HasAddedTie}
+use Rattle.ss_machine_events.specs.Scheduled.{HasKeyField}
 
 -- ## An attribute of an entity that is there
 
@@ -59,19 +58,6 @@ module _ (e : Seen) (class : ℕ) (n : ℤ) (s : Store) (within : class < length
           ap (λ (r : OkOr Value Failure). if_ok {B = List Tie} r (λ v. turned (λ ts. record { value = v; high = key.high } ∷ ts) (ties_of class (Whole n) (with_seen s e) keys))) first
               ∙ ap (λ (r : OkOr (List Tie) Failure). turned (λ ts. record { value = v.0; high = key.high } ∷ ts) r) rest.1,
         )
-
--- ## One tie after the other
-
-pub adds_tie : (f : Store → OkOr Value Failure) (v : Value) (high : Bool) (e : Seen) (old new : List Tie) (r : OkOr (Unit {0}) Refused) → ((s : Store) → f (with_seen s e) ≡ Ok v) → IsTied v high old new r → HasAddedTie f high e old new r
-adds_tie f v high e old new (Ok u) found h = (v, h, found)
-adds_tie f v high e old new (Err refused) found h = tt
-
-pub none_frozen : (class : ℕ) (x : Value) (s : Store) (keys : List RankKey) → ties_of class x s keys ≡ turned (λ us. [] ++ us) (ties_of class x s keys)
-none_frozen class x s keys = by (ties_of class x s keys)
-  where
-    by : (r : OkOr (List Tie) Failure) → r ≡ turned {B = List Tie} (λ us. [] ++ us) r
-    by (Ok us) = refl
-    by (Err t) = refl
 
 module _ (class : ℕ) (x : Value) (s : Store) (ts : List Tie) (keys : List RankKey) {key : RankKey} {rest : List RankKey} (next : keys ≡ key ∷ rest) where
   tie_added : (t : Tie) (r : OkOr (List Tie) Failure) → turned {B = List Tie} (λ us. ts ++ us) (turned {B = List Tie} (λ us. t ∷ us) r) ≡ turned (λ us. (ts ++ t ∷ []) ++ us) r

@@ -1,31 +1,17 @@
 -- What passes in time, as a world has it, and as the meaning has it.
-use Rattle.std.proofs.Common.{◌≡◌, ℤ, Bool, true, false, List, Option, Some, None, Ok, Err, refl, ap}
+use Rattle.std.proofs.Common.{◌≡◌, ℤ, Bool, true, false, Option, Some, None, Ok, Err, refl, ap}
 use Rattle.std.specs.Prelude.{int_lt, IsOk, Result as OkOr, if◌then◌else◌}
 use Rattle.ss_base.specs.declared.fault.FaultKind.{FaultKind}
 use Rattle.ss_base.specs.declared.fault.FaultKind.TheVariants.{PastTime}
 use Rattle.ss_base.specs.declared.fault.Refused.{Refused}
 use Rattle.ss_base.specs.declared.fault.Refused.TheVariants.{Fault, Memory}
-use Rattle.ss_base.specs.declared.layout.Discipline.{Discipline}
 use Rattle.ss_world.specs.SortKey.{SortKey}
 use Rattle.ss_world.specs.PendingList.{PendingList, scheduled}
-use Rattle.ss_world.specs.State.{State}
 use Rattle.ss_meaning.specs.Values.{Fails, turned, due, unless_fault}
-use Rattle.ss_meaning.specs.Store.{Notices, Store, with_pending}
+use Rattle.ss_meaning.specs.Store.{Store, with_pending}
 use Rattle.ss_meaning.specs.Events.{not_past}
 use Rattle.ss_machine_time.specs.Times.{Times, HasScheduled, HasTakenNext}
 use Rattle.ss_machine_world.specs.Seen.{Seen, IsRight}
-
--- a world, by what passes in time in it
-abbrev pub timed_as : List Discipline → List Notices → State → Times → Seen
-timed_as ds ns h t = record {
-  disciplines = ds;
-  notices = ns;
-  statistics = t.histories.statistics;
-  heap = h;
-  time = t.time;
-  pending = t.pending;
-  histories = t.histories.rows;
-}
 
 -- a notice comes at a time
 abbrev pub came : (t n : ℤ) → Option (ℤ × ℤ)

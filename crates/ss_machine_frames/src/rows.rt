@@ -36,35 +36,16 @@ pub fn place_of(frame: usize, address: &Address) -> usize
     (frame & address.mask) + address.number
 }
 
-// So many numbers from a place on change their order.
-fn turn_numbers(row: &mut [i64], from: usize, count: usize)
+// So many items of a row from a place on change their order.
+fn turn<T>(row: &mut [T], from: usize, count: usize)
     requires { from + count ≤ length row.old }
     ensures { IsTurned row.old row.new from count }
 {
     row[from..from + count].reverse();
 }
 
-// So many texts from a place on change their order.
-fn turn_texts(row: &mut [Alpha], from: usize, count: usize)
-    requires { from + count ≤ length row.old }
-    ensures { IsTurned row.old row.new from count }
-{
-    row[from..from + count].reverse();
-}
-
-// So many numbers from a place on go down to another one.
-fn move_numbers(row: &mut [i64], from: usize, to: usize, count: usize)
-    requires down { to ≤ from }
-    requires within { from + count ≤ length row.old }
-    ensures { IsMovedDown row.old row.new from to count }
-{
-    for i in 0..count {
-        row[to + i] = row[from + i];
-    }
-}
-
-// So many texts from a place on go down to another one.
-fn move_texts(row: &mut [Alpha], from: usize, to: usize, count: usize)
+// So many items of a row from a place on go down to another one.
+fn move_down<T: Copy>(row: &mut [T], from: usize, to: usize, count: usize)
     requires down { to ≤ from }
     requires within { from + count ≤ length row.old }
     ensures { IsMovedDown row.old row.new from to count }
@@ -252,9 +233,9 @@ impl Rows {
         requires within { from + count ≤ length self.old.numbers }
         ensures { AreYielded self.old self.new from to count }
     {
-        turn_numbers(&mut self.numbers, from, count);
-        turn_texts(&mut self.texts, from, count);
-        move_numbers(&mut self.numbers, from, to, count);
-        move_texts(&mut self.texts, from, to, count);
+        turn(&mut self.numbers, from, count);
+        turn(&mut self.texts, from, count);
+        move_down(&mut self.numbers, from, to, count);
+        move_down(&mut self.texts, from, to, count);
     }
 }

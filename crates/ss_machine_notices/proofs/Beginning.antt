@@ -1,6 +1,6 @@
 -- An event begins: the notice that comes next is taken out, and let go.
-use Rattle.std.proofs.Common.{◌≡◌, ℕ, zero, suc, ◌+◌, ◌<◌, ◌≤◌, ◌^◌, ℤ, Bool, true, false, List, [], ◌∷◌, Option, Some, None, Ok, Err, refl, sym, ap, ◌∙◌, arith}
-use Rattle.ss_machine_notices.proofs.Common.{act, class_of_record, ComingAs, eqb-true, FaultKind, HasLetGo, HasLetGoThen, HasReceived, Here, IsNextEvent, IsNextNotice, least_event, living, Mode, next_event_there, none-some, notices_seen, one, one_tick_at, Seen, seen_is, State, take_next, TakeEvent, There, Whole, with_seen, WrongClass}
+use Rattle.std.proofs.Common.{◌≡◌, ℕ, zero, suc, ◌+◌, ◌<◌, ◌≤◌, ◌^◌, ℤ, Bool, true, false, List, [], ◌∷◌, get_or, length, Option, Some, None, Ok, Err, refl, sym, ap, ◌∙◌, arith}
+use Rattle.ss_machine_notices.proofs.Common.{act, class_of_record, ComingAs, eqb-true, FaultKind, HasLetGo, HasLetGoThen, HasReceived, Here, IsNextEvent, IsNextNotice, least_event, living, Mode, next_event_there, none-some, notices_seen, one, one_tick_at, Seen, seen_is, slice_get_read, State, take_next, TakeEvent, There, Whole, with_seen, WrongClass}
 use Rattle.std.specs.Prelude.{◌==◌, if◌then◌else◌, pos, negsuc, IfSome, is_some, slice_get, Result as OkOr}
 use Rattle.ss_code_instructions.specs.States.{Core, To, core_at}
 use Rattle.ss_machine_instructions.proofs.Placing.{located, site, goes_with}
@@ -10,6 +10,11 @@ use Rattle.ss_world.specs.State.{and_then, kind_of, Record, State as Heap, issue
 use Rattle.ss_meaning.specs.Events.{Ranked, ranked_from, ranked, Coming, at_event, ranked_as, coming_as, coming_with, is_awaited, next_event}
 use Rattle.ss_machine_frames.proofs.Writing.{cells_held}
 use Rattle.ss_machine_instructions.specs.Ways.{at_place, on_at}
+
+-- what is read at a rank is what the program says there
+pub read_said : (es ns : List Notices) (rank : ℕ) (d said : Notices) → es ≡ ns → rank < length ns → d ≡ get_or es rank d → slice_get ns rank ≡ Some said → d ≡ said
+read_said es ns rank d said same lt read here =
+    one (sym (slice_get_read es (length es) rank d refl (omega (arith, lt, ap length same)) read) ∙ ap (λ ns. slice_get ns rank) same ∙ here)
 
 -- ## Letting a notice go
 

@@ -1,6 +1,6 @@
 -- What is known where an event begins: its rank, its entry, and its notice.
 use Rattle.std.proofs.Common.{◌≡◌, ℕ, zero, suc, ◌+◌, ◌<◌, ◌≤◌, ◌^◌, ℤ, true, List, [], ◌∷◌, get_or, length, Option, Some, None, refl, sym, ap, ◌∙◌, subst, arith}
-use Rattle.ss_machine_notices.proofs.Common.{class_said, comes_singly, Coming, coming_with, Compiled, Core, EntryPoint, field_said, frame_small, HasField, Here, IfSome, Integer, is_single, is_some, IsFittingStore, IsNextEvent, least_event, located, Mode, mode_of, Notice, Notices, SectionEntry, site, slice_get, slice_get_read, slice_get_within, State, Store, TakeEvent, There, Value, with_seen}
+use Rattle.ss_machine_notices.proofs.Common.{class_said, comes_singly, Coming, coming_with, Compiled, Core, EntryPoint, field_said, frame_small, HasField, Here, IfSome, Integer, is_single, is_some, IsFittingStore, IsNextEvent, least_event, located, Mode, mode_of, Notice, Notices, one, SectionEntry, Seen, site, slice_get, slice_get_read, slice_get_within, State, Store, TakeEvent, There, Value, with_seen}
 use Rattle.ss_machine_frames.proofs.Reading.{hold_length, above_constants, found_in}
 use Rattle.ss_program.specs.Program.{Program, Event}
 use Rattle.ss_program.specs.WellTyped.{field_mode, kind_of_class, IsTypedEvent, IsPlain}
@@ -11,6 +11,8 @@ use Rattle.ss_meaning.proofs.Events.{ComingAs, fields_are, next_event_there}
 use Rattle.ss_meaning.proofs.Lists.{every_get}
 use Rattle.ss_code_instructions.specs.Machine.{Code}
 use Rattle.ss_code_instructions.specs.Translation.{main_code, all_routines, prints_before_events, event_entry, event_entries, event_code, block_prints}
+use Rattle.ss_machine_notices.specs.Beginning.{CanLetGo}
+use Rattle.ss_machine_notices.proofs.Beginning.{saved_within}
 use Rattle.ss_machine_events.proofs.Filing.{said_there}
 use Rattle.ss_machine_instructions.proofs.Calling.{HasEntry, has_entry}
 
@@ -109,6 +111,16 @@ module _ (w : Compiled) (c : Core) (here : Here) (s : State) (cell : ℕ) (x : �
       by (Some k) h =
           let lt = slice_get_within w.program.globals k Integer h.0 in
           omega (arith, lt, globals_long, above_constants (site w c here n.before (TakeEvent cell) n.ready) (located w c here n.before (TakeEvent cell) n.ready))
+
+  -- it can be let go in a world that is the same, with rows that reach as far as the frame
+  pub can_let_go : (e : Seen) (k limit : ℕ) → e ≡ s.world → k ≡ n.coming.ranked.rank → here.frame ≤ limit → CanLetGo e k class limit
+  can_let_go e k limit same rank le =
+      subst (λ (e : Seen). CanLetGo e k class limit) (sym same) (subst (λ (k : ℕ). CanLetGo s.world k class limit) (sym rank) (record {
+        rank = begun_rank;
+        class = begun_class;
+        single = begun_single;
+        saved = λ said at. saved_within said.saved here.frame limit le (subst (λ (m : Notices). IfSome m.saved (λ k. k < here.frame)) (one (sym begun_said ∙ at)) begun_saved);
+      }))
 
   -- it holds a number
   pub begun_saving : IfSome n.coming.ranked.said.saved (λ k. (old : Value) × (slice_get c.store.globals k ≡ Some old) × (mode_of old ≡ Integer))

@@ -45,7 +45,7 @@ pub use Rattle.ss_machine_world.specs.Numbers.{attribute_noted}
 pub use Rattle.ss_machine_world.specs.Seen.{HasAnswer, HasChanged, HasChangedWithMemory, HasRearranged, IsRight, Seen, as_value, with_seen}
 pub use Rattle.ss_meaning.proofs.Entities.{HasField, class_said, field_said}
 pub use Rattle.ss_meaning.proofs.Events.{ComingAs, next_event_there}
-pub use Rattle.ss_meaning.proofs.Fine.{Fine, There}
+pub use Rattle.ss_meaning.proofs.Fine.{There}
 pub use Rattle.ss_meaning.specs.Entities.{comes_singly, gone, is_single}
 pub use Rattle.ss_meaning.specs.Events.{Beginning, Coming, attributes_given, coming_with, filed_notice, not_past, prepared, rescheduled, unscheduled}
 pub use Rattle.ss_meaning.specs.Fitting.{IsFittingStore, class_of_record, living}
@@ -60,4 +60,4 @@ pub use Rattle.ss_world.specs.PendingList.{is_pending, least_event}
 pub use Rattle.ss_world.specs.State.{and_then, known_in, modes_of, timed, value_in}
 pub use Rattle.std.proofs.lemmas.Bool.{eq-eqb, eqb-true}
 pub use Rattle.std.proofs.lemmas.Option.{none-some, slice_get-map, slice_get_read, slice_get_within}
-pub use Rattle.std.specs.Prelude.{IfSome, MatchResult, is_some, pos, slice_get, slice_set}
+pub use Rattle.std.specs.Prelude.{IfSome, is_some, pos, slice_get, slice_set}

@@ -28,6 +28,7 @@ use Rattle.ss_machine_frames.proofs.Places.{all_get}
 use Rattle.ss_machine_world.proofs.Composing.{assigned_noted}
 use Rattle.ss_machine_world.proofs.Reading.{set_once}
 use Rattle.ss_machine_world.proofs.Leaving.{there_in}
+use Rattle.ss_machine_world.proofs.Said.{drop_one}
 
 -- ## Modes
 
@@ -69,13 +70,9 @@ suiting_as class field notes v u e g right = record {
 }
 
 -- what the machine's call says
-pub number_set : (e : Seen) (class field : ℕ) (n z : ℤ) (h : State) (r : OkOr (Unit {0}) FaultKind) → MatchResult r (λ _. IsAssigned e.heap class field n z h) (λ k. (assigned e.heap class field n (Whole z) ≡ Err k) × (h ≡ e.heap)) → h.layout ≡ e.heap.layout → HasSetField class field n (Whole z) e (record e { heap = h }) r
-number_set e class field n z h (Ok u) done layout = (done.gives, layout, refl)
-number_set e class field n z h (Err k) done layout = (done.0, ap (λ (h : State). record e { heap = h }) done.1)
-
-pub number_read : (e : Seen) (class field : ℕ) (n z : ℤ) (h : State) (r : OkOr (Unit {0}) FaultKind) → MatchResult r (λ _. IsAssigned e.heap class field n z h) (λ k. (assigned e.heap class field n (Whole z) ≡ Err k) × (h ≡ e.heap)) → IsReadBack class field n (Whole z) (record e { heap = h }) r
-number_read e class field n z h (Ok u) done = done.reads
-number_read e class field n z h (Err k) done = tt
+pub number_set : (e : Seen) (class field : ℕ) (n z : ℤ) (h : State) (r : OkOr (Unit {0}) FaultKind) → MatchResult r (λ _. IsAssigned e.heap class field n z h) (λ k. (assigned e.heap class field n (Whole z) ≡ Err k) × (h ≡ e.heap)) → h.layout ≡ e.heap.layout → HasSetField class field n (Whole z) e (record e { heap = h }) r × IsReadBack class field n (Whole z) (record e { heap = h }) r
+number_set e class field n z h (Ok u) done layout = ((done.gives, layout, refl), done.reads)
+number_set e class field n z h (Err k) done layout = ((done.0, ap (λ (h : State). record e { heap = h }) done.1), tt)
 
 pub value_set : (e : Seen) (class field : ℕ) (n : ℤ) (v : Value) (h : State) (r : OkOr (Unit {0}) FaultKind) → MatchResult r (λ _. assigned e.heap class field n v ≡ Ok h) (λ k. (assigned e.heap class field n v ≡ Err k) × (h ≡ e.heap)) → h.layout ≡ e.heap.layout → HasSetField class field n v e (record e { heap = h }) r
 value_set e class field n v h (Ok u) done layout = (done, layout, refl)
@@ -157,15 +154,21 @@ module _ (class field : ℕ) (n : ℤ) (v : Value) (notes : Bool) (e : Seen) (g 
 
 -- ## All of them
 
+module _ {class : ℕ} {notes : Bool} {from given : ℕ} {rows : TwoRows} {old : Seen} (g : HasGivenValues class notes from given rows old) where
+  pub create_class : class < length old.heap.layout.classes
+  create_class =
+      let c = class_said g.program class Notice g.notice in
+      slice_get_within old.heap.layout.classes class c.0 (ap (λ l. slice_get l.classes class) g.fits.sound.world.layout ∙ c.1)
+
+  pub create_single : is_single (slice_get old.heap.layout.classes class) ≡ true
+  create_single =
+      let c = class_said g.program class Notice g.notice in
+      ap (λ l. is_single (slice_get l.classes class)) g.fits.sound.world.layout ∙ ap is_single c.1 ∙ ap comes_singly c.2
+
 pub got_at : {A : Type 0} (xs : List A) (i : ℕ) → i < length xs → (x : A) × (slice_get xs i ≡ Some x)
 got_at [] i lt = absurd (omega (arith, lt))
 got_at (x ∷ xs) zero lt = (x, refl)
 got_at (x ∷ xs) (suc i) lt = got_at xs i (omega (arith, lt))
-
-drop_got : {A : Type 0} (xs : List A) (i : ℕ) (x : A) → slice_get xs i ≡ Some x → drop i xs ≡ x ∷ drop (suc i) xs
-drop_got [] i x e = absurd cc
-drop_got (y ∷ xs) zero x e = let same : y ≡ x = cc in ap (λ z. z ∷ xs) same
-drop_got (y ∷ xs) (suc i) x e = drop_got xs i x e
 
 module _ (class : ℕ) (n : ℤ) (notes : Bool) (from given : ℕ) (rows : TwoRows) (old : Seen) where
   -- so many attributes are assigned, and the others are still to be
@@ -203,23 +206,17 @@ module _ (class : ℕ) (n : ℤ) (notes : Bool) (from given : ℕ) (rows : TwoRo
       small = omega (arith, lt, g.small);
     }
 
-    step_is : endowed class 0 (Whole n) g.values (with_seen g.store old) ≡ if_ok (assigned_attribute class i (Whole n) next_value.0 (with_seen g.store now)) (endowed class (i + 1) (Whole n) (drop (suc i) g.values))
-    step_is = d.same ∙ ap (λ vs. endowed class i (Whole n) vs (with_seen g.store now)) (drop_got g.values i next_value.0 next_value.1)
-
-    next : suc i ≡ i + 1
-    next = omega arith
+    step_is : endowed class 0 (Whole n) g.values (with_seen g.store old) ≡ if_ok (assigned_attribute class i (Whole n) next_value.0 (with_seen g.store now)) (endowed class (i + 1) (Whole n) (drop (i + 1) g.values))
+    step_is = d.same ∙ ap (λ vs. endowed class i (Whole n) vs (with_seen g.store now)) (drop_one g.values i next_value.0 next_value.1)
 
     pub one_endowed : (new : Seen) → IsSettledIn g.store (assigned_attribute class i (Whole n) next_value.0) now new (Ok tt) → Endowed (i + 1) new g
     one_endowed new did = record {
-      same =
-          step_is
-          ∙ ap (λ q. if_ok q (endowed class (i + 1) (Whole n) (drop (suc i) g.values))) did
-          ∙ ap (λ k. endowed class (i + 1) (Whole n) (drop k g.values) (with_seen g.store new)) next;
+      same = step_is ∙ ap (λ q. if_ok q (endowed class (i + 1) (Whole n) (drop (i + 1) g.values))) did;
       fits = fine_is (IsFittingStore g.program g.modes) (assigned_attribute class i (Whole n) next_value.0 (with_seen g.store now)) (with_seen g.store new) (op_fine class i n next_value.0 notes now gives_one.suits) did;
     }
 
     pub one_not : (new : Seen) (kind : FaultKind) → IsSettledIn g.store (assigned_attribute class i (Whole n) next_value.0) now new (Err kind) → endowed class 0 (Whole n) g.values (with_seen g.store old) ≡ Err (Fails kind)
-    one_not new kind did = step_is ∙ ap (λ q. if_ok q (endowed class (i + 1) (Whole n) (drop (suc i) g.values))) did
+    one_not new kind did = step_is ∙ ap (λ q. if_ok q (endowed class (i + 1) (Whole n) (drop (i + 1) g.values))) did
 
   pub all_endowed : (i : ℕ) (now : Seen) (g : HasGivenValues class notes from given rows old) → Endowed i now g → drop i g.values ≡ [] → endowed class 0 (Whole n) g.values (with_seen g.store old) ≡ Ok (with_seen g.store now)
   all_endowed i now g d none = d.same ∙ ap (λ vs. endowed class i (Whole n) vs (with_seen g.store now)) none
@@ -274,14 +271,9 @@ module _ (class : ℕ) (n : ℤ) (notes : Bool) (from given : ℕ) (rows : TwoRo
 
     -- ## A notice that there is
 
-    class_here : class < length old.heap.layout.classes
-    class_here =
-        let c = class_said g.program class Notice g.notice in
-        slice_get_within old.heap.layout.classes class c.0 (ap (λ l. slice_get l.classes class) g.fits.sound.world.layout ∙ c.1)
-
     again_is : rescheduled class (Whole n) g.values t (with_seen g.store old) ≡ if_ok (due (unpended class n old)) (λ u. refiled class (Whole n) g.values t (with_seen g.store old))
     again_is =
-        ap (λ b. if_ok (where_fit b (turned (λ _. n) (due (known_in old.heap class n)))) then_again) (there_in old.heap.layout.classes class class_here)
+        ap (λ b. if_ok (where_fit b (turned (λ _. n) (due (known_in old.heap class n)))) then_again) (there_in old.heap.layout.classes class (create_class g))
         ∙ by (known_in old.heap class n)
       where
         not_twice : Bool → OkOr (Unit {0}) FaultKind
@@ -315,16 +307,6 @@ module _ (class : ℕ) (n : ℤ) (notes : Bool) (from given : ℕ) (rows : TwoRo
 -- ## A new notice
 
 module _ (class : ℕ) (notes : Bool) (from given : ℕ) (rows : TwoRows) (old : Seen) (g : HasGivenValues class notes from given rows old) (t : ℤ) where
-  pub create_class : class < length old.heap.layout.classes
-  create_class =
-      let c = class_said g.program class Notice g.notice in
-      slice_get_within old.heap.layout.classes class c.0 (ap (λ l. slice_get l.classes class) g.fits.sound.world.layout ∙ c.1)
-
-  pub create_single : is_single (slice_get old.heap.layout.classes class) ≡ true
-  create_single =
-      let c = class_said g.program class Notice g.notice in
-      ap (λ l. is_single (slice_get l.classes class)) g.fits.sound.world.layout ∙ ap is_single c.1 ∙ ap comes_singly c.2
-
   -- what a value and a store are
   abbrev IsFitting : Value × Store → Type 0
   IsFitting b = (mode_of b.0 ≡ Integer) × IsFittingStore g.program g.modes b.1

@@ -11,13 +11,13 @@ use Rattle.ss_meaning.specs.Events.{filed_notice, Moment, AtTime, Later, not_pas
 use Rattle.ss_meaning.specs.Values.{Fails, Failure, if_ok, turned, number_of}
 use Rattle.ss_meaning.proofs.Events.{filed_notice_fine}
 use Rattle.ss_code_instructions.specs.declared.instruction.Instruction.{Instruction as Running}
-use Rattle.ss_code_instructions.specs.Instructions as i
+use Rattle.ss_code_instructions.specs.declared.instruction.Instruction.TheVariants as running
 use Rattle.ss_code_instructions.specs.Instructions.{Operand, Target}
-use Rattle.ss_code_instructions.specs.Carried.{HasOperand, HasTarget, Is, IsOperandAt, IsTargetAt}
+use Rattle.ss_code_instructions.specs.Carried.{IsOperandAt, IsTargetAt}
 use Rattle.ss_machine_frames.proofs.Reading.{only_number, reads, read_within, reads_both, BothWithin, both_within}
 use Rattle.ss_machine_instructions.proofs.Delivering.{delivers, deliver_is, number_right}
 
-module _ (w : Compiled) (c : Core) (here : Here) (s : State) (run : Running) (r : IsReadyFor w c here s run) where
+module _ {w : Compiled} {c : Core} {here : Here} {s : State} {run : Running} (r : IsReadyFor w c here s run) where
   -- ## Times
 
   -- the time of a moment whose number was read
@@ -33,35 +33,10 @@ module _ (w : Compiled) (c : Core) (here : Here) (s : State) (run : Running) (r 
       ∙ deliver_is l target answer one.below c)
       accepts at_to deep (number_right answer) one.modes one.cells
 
-  pub at_in : (time to : Address) → HasOperand w.code w.run.constants r.placed time (λ y. HasTarget w.code w.run.constants r.placed to (λ t. Is w.code w.run.constants r.placed (i.At y t))) → place_at here.frame time < length s.rows.numbers
-  at_in time to z =
-      let y = suits_as w c here s run r z.2.2 in
-      read_within (site w c here s run r) (located w c here s run r) z.0 Integer r.placed.cells y.0 time y.1 z.1 (deep_here w c here s run r)
-
-  pub ats : (time to : Address) (n : ℤ) (answer : OkOr ℤ FaultKind) → HasOperand w.code w.run.constants r.placed time (λ y. HasTarget w.code w.run.constants r.placed to (λ t. Is w.code w.run.constants r.placed (i.At y t))) → slice_get s.rows.numbers (place_at here.frame time) ≡ Some n → HasAnswer (not_past n) s.world answer → IsDelivering w c r.placed.line (act w.code r.placed.line r.placed.instruction c) here s to (as_value answer)
-  ats time to n answer z at looks =
-      let is = z.2.2 in
-      let y = suits_as w c here s run r is in
-      when_delivers AtTime z.0 z.2.0 time to y.0 y.2.0 n answer (ap (λ x. act w.code r.placed.line x c) is) y.1 z.1 y.2.1 z.2.1 (deep_at w c here s run r (c.place + 1) r.placed.locals y.2.0 y.2.2) at looks
-
-  pub in_in : (units to : Address) → HasOperand w.code w.run.constants r.placed units (λ y. HasTarget w.code w.run.constants r.placed to (λ t. Is w.code w.run.constants r.placed (i.In y t))) → place_at here.frame units < length s.rows.numbers
-  in_in units to z =
-      let y = suits_as w c here s run r z.2.2 in
-      read_within (site w c here s run r) (located w c here s run r) z.0 Integer r.placed.cells y.0 units y.1 z.1 (deep_here w c here s run r)
-
-  pub ins : (units to : Address) (n : ℤ) (answer : OkOr ℤ FaultKind) → HasOperand w.code w.run.constants r.placed units (λ y. HasTarget w.code w.run.constants r.placed to (λ t. Is w.code w.run.constants r.placed (i.In y t))) → slice_get s.rows.numbers (place_at here.frame units) ≡ Some n → HasAnswer (time_after n) s.world answer → IsDelivering w c r.placed.line (act w.code r.placed.line r.placed.instruction c) here s to (as_value answer)
-  ins units to n answer z at looks =
-      let is = z.2.2 in
-      let y = suits_as w c here s run r is in
-      when_delivers Later z.0 z.2.0 units to y.0 y.2.0 n answer (ap (λ x. act w.code r.placed.line x c) is) y.1 z.1 y.2.1 z.2.1 (deep_at w c here s run r (c.place + 1) r.placed.locals y.2.0 y.2.2) at looks
-
   -- ## A class of notices
 
-  pub noticed : (class : ℕ) → kind_of_class w.program class ≡ Some Notice → IsNoticeClass s.world class
+  noticed : (class : ℕ) → kind_of_class w.program class ≡ Some Notice → IsNoticeClass s.world class
   noticed class kind = noticed_in w.program r.compiled.typed r.placed.locals s.world c.store class kind r.fits.store (notices_seen w c here s run r) (layout_is w c here s run r)
-
-  pub class_within : (class : ℕ) → kind_of_class w.program class ≡ Some Notice → class < length s.world.heap.layout.classes
-  class_within class kind = (noticed class kind).within
 
   -- ## Where memory may be refused
 
@@ -74,7 +49,7 @@ module _ (w : Compiled) (c : Core) (here : Here) (s : State) (run : Running) (r 
   refuses f e (Err Memory) new result calmly z d same way = calm w c here s run r new result calmly (unmade w c here s run r e new result same way)
 
   -- what holds of each store holds of this one
-  pub in_store : (f : Store → OkOr Store Failure) (e : Seen) (answer : OkOr (Unit {0}) Refused) → HasChangedWithMemory f s.world e answer → IsSettledWithMemory c.store f s.world e answer
+  in_store : (f : Store → OkOr Store Failure) (e : Seen) (answer : OkOr (Unit {0}) Refused) → HasChangedWithMemory f s.world e answer → IsSettledWithMemory c.store f s.world e answer
   in_store f e (Ok u) d = d c.store
   in_store f e (Err (Fault kind)) d = d.0 c.store
   in_store f e (Err Memory) d = λ kind fails. absurd (wrong (f (with_seen c.store s.world)) kind fails (d.0 c.store))
@@ -83,49 +58,84 @@ module _ (w : Compiled) (c : Core) (here : Here) (s : State) (run : Running) (r 
       wrong (Ok t) kind e ok = absurd cc
       wrong (Err t) kind e ok = absurd cc
 
-  -- ## FileNotice
+-- ## At and In
 
-  abbrev pub FilesNotice : (class : ℕ) → (notice time : Address) → Type 0
-  FilesNotice class notice time = HasOperand w.code w.run.constants r.placed notice (λ y. HasOperand w.code w.run.constants r.placed time (λ z. Is w.code w.run.constants r.placed (i.FileNotice class y z)))
+module _ {w : Compiled} {c : Core} {here : Here} {s : State} {time to : Address} (r : IsReadyFor w c here s (running.At time to)) where
+  pub at_in : place_at here.frame time < length s.rows.numbers
+  at_in =
+      let z = r.runs.carries in
+      let y = suits_as w c here s (running.At time to) r z.2.2 in
+      read_within (site w c here s (running.At time to) r) (located w c here s (running.At time to) r) z.0 Integer r.placed.cells y.0 time y.1 z.1 (deep_here w c here s (running.At time to) r)
 
-  pub file_notice_in : (class : ℕ) (notice time : Address) → FilesNotice class notice time → BothWithin (site w c here s run r) (located w c here s run r) notice time × IsNoticeClass s.world class
-  file_notice_in class notice time z =
-      let y = suits_as w c here s run r z.2.2 in (
-        both_within (site w c here s run r) (located w c here s run r) z.0 z.2.0 Integer Integer r.placed.cells y.1.0 notice time y.1.1 z.1 z.2.1 (deep_here w c here s run r),
-        noticed class y.0,
+  pub ats : (n : ℤ) (answer : OkOr ℤ FaultKind) → slice_get s.rows.numbers (place_at here.frame time) ≡ Some n → HasAnswer (not_past n) s.world answer → IsDelivering w c r.placed.line (act w.code r.placed.line r.placed.instruction c) here s to (as_value answer)
+  ats n answer at looks =
+      let z = r.runs.carries in
+      let y = suits_as w c here s (running.At time to) r z.2.2 in
+      when_delivers r AtTime z.0 z.2.0 time to y.0 y.2.0 n answer (ap (λ x. act w.code r.placed.line x c) z.2.2) y.1 z.1 y.2.1 z.2.1 (deep_at w c here s (running.At time to) r (c.place + 1) r.placed.locals y.2.0 y.2.2) at looks
+
+module _ {w : Compiled} {c : Core} {here : Here} {s : State} {units to : Address} (r : IsReadyFor w c here s (running.In units to)) where
+  pub in_in : place_at here.frame units < length s.rows.numbers
+  in_in =
+      let z = r.runs.carries in
+      let y = suits_as w c here s (running.In units to) r z.2.2 in
+      read_within (site w c here s (running.In units to) r) (located w c here s (running.In units to) r) z.0 Integer r.placed.cells y.0 units y.1 z.1 (deep_here w c here s (running.In units to) r)
+
+  pub ins : (n : ℤ) (answer : OkOr ℤ FaultKind) → slice_get s.rows.numbers (place_at here.frame units) ≡ Some n → HasAnswer (time_after n) s.world answer → IsDelivering w c r.placed.line (act w.code r.placed.line r.placed.instruction c) here s to (as_value answer)
+  ins n answer at looks =
+      let z = r.runs.carries in
+      let y = suits_as w c here s (running.In units to) r z.2.2 in
+      when_delivers r Later z.0 z.2.0 units to y.0 y.2.0 n answer (ap (λ x. act w.code r.placed.line x c) z.2.2) y.1 z.1 y.2.1 z.2.1 (deep_at w c here s (running.In units to) r (c.place + 1) r.placed.locals y.2.0 y.2.2) at looks
+
+-- ## FileNotice
+
+module _ {w : Compiled} {c : Core} {here : Here} {s : State} {class : ℕ} {notice time : Address} (r : IsReadyFor w c here s (running.FileNotice class notice time)) where
+  abbrev file_run : Running
+  file_run = running.FileNotice class notice time
+
+  pub file_notice_in : BothWithin (site w c here s file_run r) (located w c here s file_run r) notice time × IsNoticeClass s.world class
+  file_notice_in =
+      let z = r.runs.carries in
+      let y = suits_as w c here s file_run r z.2.2 in (
+        both_within (site w c here s file_run r) (located w c here s file_run r) z.0 z.2.0 Integer Integer r.placed.cells y.1.0 notice time y.1.1 z.1 z.2.1 (deep_here w c here s file_run r),
+        noticed r class y.0,
       )
 
-  pub file_notices : (class : ℕ) (notice time : Address) (n t : ℤ) (e : Seen) (answer : OkOr (Unit {0}) Refused) (new : State) (result : Option Here) → FilesNotice class notice time → slice_get s.rows.numbers (place_at here.frame notice) ≡ Some n → slice_get s.rows.numbers (place_at here.frame time) ≡ Some t → HasChangedWithMemory (filed_notice class (Whole n) t) s.world e answer → new ≡ refused_where answer (record s { world = e }) → result ≡ on_after here (unless_refused answer) → HasPerformed (is_due r.placed.instruction) w r.placed.line (act w.code r.placed.line r.placed.instruction c) s new result
-  file_notices class notice time n t e answer new result z at_notice at_time d same way =
+  pub file_notices : (n t : ℤ) (e : Seen) (answer : OkOr (Unit {0}) Refused) (new : State) (result : Option Here) → slice_get s.rows.numbers (place_at here.frame notice) ≡ Some n → slice_get s.rows.numbers (place_at here.frame time) ≡ Some t → HasChangedWithMemory (filed_notice class (Whole n) t) s.world e answer → new ≡ refused_where answer (record s { world = e }) → result ≡ on_after here (unless_refused answer) → HasPerformed (is_due r.placed.instruction) w r.placed.line (act w.code r.placed.line r.placed.instruction c) s new result
+  file_notices n t e answer new result at_notice at_time d same way =
       let l = r.placed.line in
-      let is = z.2.2 in
-      let y = suits_as w c here s run r is in
-      let both = reads_both (site w c here s run r) (located w c here s run r) z.0 z.2.0 Integer Integer r.placed.cells y.1.0 notice time c.cells (Whole n) (Whole t) y.1.1 z.1 z.2.1 r.holds.held.cells r.fits.cells (only_number s.rows (place_at here.frame notice) n at_notice) (only_number s.rows (place_at here.frame time) t at_time) in
+      let z = r.runs.carries in
+      let y = suits_as w c here s file_run r z.2.2 in
+      let both = reads_both (site w c here s file_run r) (located w c here s file_run r) z.0 z.2.0 Integer Integer r.placed.cells y.1.0 notice time c.cells (Whole n) (Whole t) y.1.1 z.1 z.2.1 r.holds.held.cells r.fits.cells (only_number s.rows (place_at here.frame notice) n at_notice) (only_number s.rows (place_at here.frame time) t at_time) in
       let op : Store → OkOr Store Failure = filed_notice class (Whole n) t in
       let left : IsSettling c l (act w.code l r.placed.instruction c) here s op = record {
         below = both.below;
         acts =
-            ap (λ x. act w.code l x c) is
+            ap (λ x. act w.code l x c) z.2.2
             ∙ both.is (λ x t below. did l (if_ok (number_of t) (λ t. filed_notice class x t c.store)) (λ s. onward below c s));
         right = fine_right (IsFittingStore w.program r.placed.locals) (op c.store) (filed_notice_fine w.program r.compiled.typed r.placed.locals class (Whole n) t c.store y.0 refl r.fits.store);
         at = both.cells;
       } in
-      refuses op e answer new result (ap is_due is) left (in_store op e answer d) same way
+      refuses r op e answer new result (ap is_due z.2.2) left (in_store r op e answer d) same way
 
-  -- ## Cancel
+-- ## Cancel
 
-  pub cancels_in : (class : ℕ) (notice : Address) → HasOperand w.code w.run.constants r.placed notice (λ y. Is w.code w.run.constants r.placed (i.Cancel class y)) → (place_at here.frame notice < length s.rows.numbers) × (class < length s.world.heap.layout.classes)
-  cancels_in class notice z =
-      let y = suits_as w c here s run r z.2 in (
-        read_within (site w c here s run r) (located w c here s run r) z.0 Integer r.placed.cells y.1.0 notice y.1.1 z.1 (deep_here w c here s run r),
-        class_within class y.0,
+module _ {w : Compiled} {c : Core} {here : Here} {s : State} {class : ℕ} {notice : Address} (r : IsReadyFor w c here s (running.Cancel class notice)) where
+  abbrev cancel_run : Running
+  cancel_run = running.Cancel class notice
+
+  pub cancels_in : (place_at here.frame notice < length s.rows.numbers) × (class < length s.world.heap.layout.classes)
+  cancels_in =
+      let z = r.runs.carries in
+      let y = suits_as w c here s cancel_run r z.2 in (
+        read_within (site w c here s cancel_run r) (located w c here s cancel_run r) z.0 Integer r.placed.cells y.1.0 notice y.1.1 z.1 (deep_here w c here s cancel_run r),
+        (noticed r class y.0).within,
       )
 
-  pub cancels : (class : ℕ) (notice : Address) (n : ℤ) (e : Seen) (answer : OkOr (Unit {0}) FaultKind) (new : State) (result : Option Here) → HasOperand w.code w.run.constants r.placed notice (λ y. Is w.code w.run.constants r.placed (i.Cancel class y)) → slice_get s.rows.numbers (place_at here.frame notice) ≡ Some n → HasChanged (unscheduled class (Whole n)) s.world e answer → new ≡ faulted_by answer (record s { world = e }) → result ≡ on_after here (done_unless_fault answer) → HasPerformed (is_due r.placed.instruction) w r.placed.line (act w.code r.placed.line r.placed.instruction c) s new result
-  cancels class notice n e answer new result z at d same way =
-      let is = z.2 in
-      let y = suits_as w c here s run r is in
-      let one = reads (site w c here s run r) (located w c here s run r) z.0 Integer r.placed.cells y.1.0 notice c.cells (Whole n) y.1.1 z.1 r.holds.held.cells r.fits.cells (only_number s.rows (place_at here.frame notice) n at) in
-      changes w c here s run r (unscheduled class (Whole n)) one.below e answer new result (ap is_due is)
-      (ap (λ x. act w.code r.placed.line x c) is ∙ one.is (λ x below. did r.placed.line (unscheduled class x c.store) (λ t. onward below c t)))
+  pub cancels : (n : ℤ) (e : Seen) (answer : OkOr (Unit {0}) FaultKind) (new : State) (result : Option Here) → slice_get s.rows.numbers (place_at here.frame notice) ≡ Some n → HasChanged (unscheduled class (Whole n)) s.world e answer → new ≡ faulted_by answer (record s { world = e }) → result ≡ on_after here (done_unless_fault answer) → HasPerformed (is_due r.placed.instruction) w r.placed.line (act w.code r.placed.line r.placed.instruction c) s new result
+  cancels n e answer new result at d same way =
+      let z = r.runs.carries in
+      let y = suits_as w c here s cancel_run r z.2 in
+      let one = reads (site w c here s cancel_run r) (located w c here s cancel_run r) z.0 Integer r.placed.cells y.1.0 notice c.cells (Whole n) y.1.1 z.1 r.holds.held.cells r.fits.cells (only_number s.rows (place_at here.frame notice) n at) in
+      changes w c here s cancel_run r (unscheduled class (Whole n)) one.below e answer new result (ap is_due z.2)
+      (ap (λ x. act w.code r.placed.line x c) z.2 ∙ one.is (λ x below. did r.placed.line (unscheduled class x c.store) (λ t. onward below c t)))
       one.cells d same way

@@ -1,10 +1,9 @@
 //! Events: how they begin.
 
-ghost use Rattle.std.specs.Prelude.{◌≡◌, ℕ, ◌+◌, ◌<◌, ◌≤◌, ◌^◌, length, slice_get, Some, None, Ok, Err, MatchResult};
+ghost use Rattle.std.specs.Prelude.{◌≡◌, ℕ, ◌+◌, ◌<◌, ◌≤◌, ◌^◌, length, slice_get, Some, None};
 ghost use Rattle.ss_base.specs.declared.layout.Mode.{Mode as ModeSeen};
-ghost use Rattle.ss_base.specs.declared.value.Value.TheVariants.{Whole, Text};
 ghost use Rattle.ss_base.specs.declared.layout.Mode.TheVariants.{Integer, Alpha as AlphaMode};
-ghost use Rattle.ss_world.specs.State.{modes_of, value_in};
+ghost use Rattle.ss_world.specs.State.{modes_of};
 ghost use Rattle.ss_meaning.specs.Fitting.{living};
 ghost use Rattle.ss_meaning.specs.Store.{Notices};
 ghost use Rattle.ss_code_instructions.specs.States.{Core};
@@ -14,7 +13,7 @@ ghost use Rattle.ss_machine_instructions.specs.Ways.{faulted, begun_event_at, le
 ghost use Rattle.ss_machine_notices.specs.Beginning.{IsReadTo, AreReceivedIf, CanLetGo, HasLetGo, IsUnbegun, HasReceived, IsNextEvent};
 
 use crate::scheduling::Giving;
-use ss_base::{Alpha, FaultKind, Line, Mode};
+use ss_base::{FaultKind, Line, Mode};
 use ss_code_instructions::entry::SectionEntry;
 use ss_code_instructions::instruction::Instruction;
 use ss_machine_events::coming::next_event;
@@ -53,26 +52,6 @@ fn class_of(world: &World, notice: i64) -> Option<usize>
     world.population.class_of(notice)
 }
 
-// The whole number that an attribute of a notice is.
-#[inline(always)]
-fn number_of(world: &World, class: usize, field: usize, notice: i64) -> Result<i64, FaultKind>
-    requires class { class < length world.now.heap.layout.classes }
-    requires mode { slice_get (modes_of world.now.heap.layout class) field ≡ Some Integer }
-    ensures { MatchResult result (λ number. value_in world.now.heap class field notice ≡ Ok (Whole number)) (λ kind. value_in world.now.heap class field notice ≡ Err kind) }
-{
-    world.population.whole(class, field, notice)
-}
-
-// The text that it is.
-#[inline(always)]
-fn text_of(world: &World, class: usize, field: usize, notice: i64) -> Result<Alpha, FaultKind>
-    requires class { class < length world.now.heap.layout.classes }
-    requires mode { slice_get (modes_of world.now.heap.layout class) field ≡ Some AlphaMode }
-    ensures { MatchResult result (λ text. value_in world.now.heap class field notice ≡ Ok (Text text)) (λ kind. value_in world.now.heap class field notice ≡ Err kind) }
-{
-    world.population.text(class, field, notice)
-}
-
 // An attribute of a notice that is a number goes to its place.
 #[inline]
 fn read_number(world: &World, rows: &mut Rows, what: Giving, field: usize) -> Result<(), FaultKind>
@@ -82,7 +61,7 @@ fn read_number(world: &World, rows: &mut Rows, what: Giving, field: usize) -> Re
     requires small { what.from + field < 2 ^ 64 }
     ensures { IsReadTo world.now.heap what.class field what.notice Integer (what.from + field) rows.old rows.new result }
 {
-    match number_of(world, what.class, field, what.notice) {
+    match world.population.whole(what.class, field, what.notice) {
         Err(kind) => Err(kind),
         Ok(number) => {
             rows.set_number_at(what.from + field, number);
@@ -100,7 +79,7 @@ fn read_text(world: &World, rows: &mut Rows, what: Giving, field: usize) -> Resu
     requires small { what.from + field < 2 ^ 64 }
     ensures { IsReadTo world.now.heap what.class field what.notice AlphaMode (what.from + field) rows.old rows.new result }
 {
-    match text_of(world, what.class, field, what.notice) {
+    match world.population.text(what.class, field, what.notice) {
         Err(kind) => Err(kind),
         Ok(text) => {
             rows.set_text_at(what.from + field, text);

@@ -1,5 +1,5 @@
 -- No notice is pending for a time that is past.
-use Rattle.std.proofs.Common.{arith, ◌≡◌, Bool, true, false, List, [], ◌∷◌, fold, Some, None, Ok, Err, refl, subst, sym}
+use Rattle.std.proofs.Common.{arith, ◌≡◌, Bool, true, false, List, [], ◌∷◌, fold, Some, Ok, Err, refl, subst, sym}
 use Rattle.std.specs.Prelude.{ℤ, pos, ◌≤ℤ◌, ◌<ℤ◌, not, OnOk, OnErr, Result as OkOr, if◌then◌else◌}
 use Rattle.std.specs.Option.{option_map, option_map_or}
 use Rattle.std.specs.List.{All}
@@ -99,11 +99,3 @@ module _ (t latest : ℤ) where
           let old : t ≤ℤ first.key.time = fold_ahead t x xs (All-head (IsNotBefore t) x xs h.2) (All-tail (IsNotBefore t) x xs h.2) in
           subst (λ (u : ℤ). IsTimely u latest (without_notice first.notice (x ∷ xs))) time
           (later (pos 0) t first.key.time h.0 old, later latest t first.key.time h.1 old, All-filter (λ (e : PendingNotice). not (int_eq first.notice e.notice)) (IsNotBefore first.key.time) (x ∷ xs) (fold_first x xs))
-
--- where nothing comes next, nothing is taken out
-pub none_next : (p : PendingList) → least_event p ≡ None → after_next p ≡ p
-none_next p e = by p.entries e
-  where
-    by : (es : List PendingNotice) → option_map {U = ℤ × ℤ} (λ (x : PendingNotice). (x.key.time, x.notice)) (least es) ≡ None → record p { entries = option_map_or (λ (x : PendingNotice). without_notice x.notice es) (least es) [] } ≡ record p { entries = es }
-    by [] e = refl
-    by (x ∷ xs) e = absurd cc

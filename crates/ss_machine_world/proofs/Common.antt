@@ -12,16 +12,16 @@ pub use Rattle.ss_base.specs.declared.layout.Owner.TheVariants.{Class}
 pub use Rattle.ss_base.specs.declared.layout.SetLayout.{SetLayout}
 pub use Rattle.ss_base.specs.declared.value.Value.{Value}
 pub use Rattle.ss_base.specs.declared.value.Value.TheVariants.{Text, Whole}
-pub use Rattle.ss_machine_time.specs.Figures.{renewed_known, subject_in}
+pub use Rattle.ss_machine_time.specs.Figures.{renewed_known}
 pub use Rattle.ss_machine_time.specs.Records.{HasRooms, columns_of, figured, is_home, is_up_to, renewed_where}
 pub use Rattle.ss_machine_time.specs.Times.{IsNoted, Times, columns}
 pub use Rattle.ss_machine_world.specs.Classes.{AreSaid, AreSaidFrom}
-pub use Rattle.ss_machine_world.specs.Numbers.{IsHeldBySubject, IsReferenceTo, IsSubject, attribute_noted, count_noted, created_all_known, looked_in, or_full, present_in}
-pub use Rattle.ss_machine_world.specs.Seen.{HasAnswer, HasChanged, HasChangedWhere, HasChangedWithMemory, HasMade, HasRearranged, IsAlwaysOk, IsRight, Seen, as_value, with_seen}
+pub use Rattle.ss_machine_world.specs.Numbers.{IsHeldBySubject, IsReferenceTo, attribute_noted, count_noted}
+pub use Rattle.ss_machine_world.specs.Seen.{HasAnswer, HasChanged, HasChangedWhere, HasChangedWithMemory, HasMade, HasRearranged, IsAlwaysOk, IsRight, Seen, with_seen}
 pub use Rattle.ss_machine_world.specs.declared.class.ClassEntry.{ClassEntry}
-pub use Rattle.ss_meaning.specs.Entities.{attribute, entity, gone, is_permanent, is_single, made_one, without}
+pub use Rattle.ss_meaning.specs.Entities.{attribute, entity, gone, is_single, made_one, without}
 pub use Rattle.ss_meaning.specs.Events.{ranked_from, unscheduled}
-pub use Rattle.ss_meaning.specs.Histories.{ending, figure_kept, mean_kept, noted, renewed, starting}
+pub use Rattle.ss_meaning.specs.Histories.{ending, figure_kept, mean_kept, noted, starting}
 pub use Rattle.ss_meaning.specs.Places.{assigned_attribute, is_of_mode}
 pub use Rattle.ss_meaning.specs.Sets.{owner_by_layout}
 pub use Rattle.ss_meaning.specs.Statistics.{reset}
@@ -33,7 +33,7 @@ pub use Rattle.ss_program.specs.declared.sections.Subject.TheVariants.{OfAttribu
 pub use Rattle.ss_world.specs.Disciplines.{filed}
 pub use Rattle.ss_world.specs.PendingList.{cancelled, is_pending}
 pub use Rattle.ss_world.specs.Sets.{count_in, owner, owner_in}
-pub use Rattle.ss_world.specs.State.{IsRefusalOf, State, created, created_all, destroyed, is_made, known_in, modes_of, no_value, records_in, value_in}
+pub use Rattle.ss_world.specs.State.{State, created_all, destroyed, known_in, modes_of, no_value, value_in}
 pub use Rattle.std.proofs.lemmas.Option.{slice_get_read}
 pub use Rattle.std.specs.List.{list_any}
-pub use Rattle.std.specs.Prelude.{MatchResult, pos, slice_get}
+pub use Rattle.std.specs.Prelude.{slice_get}

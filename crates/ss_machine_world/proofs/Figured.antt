@@ -1,6 +1,6 @@
 -- What a statistic says of an entity, and RESET.
 use Rattle.std.proofs.Common.{◌≡◌, ℕ, ℤ, Bool, true, false, List, length, Option, Some, None, Ok, Err, refl, ap, ◌∙◌, sym}
-use Rattle.std.specs.Prelude.{is_some, pos, slice_get, slice_index_or, MatchResult, Result as OkOr}
+use Rattle.std.specs.Prelude.{is_some, pos, slice_get, slice_index_or, Result as OkOr}
 use Rattle.std.specs.Option.{option_map}
 use Rattle.ss_machine_world.proofs.Common.{attribute, columns_of, count_in, Discipline, due, entity, Failure, FaultKind, figured, if_ok, NoEntity, number_of, OfAttribute, OfCount, OfVariable, owner, owner_by_layout, owner_in, renewed_where, SetLayout, Statistic, Subject, sure, turned, Value, where_fit, Whole}
 use Rattle.ss_machine_time.specs.Figures.{renewed_known, subject_in, variable_in, held_in}
@@ -195,16 +195,6 @@ module _ (ds : List Discipline) (ns : List Notices) (h : State) (t w : Times) (j
   pub renew_wrong : renewed j x t.time p (columns t) ≡ renewed_where false (columns w) → w ≡ t → HasChanged (renewed_known j x p) (seen_of ds ns h t) (seen_of ds ns h w) (Err NoEntity)
   renew_wrong is same =
       (λ s right. absurd (right (ap (turned (with_histories (with_seen s (seen_of ds ns h t)))) is)), ap (λ (u : Times). seen_of ds ns h u) same)
-
--- ## What is read of a subject
-
-pub whole_value : (r : OkOr ℤ FaultKind) (q : OkOr Value FaultKind) → MatchResult r (λ n. q ≡ Ok (Whole n)) (λ k. q ≡ Err k) → as_value r ≡ q
-whole_value (Ok n) q is = sym is
-whole_value (Err k) q is = sym is
-
-pub number_value : (r q : OkOr ℤ FaultKind) → r ≡ q → as_value r ≡ and_then q (λ n. Ok (Whole n))
-number_value (Ok n) q is = ap (λ q. and_then q (λ n. Ok (Whole n))) is
-number_value (Err k) q is = ap (λ q. and_then q (λ n. Ok (Whole n))) is
 
 -- the subject of a statistic is one
 pub one_subject : (j : ℕ) (e : Seen) (t u : Subject) → Some t ≡ subject_in e.statistics j → subject_in e.statistics j ≡ Some u → t ≡ u

@@ -1,10 +1,10 @@
 -- Entities that go, with their histories, and notices that are pending no longer.
 use Rattle.std.proofs.Common.{arith, ◌≡◌, ℕ, zero, suc, ◌-◌, ◌<◌, ℤ, Bool, true, false, List, [], ◌∷◌, length, Option, Some, None, Ok, Err, refl, ap, sym, ◌∙◌}
-use Rattle.std.specs.Prelude.{is_some, slice_get, slice_set, MatchResult, if◌then◌else◌, Result as OkOr}
-use Rattle.ss_machine_world.proofs.Common.{cancelled, ClassLayout, columns_of, destroyed, Discipline, due, ending, Fails, Failure, FaultKind, HasChanged, if_ok, is_pending, known_in, Layout, no_value, Seen, State, Times, turned, unless_fault, unscheduled, where_fit, Whole, with_seen}
+use Rattle.std.specs.Prelude.{is_some, slice_get, MatchResult, if◌then◌else◌, Result as OkOr}
+use Rattle.ss_machine_world.proofs.Common.{cancelled, ClassLayout, columns_of, destroyed, Discipline, due, ending, Fails, Failure, FaultKind, HasChanged, if_ok, is_pending, known_in, no_value, Seen, State, Times, turned, unless_fault, unscheduled, where_fit, Whole, with_seen}
 use Rattle.ss_meaning.specs.Entities.{gone, is_single, entity, without, with_none}
 use Rattle.ss_meaning.specs.Store.{Notices, Store, with_pending}
-use Rattle.ss_base.specs.declared.fault.FaultKind.TheVariants.{Scheduled, InASet, OwnsMembers}
+use Rattle.ss_base.specs.declared.fault.FaultKind.TheVariants.{Scheduled}
 use Rattle.ss_world.specs.State as S
 use Rattle.ss_machine_world.proofs.Changing.{changes_alike}
 use Rattle.ss_machine_world.proofs.Starting.{joined, seen_of}
@@ -63,25 +63,6 @@ module _ (ds : List Discipline) (ns : List Notices) (h : State) (t : Times) (cla
         ∙ ap (λ q. turned (with_pending (with_seen s before)) (due q)) d.0,
     ap (λ (v : Times). seen_of ds ns h v) d.1,
   )
-
--- ## Entities that go
-
--- the layout once an entity went
-abbrev layout_after : (st : State) → OkOr State FaultKind → Layout
-layout_after st (Ok h) = h.layout
-layout_after st (Err k) = st.layout
-
-layout_stays : (st : State) (class : ℕ) (n : ℤ) → layout_after st (destroyed st class n) ≡ st.layout
-layout_stays st class n = by (S.entity_in st class n)
-  where
-    go : (a b : Bool) → layout_after st (if a then Err InASet else (if b then Err OwnsMembers else Ok (record st { records = slice_set st.records (S.number_in n - 1) None }))) ≡ st.layout
-    go true b = refl
-    go false true = refl
-    go false false = refl
-
-    by : (r : OkOr S.Record FaultKind) → layout_after st (S.and_then r (λ r. S.let_go st class (S.number_in n))) ≡ st.layout
-    by (Ok r) = go (S.in_a_set st.layout.sets 0 st.lists class (S.number_in n)) (S.owns_members st.layout.sets 0 st.lists class (S.number_in n))
-    by (Err k) = refl
 
 module _ (e : Seen) (class : ℕ) (n : ℤ) (single : is_single (slice_get e.heap.layout.classes class) ≡ true) where
   gone_by : (r : OkOr State FaultKind) → destroyed e.heap class n ≡ r → (s : Store) → gone class (Whole n) (with_seen s e) ≡ turned (with_none class n (with_seen s e)) (due r)

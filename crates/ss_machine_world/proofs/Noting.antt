@@ -1,22 +1,10 @@
 -- What histories note of what is so now.
-use Rattle.std.proofs.Common.{◌≡◌, ℕ, ℤ, List, Some, Ok, Err, refl, ap, ◌∙◌, sym}
+use Rattle.std.proofs.Common.{◌≡◌, ℕ, ℤ, Some, Ok, Err, refl, ap, ◌∙◌, sym}
 use Rattle.std.specs.Prelude.{is_some, slice_get, Result as OkOr}
-use Rattle.ss_machine_world.proofs.Common.{attribute_noted, count_in, count_noted, Discipline, due, FaultKind, HasChanged, if_ok, Integer, IsNoted, modes_of, noted, Notices, OfAttribute, OfCount, or_full, Seen, State, Store, Subject, Times, turned, Value, value_in, Whole, with_histories, with_seen}
+use Rattle.ss_machine_world.proofs.Common.{attribute_noted, count_in, count_noted, due, FaultKind, HasChanged, if_ok, Integer, IsNoted, modes_of, noted, OfAttribute, OfCount, Seen, Store, Subject, Times, Value, value_in, Whole, with_seen}
 use Rattle.ss_machine_time.specs.Unnoted.{Unnoted}
-use Rattle.ss_machine_time.specs.Unnoted.TheVariants.{Full, TypeError}
 use Rattle.ss_machine_world.proofs.Changing.{changes_alike}
 use Rattle.ss_machine_world.proofs.Reading.{value_once}
-use Rattle.ss_machine_world.proofs.Starting.{seen_of, seen_moved}
-
--- a value that is noted, or is not
-pub noted_changes : (ds : List Discipline) (ns : List Notices) (h : State) (subject : Subject) (x : ℤ) (v : Value) (t w : Times) (r : OkOr (Unit {0}) Unnoted) → IsNoted subject x v t w r → HasChanged (noted subject x v) (seen_of ds ns h t) (seen_of ds ns h w) (or_full r)
-noted_changes ds ns h subject x v t w (Ok u) d = λ s right.
-    ap (turned (with_histories (with_seen s (seen_of ds ns h t)))) d.0
-    ∙ ap (λ (e : Seen). Ok (with_seen s e)) (sym (seen_moved ds ns h t w d.1.0 d.1.1 d.1.2))
-noted_changes ds ns h subject x v t w (Err Full) d =
-    (λ s right. ap (turned (with_histories (with_seen s (seen_of ds ns h t)))) d.0, ap (λ (u : Times). seen_of ds ns h u) d.1)
-noted_changes ds ns h subject x v t w (Err TypeError) d = λ s right.
-    absurd (right (ap (turned (with_histories (with_seen s (seen_of ds ns h t)))) d.0))
 
 -- whatever is noted, the statistics are the same
 pub noted_statistics : (subject : Subject) (x : ℤ) (v : Value) (t w : Times) (r : OkOr (Unit {0}) Unnoted) → IsNoted subject x v t w r → w.histories.statistics ≡ t.histories.statistics

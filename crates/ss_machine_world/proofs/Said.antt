@@ -1,13 +1,13 @@
 -- The entries of classes: how they are gathered, and what follows where no statistic has a history of the entities of a class.
 use Rattle.std.proofs.Common.{arith, ◌≡◌, ℕ, zero, suc, ◌+◌, ◌==◌, Bool, true, false, List, [], ◌∷◌, ◌++◌, length, drop, Option, Some, None, refl, ap, sym, ◌∙◌, subst, eqb→eq, T}
 use Rattle.std.proofs.lemmas.Bool.{eqb-false}
+use Rattle.std.proofs.lemmas.List.{length-append, length-set}
 use Rattle.std.specs.Prelude.{ℤ, ◌||◌, slice_get, slice_set, IfSome, if◌then◌else◌}
 use Rattle.ss_machine_world.proofs.Common.{Class, ClassEntry, Column, is_home, list_any, Notices, Owner, PlainLayout, Statistic}
 use Rattle.ss_base.specs.Layout.{same_owner}
 use Rattle.ss_machine_world.specs.Classes.{AreSaid, AreSaidFrom, IsSaid, has_keys, with_rank}
 use Rattle.ss_meaning.specs.Events.{ranked_from, Ranked}
 use Rattle.ss_meaning.specs.Histories.{ending, starting, home, at_start, begun_in, ended_in}
-use Rattle.ss_machine_entities.proofs.Counting.{length_set}
 
 -- ## Where no statistic is kept of what an owner has, no history starts and none ends
 
@@ -43,10 +43,6 @@ found_more P [] x old new (suc (suc i)) y e = absurd cc
 found_more P (z ∷ zs) x old new zero y e = old zero y e
 found_more P (z ∷ zs) x old new (suc i) y e = found_more (λ j. P (suc j)) zs x (λ j w d. old (suc j) w d) new i y e
 
-length_more : {A : Type 0} (xs : List A) (x : A) → length (xs ++ x ∷ []) ≡ length xs + 1
-length_more [] x = refl
-length_more (z ∷ zs) x = omega (arith, length_more zs x)
-
 -- what is found in a row of which one item is another now
 nothing : {A : Type 0} (i : ℕ) (y : A) → slice_get [] i ≡ Some y → ⊥
 nothing zero y e = cc
@@ -67,10 +63,6 @@ drop_one [] (suc k) x e = absurd cc
 drop_one (y ∷ ys) zero x e = ap (λ y. y ∷ ys) (got e)
 drop_one (y ∷ ys) (suc k) x e = let next : suc (k + 1) ≡ suc k + 1 = omega arith in drop_one ys k x e ∙ ap (λ j. x ∷ drop j (y ∷ ys)) next
 
-pub drop_all : {A : Type 0} (xs : List A) → drop (length xs) xs ≡ []
-drop_all [] = refl
-drop_all (x ∷ xs) = drop_all xs
-
 -- ## How entries are gathered
 
 -- the entries of so many classes, but for the ranks
@@ -83,7 +75,7 @@ unranked_to l ss (suc k) = unranked_to l ss k ++ unranked_entry l ss k ∷ []
 
 unranked_length : (l : PlainLayout) (ss : List Statistic) (n : ℕ) → length (unranked_to l ss n) ≡ n
 unranked_length l ss zero = refl
-unranked_length l ss (suc k) = length_more (unranked_to l ss k) (unranked_entry l ss k) ∙ omega (arith, unranked_length l ss k)
+unranked_length l ss (suc k) = length-append (unranked_to l ss k) (unranked_entry l ss k ∷ []) ∙ omega (arith, unranked_length l ss k)
 
 unranked_there : (l : PlainLayout) (ss : List Statistic) (n class : ℕ) (e : ClassEntry) → slice_get (unranked_to l ss n) class ≡ Some e → IsSaid 0 l [] ss class e
 unranked_there l ss zero zero e found = absurd cc
@@ -142,13 +134,8 @@ module _ (k : ℕ) (l : PlainLayout) (n : Notices) (es : List Notices) (ss : Lis
 
       by : (o : Option ClassEntry) → slice_get old n.class ≡ o → IfSome o (λ entry. new ≡ slice_set old n.class (with_rank k n entry)) → (o ≡ None → new ≡ old) → AreSaidFrom k l (n ∷ es) ss new
       by (Some entry) at known unknown =
-          subst (λ (new : List ClassEntry). AreSaidFrom k l (n ∷ es) ss new) (sym known) (length_set old n.class (with_rank k n entry) ∙ said.0, there entry at)
+          subst (λ (new : List ClassEntry). AreSaidFrom k l (n ∷ es) ss new) (sym known) (length-set old n.class (with_rank k n entry) ∙ said.0, there entry at)
       by None at known unknown = subst (λ (new : List ClassEntry). AreSaidFrom k l (n ∷ es) ss new) (sym (unknown refl)) (said.0, none at)
-
--- what is said before there is any rank does not depend on where ranks begin
-pub unranked : (k : ℕ) (l : PlainLayout) (ss : List Statistic) (entries : List ClassEntry) → AreSaid l [] ss entries → AreSaidFrom k l [] ss entries
-unranked k l ss entries said =
-    (said.0, λ class e found. record { watched = (said.1 class e found).watched; ranked = λ r h. absurd (let none : None ≡ Some r = h in cc) })
 
 -- what is said stays so where the classes and sets are the same
 pub said_of_layout : (l m : PlainLayout) (es : List Notices) (ss : List Statistic) (entries : List ClassEntry) → m ≡ l → AreSaid l es ss entries → AreSaid m es ss entries

@@ -1,25 +1,22 @@
 -- Entities that are made, with their histories: one, and all of a permanent class.
-use Rattle.std.proofs.Common.{arith, ◌≡◌, ℕ, zero, suc, ◌+◌, ◌≤◌, ℤ, Bool, true, false, List, [], ◌∷◌, length, Option, Some, Ok, Err, int_eq, refl, ap, ◌∙◌, sym, subst}
-use Rattle.std.specs.Prelude.{pos, negsuc, IsOk, nat_le, nat_lt, ◌≤ℤ◌, slice_get, slice_set, replicate, MatchResult, Result as OkOr, if◌then◌else◌}
+use Rattle.std.proofs.Common.{arith, ◌≡◌, ℕ, zero, suc, ◌≤◌, ℤ, Bool, true, false, List, [], ◌∷◌, length, Option, Some, Ok, Err, int_eq, refl, ap, ◌∙◌, sym, subst}
+use Rattle.std.specs.Prelude.{pos, negsuc, IsOk, nat_le, ◌≤ℤ◌, slice_get, slice_set, replicate, MatchResult, Result as OkOr, if◌then◌else◌}
 use Rattle.std.proofs.lemmas.Int.{ints}
 use Rattle.ss_machine_world.proofs.Common.{Class, Column, columns_of, Discipline, due, Fails, Failure, Fault, FaultKind, HasAnswer, HasChangedWithMemory, HasMade, HasRooms, is_up_to, IsAlwaysOk, IsRight, Layout, Memory, Notices, Owner, Seen, starting, Statistic, Store, Times, turned, unless_fault, where_fit, Whole, with_heap, with_histories, with_seen}
 use Rattle.ss_machine_world.specs.Numbers.{created_all_known, count_open}
 use Rattle.ss_meaning.specs.Entities.{is_single, made_one, is_permanent, with_new, with_all}
-use Rattle.ss_world.specs.State.{created_all, no_value, State, Record, LAST_NUMBER, MOST_ENTITIES, IsRefusalOf, first_record, with_created, created, is_made, with_made, made_many, records_in}
-use Rattle.ss_base.specs.declared.fault.FaultKind.TheVariants.{CreatedTwice, BadCount, Overflow}
+use Rattle.ss_world.specs.State.{created_all, no_value, State, Record, MOST_ENTITIES, IsRefusalOf, first_record, created, is_made, with_made, made_many, records_in}
+use Rattle.ss_base.specs.declared.fault.FaultKind.TheVariants.{CreatedTwice, BadCount}
 use Rattle.ss_base.specs.declared.fault.Refused.{Refused}
 use Rattle.ss_world.specs.PendingList.{PendingList}
-use Rattle.ss_machine_entities.proofs.Counting.{length_replicate}
+use Rattle.ss_machine_entities.proofs.Counting.{created_keeps}
+use Rattle.std.proofs.lemmas.List.{length-replicate}
 
 -- ## Which fault is due
 
 pub fault_due : {A : Type 0} (r : OkOr A FaultKind) (kind : FaultKind) → Err kind ≡ no_value r → r ≡ Err kind
 fault_due (Ok a) kind e = absurd cc
 fault_due (Err k) kind e = cc
-
-pub none_due : {A : Type 0} (r : OkOr A FaultKind) → Ok tt ≡ no_value r → IsOk r
-none_due (Ok a) e = refl
-none_due (Err k) e = absurd cc
 
 -- ## The store with other entities and other histories
 
@@ -48,20 +45,10 @@ seen_moved ds ns h t w time pending statistics =
 
 -- ## One entity
 
--- the layout once an entity was made
-abbrev layout_after : (st : State) → OkOr (ℤ × State) FaultKind → Layout
-layout_after st (Ok made) = made.1.layout
-layout_after st (Err k) = st.layout
-
-layout_stays : (st : State) (class : ℕ) → layout_after st (created st class) ≡ st.layout
-layout_stays st class = by (nat_lt (length st.records) LAST_NUMBER)
-  where
-    by : (b : Bool) → layout_after st (if b then Ok (pos (length st.records + 1), with_created st class) else Err Overflow) ≡ st.layout
-    by true = refl
-    by false = refl
-
-pub created_layout : (st h : State) (class : ℕ) (n : ℤ) → created st class ≡ Ok (n, h) → h.layout ≡ st.layout
-created_layout st h class n made = ap (layout_after st) (sym made) ∙ layout_stays st class
+-- what is left of an operation that goes well goes well
+due_well : {A B : Type 0} (f : A → B) (r : OkOr A FaultKind) → IsOk r → IsOk (turned f (due r))
+due_well f (Ok a) ok = refl
+due_well f (Err k) ok = absurd cc
 
 module _ (e : Seen) (class : ℕ) (single : is_single (slice_get e.heap.layout.classes class) ≡ true) where
   one_by : (r : OkOr (ℤ × State) FaultKind) → created e.heap class ≡ r → (s : Store) → made_one class (with_seen s e) ≡ turned (with_new class (with_seen s e)) (due r)
@@ -70,11 +57,7 @@ module _ (e : Seen) (class : ℕ) (single : is_single (slice_get e.heap.layout.c
       ∙ ap (λ r. turned (with_new class (with_seen s e)) (due r)) made
 
   one_well : IsOk (created e.heap class) → IsAlwaysOk (made_one class) e
-  one_well ok s = subst (λ b. IsOk (where_fit b (turned (with_new class (with_seen s e)) (due (created e.heap class))))) (sym single) (by (created e.heap class) ok)
-    where
-      by : (r : OkOr (ℤ × State) FaultKind) → IsOk r → IsOk (turned (with_new class (with_seen s e)) (due r))
-      by (Ok made) ok = refl
-      by (Err k) ok = absurd cc
+  one_well ok s = subst (λ b. IsOk (where_fit b (turned (with_new class (with_seen s e)) (due (created e.heap class))))) (sym single) (due_well (with_new class (with_seen s e)) (created e.heap class) ok)
 
   -- there is none
   pub one_refused : (r : Refused) → IsRefusalOf (created e.heap class) r → HasMade (made_one class) e e (Err r)
@@ -91,7 +74,7 @@ module _ (e : Seen) (class : ℕ) (single : is_single (slice_get e.heap.layout.c
   pub one_alone : (h : State) (r : OkOr ℤ Refused) → ((here : ℤ → Bool) (now : ℤ) → starting e.heap.layout (Class class) here now e.statistics (columns_of e.histories) ≡ columns_of e.histories) → MatchResult r (λ n. created e.heap class ≡ Ok (n, h)) (λ k. (h ≡ e.heap) × IsRefusalOf (created e.heap class) k) → HasMade (made_one class) e (record e { heap = h }) r
   one_alone h (Ok n) starts made =
       one_made (record e { heap = h }) h n refl made
-      (sym (ap (λ (l : Layout). starting l (Class class) (int_eq n) e.time e.statistics (columns_of e.histories)) (created_layout e.heap h class n made) ∙ starts (int_eq n) e.time))
+      (sym (ap (λ (l : Layout). starting l (Class class) (int_eq n) e.time e.statistics (columns_of e.histories)) (created_keeps e.heap h class (Ok n) made).layout ∙ starts (int_eq n) e.time))
   one_alone h (Err k) starts d = subst (λ (h : State). HasMade (made_one class) e (record e { heap = h }) (Err k)) (sym d.0) (one_refused k d.1)
 
 -- ## All entities of a class
@@ -116,7 +99,7 @@ all_made st h c n e = by (is_made st c) n e
         let one = first_record st.layout c in
         subst (λ (h : State). IsAllMade st h c (pos k)) same (record {
           layout = refl;
-          most = omega (arith, ints, most_at st.permanents c (replicate k one), length_replicate k one);
+          most = omega (arith, ints, most_at st.permanents c (replicate k one), length-replicate k one);
         })
     many k false e = absurd cc
 
@@ -141,11 +124,7 @@ module _ (e : Seen) (class : ℕ) (n : ℤ) (permanent : is_permanent (slice_get
   all_fault kind made s = all_by (Err kind) made s
 
   pub all_well : IsOk (created_all e.heap class n) → IsAlwaysOk (created_all_known class n) e
-  all_well ok s = subst (λ b. IsOk (where_fit b (turned (with_all class (with_seen s e)) (due (created_all e.heap class n))))) (sym permanent) (by (created_all e.heap class n) ok)
-    where
-      by : (r : OkOr State FaultKind) → IsOk r → IsOk (turned (with_all class (with_seen s e)) (due r))
-      by (Ok h) ok = refl
-      by (Err k) ok = absurd cc
+  all_well ok s = subst (λ b. IsOk (where_fit b (turned (with_all class (with_seen s e)) (due (created_all e.heap class n))))) (sym permanent) (due_well (with_all class (with_seen s e)) (created_all e.heap class n) ok)
 
   -- there are none
   pub all_refused : (r : Refused) → IsRefusalOf (created_all e.heap class n) r → HasChangedWithMemory (created_all_known class n) e e (Err r)

@@ -1,30 +1,12 @@
-use Rattle.std.proofs.Common.{rules, ◌≡◌, ◌++◌, ◌+◌, ℤ, List, drop, Ok, ap, sym, ◌∙◌, append-nil, arith, to_z, of_z, w64}
-use Rattle.std.proofs.lemmas.List.{drop_more, drop_all}
+use Rattle.std.proofs.Common.{rules, ◌≡◌, ◌++◌, ◌+◌, ℤ, List, Ok, ap, sym, ◌∙◌, append-nil, arith, to_z, of_z, w64}
+use Rattle.std.proofs.lemmas.List.{drop_all}
 use Rattle.ss_base.specs.declared.layout.RankKey.{RankKey}
 use Rattle.ss_base.specs.declared.value.Value.TheVariants.{Whole}
 use Rattle.ss_world.specs.declared.ties.Tie.{Tie}
 use Rattle.ss_meaning.specs.Values.{turned}
 use Rattle.ss_meaning.specs.Events.{ties_of}
 use Rattle.ss_machine_world.specs.Seen.{with_seen}
-use Rattle.ss_machine_events.proofs.Frozen.{none_frozen, frozen_on}
 use Rattle.ss_machine_events.proofs.scheduling.frozen.Goals as goal
-
-pub loop-key-init : goal.loop-key-init
-loop-key-init c = λ s.
-    let class = c.args.class in let x = Whole (to_z w64 (of_z w64 c.args.notice)) in let e = c.args.world.now in let keys = c.args.keys.now in
-    none_frozen class x (with_seen s e) keys
-    ∙ ap (λ (us : List Tie). turned (λ ts. us ++ ts) (ties_of class x (with_seen s e) keys)) (sym c.new-ties.ensures.items)
-
-pub freeze_one-requires-clause-field : goal.freeze_one-requires-clause-field
-freeze_one-requires-clause-field c = c.requires.fields c.loop-key.key-index _ c.loop-key-test.true
-
-pub loop-key-preserved : goal.loop-key-preserved
-loop-key-preserved c = λ s.
-    let class = c.args.class in let n = to_z w64 (of_z w64 c.args.notice) in let e = c.args.world.now in let keys = c.args.keys.now in let at = c.loop-key.key-index in
-    let d = c.in-Ok.ensures in
-    c.loop-key.invariant s
-    ∙ frozen_on class (Whole n) (with_seen s e) c.loop-key.ties.items (drop at keys) (drop_more keys at _ c.loop-key-test.true) d.0 (d.2 s)
-    ∙ ap (λ (us : List Tie). turned (λ ts. us ++ ts) (ties_of class (Whole n) (with_seen s e) (drop (at + 1) keys))) (sym d.1)
 
 pub returns : goal.returns
 returns c = λ s.

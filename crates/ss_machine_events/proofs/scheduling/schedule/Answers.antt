@@ -1,4 +1,4 @@
-use Rattle.std.proofs.Common.{rules, ◌≡◌, ◌<◌, ℤ, true, Bool, Ok, Err, length, sym, subst, to_z, of_z, w64}
+use Rattle.std.proofs.Common.{rules, ◌≡◌, ℤ, Bool, Ok, Err, sym, subst, to_z, of_z, w64}
 use Rattle.std.proofs.lemmas.Int.{to_z-of_z}
 use Rattle.ss_base.specs.declared.value.Value.TheVariants.{Whole}
 use Rattle.ss_world.specs.State.{known_in}
@@ -8,25 +8,12 @@ use Rattle.ss_machine_events.specs.Scheduled.{IsDoneIf, IsUnfiled}
 use Rattle.ss_machine_events.proofs.Filing.{none_filed, not_filed}
 use Rattle.ss_machine_events.proofs.scheduling.schedule.Goals as goal
 
-pub known-requires : goal.known-requires
-known-requires c = record { class = subst (λ (e : Seen). c.args.class < length e.heap.layout.classes) (sym c.world.view_is) c.requires.notices.within }
-
 pub returns-in-Err : goal.returns-in-Err
 returns-in-Err c =
     let class = c.args.class in let n = c.args.notice in let e = c.args.world.now in
     let fits = c.ranges.notice in let h = simp to_z-of_z at c.in-Err.ensures in
     let known : known_in e.heap class n ≡ Err c.in-Err.kind = subst (λ (e : Seen). known_in e.heap class n ≡ Err c.in-Err.kind) c.world.view_is (sym h) in
     none_filed e class n c.args.time c.requires.notices c.in-Err.kind known
-
-pub returns-then-file : goal.returns-then-file
-returns-then-file c =
-    let class = c.args.class in let n = c.args.notice in let time = c.args.time in let e = c.args.world.now in
-    let new = c.file.new.world in
-    let number : to_z w64 (of_z w64 n) ≡ n = search rules in
-    let same : to_z w64 (of_z w64 time) ≡ time = search rules in
-    subst (λ (m : ℤ). IsDoneIf (filed_notice class (Whole m) time) true e new) number
-    (subst (λ (t : ℤ). IsDoneIf (filed_notice class (Whole (to_z w64 (of_z w64 n))) t) true e new) same
-    (subst (λ (b : Bool). IsDoneIf (filed_notice class (Whole (to_z w64 (of_z w64 n))) (to_z w64 (of_z w64 time))) b e new) c.if-file.true c.file.ensures))
 
 pub returns-else-file : goal.returns-else-file
 returns-else-file c =

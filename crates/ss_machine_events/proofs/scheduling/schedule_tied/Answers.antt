@@ -11,17 +11,11 @@ use Rattle.ss_machine_events.specs.Scheduled.{HasKeyField, IsDoneIf, scheduled_k
 use Rattle.ss_machine_events.proofs.Filing.{said_there, files}
 use Rattle.ss_machine_events.proofs.scheduling.schedule_tied.Goals as goal
 
-pub rank-rank-requires : goal.rank-rank-requires
-rank-rank-requires c = record { class = c.requires.notices.within }
-
 pub keys_of-keys-requires : goal.keys_of-keys-requires
 keys_of-keys-requires c =
     let k = c.requires.notices in let es = c.args.world.now.notices in
     let rank : c.rank-rank.result ≡ k.ranked.rank = c.rank-rank.ensures k.ranked k.is in
     omega (arith, rank, slice_get_within es k.ranked.rank k.ranked.said (said_there es c.args.class k.ranked k.is))
-
-pub frozen-requires-clause-class : goal.frozen-requires-clause-class
-frozen-requires-clause-class c = c.requires.notices.within
 
 pub frozen-requires-clause-fields : goal.frozen-requires-clause-fields
 frozen-requires-clause-fields c =

@@ -4,9 +4,6 @@ use Rattle.ss_machine_events.specs.Scheduled.{IsDoneIf, scheduled_known}
 use Rattle.ss_machine_events.proofs.Filing.{files_untied}
 use Rattle.ss_machine_events.proofs.scheduling.schedule_untied.Goals as goal
 
-pub rank-rank-requires : goal.rank-rank-requires
-rank-rank-requires c = record { class = c.requires.notices.within }
-
 pub returns : goal.returns
 returns c =
     let k = c.requires.notices in let n = c.args.notice in let time = c.args.time in let e = c.args.world.now in

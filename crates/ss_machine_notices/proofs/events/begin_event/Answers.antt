@@ -1,7 +1,7 @@
 use Rattle.std.proofs.Common.{ℕ, rules, ◌≡◌, ◌+◌, ◌<◌, ℤ, List, Some, Ok, Err, length, ap, sym, ◌∙◌, subst, to_z, of_z, w64, arith}
-use Rattle.ss_machine_notices.proofs.Common.{begun_event_at, cleared_long, HasEntered, HasReceived, Here, IfSome, is_single, IsOutOfMemory, IsUnbegun, Mode, modes_of, Notices, one, Seen, slice_get, small, State, TakeEvent}
-use Rattle.ss_machine_notices.proofs.Beginning.{saved_within, receives_not}
-use Rattle.ss_machine_notices.proofs.Begun.{begun_class, begun_single, begun_rank, begun_said, begun_saved, begun_modes, begun_entry_within, begun_frame, frame_within, entry_read}
+use Rattle.ss_machine_notices.proofs.Common.{begun_event_at, cleared_long, HasEntered, HasReceived, Here, IsOutOfMemory, IsUnbegun, Mode, modes_of, Seen, slice_get, small, State, TakeEvent}
+use Rattle.ss_machine_notices.proofs.Beginning.{receives_not}
+use Rattle.ss_machine_notices.proofs.Begun.{begun_class, begun_rank, begun_said, begun_modes, begun_entry_within, begun_frame, frame_within, entry_read, can_let_go}
 use Rattle.ss_machine_notices.proofs.Started.{entry_is, begins, begins_fault, unbegun_as}
 use Rattle.ss_machine_notices.proofs.events.begin_event.Goals as goal
 
@@ -21,38 +21,25 @@ offset_bounds-events-rank c =
     let within : c.rank-rank.result < length c.args.events.now = omega (arith, rank, begun_entry_within z.0 z.1 c.args.here c.args.state.now c.args.cell c.args.notice c.args.class z.3, ap length z.2) in
     search rules
 
-pub enter-requires-clause-sized : goal.enter-requires-clause-sized
-enter-requires-clause-sized c =
-    let z = c.requires in let es = c.args.events.now in let d = c.index-events-rank.result in let k = c.rank-rank.result in
-    let at = entry_read z.0 z.1 c.args.here c.args.state.now c.args.cell c.args.notice c.args.class z.3 es k d z.2 (c.rank-rank.ensures z.3.coming.ranked z.3.place) c.index-events-rank.is in
-    (entry_is z.0 z.1 c.args.here c.args.state.now c.args.cell c.args.notice c.args.class z.3 d at).sized
-
-pub enter-requires-clause-small : goal.enter-requires-clause-small
-enter-requires-clause-small c = let z = c.requires in begun_frame z.0 z.1 c.args.here c.args.state.now c.args.cell c.args.notice c.args.class z.3
-
-pub enter-requires-clause-place : goal.enter-requires-clause-place
-enter-requires-clause-place c = let z = c.requires in let lt = small z.0 z.1 c.args.here z.3.before (TakeEvent c.args.cell) z.3.ready in omega (arith, lt)
-
-pub unbegun-requires-clause-goes : goal.unbegun-requires-clause-goes
-unbegun-requires-clause-goes c =
+pub enter-requires : goal.enter-requires
+enter-requires c =
     let z = c.requires in
-    let refused : IsOutOfMemory c.args.state.now c.enter.new.self = search rules in
-    let rank : c.rank-rank.result ≡ z.3.coming.ranked.rank = c.rank-rank.ensures z.3.coming.ranked z.3.place in
+    let at = entry_read z.0 z.1 c.args.here c.args.state.now c.args.cell c.args.notice c.args.class z.3 c.args.events.now c.rank-rank.result c.index-events-rank.result z.2 (c.rank-rank.ensures z.3.coming.ranked z.3.place) c.index-events-rank.is in
+    let lt = small z.0 z.1 c.args.here z.3.before (TakeEvent c.args.cell) z.3.ready in
     record {
-      rank = omega (arith, rank, begun_rank z.0 z.1 c.args.here c.args.state.now c.args.cell c.args.notice c.args.class z.3, ap (λ (e : Seen). length e.notices) refused.world);
-      class = omega (arith, begun_class z.0 z.1 c.args.here c.args.state.now c.args.cell c.args.notice c.args.class z.3, ap (λ (e : Seen). length e.heap.layout.classes) refused.world);
-      single = ap (λ (e : Seen). is_single (slice_get e.heap.layout.classes c.args.class)) refused.world ∙ begun_single z.0 z.1 c.args.here c.args.state.now c.args.cell c.args.notice c.args.class z.3;
-      saved = λ said here.
-          let it : z.3.coming.ranked.said ≡ said = one (sym (begun_said z.0 z.1 c.args.here c.args.state.now c.args.cell c.args.notice c.args.class z.3) ∙ ap (λ (e : Seen). slice_get e.notices z.3.coming.ranked.rank) (sym refused.world) ∙ ap (slice_get c.enter.new.self.world.notices) (sym rank) ∙ here) in
-          let low = subst (λ (m : Notices). IfSome m.saved (λ k. k < c.args.here.frame)) it (begun_saved z.0 z.1 c.args.here c.args.state.now c.args.cell c.args.notice c.args.class z.3) in
-          saved_within said.saved c.args.here.frame (length c.enter.new.self.rows.numbers) (omega (arith, frame_within z.0 z.1 c.args.here c.args.state.now c.args.cell c.args.notice c.args.class z.3, refused.longer)) low;
+      sized = (entry_is z.0 z.1 c.args.here c.args.state.now c.args.cell c.args.notice c.args.class z.3 c.index-events-rank.result at).sized;
+      small = begun_frame z.0 z.1 c.args.here c.args.state.now c.args.cell c.args.notice c.args.class z.3;
+      place = omega (arith, lt);
     }
 
-pub unbegun-requires-clause-ticks : goal.unbegun-requires-clause-ticks
-unbegun-requires-clause-ticks c =
+pub unbegun-requires : goal.unbegun-requires
+unbegun-requires c =
     let z = c.requires in
     let refused : IsOutOfMemory c.args.state.now c.enter.new.self = search rules in
-    omega (arith, z.3.left, refused.ticks, z.3.few)
+    record {
+      goes = can_let_go z.0 z.1 c.args.here c.args.state.now c.args.cell c.args.notice c.args.class z.3 c.enter.new.self.world c.rank-rank.result (length c.enter.new.self.rows.numbers) refused.world (c.rank-rank.ensures z.3.coming.ranked z.3.place) (omega (arith, frame_within z.0 z.1 c.args.here c.args.state.now c.args.cell c.args.notice c.args.class z.3, refused.longer));
+      ticks = omega (arith, z.3.left, refused.ticks, z.3.few);
+    }
 
 pub returns-in_default : goal.returns-in_default
 returns-in_default c = λ w core all n.
@@ -66,36 +53,21 @@ returns-in_default c = λ w core all n.
     let u = subst (λ (y : ℤ). IsUnbegun n.coming.ranked.said class y s1 new) same (c.unbegun.ensures.state n.coming.ranked.said here) in
     unbegun_as w core c.args.here s c.args.cell c.args.notice c.args.class n d at s1 new (begun_event_at c.args.here c.args.cell c.unbegun.result) refused u (ap (begun_event_at c.args.here c.args.cell) c.unbegun.ensures.none)
 
-pub receive-requires-clause-goes : goal.receive-requires-clause-goes
-receive-requires-clause-goes c =
-    let z = c.requires in
-    let enters : HasEntered c.args.here c.args.state.now c.enter.new.self c.index-events-rank.result c.args.cell c.in-Ok.frame = search rules in
-    let rank : c.rank-rank.result ≡ z.3.coming.ranked.rank = c.rank-rank.ensures z.3.coming.ranked z.3.place in
-    record {
-      rank = omega (arith, rank, begun_rank z.0 z.1 c.args.here c.args.state.now c.args.cell c.args.notice c.args.class z.3, ap (λ (t : State). length t.world.notices) enters.is);
-      class = omega (arith, begun_class z.0 z.1 c.args.here c.args.state.now c.args.cell c.args.notice c.args.class z.3, ap (λ (t : State). length t.world.heap.layout.classes) enters.is);
-      single = ap (λ (t : State). is_single (slice_get t.world.heap.layout.classes c.args.class)) enters.is ∙ begun_single z.0 z.1 c.args.here c.args.state.now c.args.cell c.args.notice c.args.class z.3;
-      saved = λ said here.
-          let it : z.3.coming.ranked.said ≡ said = one (sym (begun_said z.0 z.1 c.args.here c.args.state.now c.args.cell c.args.notice c.args.class z.3) ∙ ap (λ (t : State). slice_get t.world.notices z.3.coming.ranked.rank) (sym enters.is) ∙ ap (slice_get c.enter.new.self.world.notices) (sym rank) ∙ here) in
-          let low = subst (λ (m : Notices). IfSome m.saved (λ k. k < c.args.here.frame)) it (begun_saved z.0 z.1 c.args.here c.args.state.now c.args.cell c.args.notice c.args.class z.3) in
-          saved_within said.saved c.args.here.frame c.in-Ok.frame (omega (arith, enters.begin)) low;
-    }
-
-pub receive-requires-clause-modes : goal.receive-requires-clause-modes
-receive-requires-clause-modes c = λ i m e.
-    let z = c.requires in let es = c.args.events.now in let d = c.index-events-rank.result in let k = c.rank-rank.result in
+pub receive-requires : goal.receive-requires
+receive-requires c =
+    let z = c.requires in let d = c.index-events-rank.result in
     let enters : HasEntered c.args.here c.args.state.now c.enter.new.self d c.args.cell c.in-Ok.frame = search rules in
-    let at = entry_read z.0 z.1 c.args.here c.args.state.now c.args.cell c.args.notice c.args.class z.3 es k d z.2 (c.rank-rank.ensures z.3.coming.ranked z.3.place) c.index-events-rank.is in
-    let given = c.deref.ensures.value ∙ (entry_is z.0 z.1 c.args.here c.args.state.now c.args.cell c.args.notice c.args.class z.3 d at).given in
-    ap (λ (t : State). slice_get (modes_of t.world.heap.layout c.args.class) i) enters.is ∙ begun_modes z.0 z.1 c.args.here c.args.state.now c.args.cell c.args.notice c.args.class z.3 i m (ap (λ (ms : List Mode). slice_get ms i) (sym given) ∙ e)
-
-pub receive-requires-clause-places : goal.receive-requires-clause-places
-receive-requires-clause-places c =
-    let z = c.requires in let es = c.args.events.now in let d = c.index-events-rank.result in let k = c.rank-rank.result in
-    let enters : HasEntered c.args.here c.args.state.now c.enter.new.self d c.args.cell c.in-Ok.frame = search rules in
-    let at = entry_read z.0 z.1 c.args.here c.args.state.now c.args.cell c.args.notice c.args.class z.3 es k d z.2 (c.rank-rank.ensures z.3.coming.ranked z.3.place) c.index-events-rank.is in
+    let at = entry_read z.0 z.1 c.args.here c.args.state.now c.args.cell c.args.notice c.args.class z.3 c.args.events.now c.rank-rank.result c.index-events-rank.result z.2 (c.rank-rank.ensures z.3.coming.ranked z.3.place) c.index-events-rank.is in
+    let entry = entry_is z.0 z.1 c.args.here c.args.state.now c.args.cell c.args.notice c.args.class z.3 d at in
     let long = cleared_long enters.grown (c.in-Ok.frame + length d.given.items) d.others.items in
-    omega (arith, enters.room, (entry_is z.0 z.1 c.args.here c.args.state.now c.args.cell c.args.notice c.args.class z.3 d at).sized.variables, ap length c.deref.ensures.value, long, ap (λ (t : State). length t.rows.numbers) enters.is)
+    record {
+      goes = can_let_go z.0 z.1 c.args.here c.args.state.now c.args.cell c.args.notice c.args.class z.3 c.enter.new.self.world c.rank-rank.result c.in-Ok.frame (ap (λ (t : State). t.world) enters.is) (c.rank-rank.ensures z.3.coming.ranked z.3.place) (omega (arith, enters.begin));
+      modes = λ i m e.
+          ap (λ (t : State). slice_get (modes_of t.world.heap.layout c.args.class) i) enters.is
+          ∙ begun_modes z.0 z.1 c.args.here c.args.state.now c.args.cell c.args.notice c.args.class z.3 i m (ap (λ (ms : List Mode). slice_get ms i) (sym (c.deref.ensures.value ∙ entry.given)) ∙ e);
+      places = omega (arith, enters.room, entry.sized.variables, ap length c.deref.ensures.value, long, ap (λ (t : State). length t.rows.numbers) enters.is);
+      small = omega (arith, enters.room, enters.small, entry.sized.variables, ap length c.deref.ensures.value);
+    }
 
 pub fault_of_event-requires : goal.fault_of_event-requires
 fault_of_event-requires c =
@@ -115,9 +87,7 @@ returns-in-Ok-receive c = λ w core all n.
     let at = entry_read w core c.args.here s c.args.cell c.args.notice c.args.class n es k d all rank c.index-events-rank.is in
     let here : slice_get s1.world.notices k ≡ Some n.coming.ranked.said = ap (slice_get s1.world.notices) rank ∙ ap (λ (t : State). slice_get t.world.notices n.coming.ranked.rank) enters.is ∙ begun_said w core c.args.here s c.args.cell c.args.notice c.args.class n in
     let same : to_z w64 (of_z w64 x) ≡ x = search rules in
-    let got =
-    subst (λ (ms : List Mode). HasReceived n.coming.ranked.said class x ms frame s1 c.receive.new.state (Ok tt)) c.deref.ensures.value
-    (subst (λ (y : ℤ). HasReceived n.coming.ranked.said class y c.deref.result.now frame s1 c.receive.new.state (Ok tt)) same (c.in-Ok-receive.ensures n.coming.ranked.said here)) in
+    let got : HasReceived n.coming.ranked.said class x d.given.items frame s1 c.receive.new.state (Ok tt) = simp (same, c.deref.ensures.value) at (c.in-Ok-receive.ensures n.coming.ranked.said here) in
     begins w core c.args.here s c.args.cell c.args.notice c.args.class n d at s1 frame enters c.receive.new.state got (begun_event_at c.args.here c.args.cell (Some d.place)) (ap (λ (f : ℕ). let h : Here = record { place = d.place; frame = f } in Some h) (sym enters.begin)) (omega (arith, enters.begin))
 
 pub returns-in-Err : goal.returns-in-Err
@@ -129,16 +99,7 @@ returns-in-Err c = λ w core all n.
     let at = entry_read w core c.args.here s c.args.cell c.args.notice c.args.class n es k d all rank c.index-events-rank.is in
     let here : slice_get s1.world.notices k ≡ Some n.coming.ranked.said = ap (slice_get s1.world.notices) rank ∙ ap (λ (t : State). slice_get t.world.notices n.coming.ranked.rank) enters.is ∙ begun_said w core c.args.here s c.args.cell c.args.notice c.args.class n in
     let same : to_z w64 (of_z w64 x) ≡ x = search rules in
-    let got =
-    subst (λ (ms : List Mode). HasReceived n.coming.ranked.said class x ms frame s1 c.receive.new.state (Err c.in-Err.kind)) c.deref.ensures.value
-    (subst (λ (y : ℤ). HasReceived n.coming.ranked.said class y c.deref.result.now frame s1 c.receive.new.state (Err c.in-Err.kind)) same (c.in-Err.ensures n.coming.ranked.said here)) in
+    let got : HasReceived n.coming.ranked.said class x d.given.items frame s1 c.receive.new.state (Err c.in-Err.kind) = simp (same, c.deref.ensures.value) at (c.in-Err.ensures n.coming.ranked.said here) in
     let kept = receives_not n.coming.ranked.said class x d.given.items frame s1 c.receive.new.state c.in-Err.kind got in
     let still : slice_get c.receive.new.state.world.notices k ≡ Some n.coming.ranked.said = ap (λ (e : Seen). slice_get e.notices k) kept ∙ here in
     begins_fault w core c.args.here s c.args.cell c.args.notice c.args.class n d at s1 frame enters c.receive.new.state c.in-Err.kind got c.fault_of_event.new.state (begun_event_at c.args.here c.args.cell c.fault_of_event.result) (c.fault_of_event.ensures.state n.coming.ranked.said still) (ap (begun_event_at c.args.here c.args.cell) c.fault_of_event.ensures.none)
-
-pub receive-requires-clause-small : goal.receive-requires-clause-small
-receive-requires-clause-small c =
-    let z = c.requires in let es = c.args.events.now in let d = c.index-events-rank.result in let k = c.rank-rank.result in
-    let enters : HasEntered c.args.here c.args.state.now c.enter.new.self d c.args.cell c.in-Ok.frame = search rules in
-    let at = entry_read z.0 z.1 c.args.here c.args.state.now c.args.cell c.args.notice c.args.class z.3 es k d z.2 (c.rank-rank.ensures z.3.coming.ranked z.3.place) c.index-events-rank.is in
-    omega (arith, enters.room, enters.small, (entry_is z.0 z.1 c.args.here c.args.state.now c.args.cell c.args.notice c.args.class z.3 d at).sized.variables, ap length c.deref.ensures.value)

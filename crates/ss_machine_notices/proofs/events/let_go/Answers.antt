@@ -6,11 +6,8 @@ use Rattle.ss_machine_notices.proofs.events.let_go.Goals as goal
 pub saved_of-requires : goal.saved_of-requires
 saved_of-requires c = c.requires.rank
 
-pub remove_entity-requires-clause-class : goal.remove_entity-requires-clause-class
-remove_entity-requires-clause-class c = c.requires.class
-
-pub remove_entity-requires-clause-single : goal.remove_entity-requires-clause-single
-remove_entity-requires-clause-single c = c.requires.single
+pub remove_entity-requires : goal.remove_entity-requires
+remove_entity-requires c = record { class = c.requires.class; single = c.requires.single }
 
 pub set_number_at-requires : goal.set_number_at-requires
 set_number_at-requires c =

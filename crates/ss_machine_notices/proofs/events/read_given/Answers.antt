@@ -6,13 +6,13 @@ use Rattle.ss_machine_notices.proofs.events.read_given.Goals as goal
 pub loop-field-init : goal.loop-field-init
 loop-field-init c = record { long = refl; most = omega arith; received = λ even. none_received c.args.world.now.heap c.args.what.class c.args.what.notice c.args.modes.now c.args.what.from c.args.rows.now }
 
-pub read_one-requires-clause-mode : goal.read_one-requires-clause-mode
-read_one-requires-clause-mode c =
-    let i = c.loop-field.field in let m = c.given_mode.result in
-    c.requires.modes i m c.given_mode.ensures
-
-pub read_one-requires-clause-place : goal.read_one-requires-clause-place
-read_one-requires-clause-place c = omega (arith, c.requires.places, c.loop-field-test.true, c.loop-field.invariant.long)
+pub read_one-requires : goal.read_one-requires
+read_one-requires c = record {
+  class = c.requires.class;
+  mode = c.requires.modes c.loop-field.field c.given_mode.result c.given_mode.ensures;
+  place = omega (arith, c.requires.places, c.loop-field-test.true, c.loop-field.invariant.long);
+  small = omega (arith, c.requires.small, c.loop-field-test.true);
+}
 
 pub loop-field-preserved : goal.loop-field-preserved
 loop-field-preserved c =
@@ -27,19 +27,16 @@ loop-field-preserved c =
           (omega (arith, c.requires.places, c.loop-field-test.true)) v.1 v.2 v.3;
     }
 
-pub returns-in-Err-clause-long : goal.returns-in-Err-clause-long
-returns-in-Err-clause-long c = ap (λ (r : TwoRows). length r.numbers) c.in-Err.ensures.1 ∙ c.loop-field.invariant.long
+pub returns-in-Err : goal.returns-in-Err
+returns-in-Err c = record {
+  received = λ even. (c.loop-field.field, c.loop-field-test.true, c.in-Err.ensures.0);
+  long = ap (λ (r : TwoRows). length r.numbers) c.in-Err.ensures.1 ∙ c.loop-field.invariant.long;
+}
 
-pub returns-in-Err-clause-received : goal.returns-in-Err-clause-received
-returns-in-Err-clause-received c = λ even. (c.loop-field.field, c.loop-field-test.true, c.in-Err.ensures.0)
-
-pub returns-clause-long : goal.returns-clause-long
-returns-clause-long c = c.loop-field.invariant.long
-
-pub returns-clause-received : goal.returns-clause-received
-returns-clause-received c = λ even.
+pub returns : goal.returns
+returns c =
     let i = c.loop-field.field in
-    all_received c.args.world.now.heap c.args.what.class c.args.what.notice c.args.modes.now c.args.what.from c.args.rows.now i c.loop-field.rows (c.loop-field.invariant.received even) (omega (arith, c.loop-field-test.false, c.loop-field.invariant.most))
-
-pub read_one-requires-clause-small : goal.read_one-requires-clause-small
-read_one-requires-clause-small c = omega (arith, c.requires.small, c.loop-field-test.true)
+    record {
+      received = λ even. all_received c.args.world.now.heap c.args.what.class c.args.what.notice c.args.modes.now c.args.what.from c.args.rows.now i c.loop-field.rows (c.loop-field.invariant.received even) (omega (arith, c.loop-field-test.false, c.loop-field.invariant.most));
+      long = c.loop-field.invariant.long;
+    }

@@ -3,14 +3,8 @@ use Rattle.ss_machine_notices.specs.Beginning.{HasLetGo}
 use Rattle.ss_machine_notices.proofs.Beginning.{saved_within}
 use Rattle.ss_machine_notices.proofs.events.receive.Goals as goal
 
-pub read_given-requires-clause-class : goal.read_given-requires-clause-class
-read_given-requires-clause-class c = c.requires.goes.class
-
-pub read_given-requires-clause-modes : goal.read_given-requires-clause-modes
-read_given-requires-clause-modes c = c.requires.modes
-
-pub read_given-requires-clause-places : goal.read_given-requires-clause-places
-read_given-requires-clause-places c = c.requires.places
+pub read_given-requires : goal.read_given-requires
+read_given-requires c = record { class = c.requires.goes.class; modes = c.requires.modes; places = c.requires.places; small = c.requires.small }
 
 pub let_go-requires : goal.let_go-requires
 let_go-requires c =
@@ -41,6 +35,3 @@ returns-in-Ok c = λ said here.
       read_is = c.in-Ok.ensures.received;
       lets_go = subst (λ (z : ℤ). HasLetGo said.saved c.args.what.class z mid c.let_go.new.state c.let_go.result) same (c.let_go.ensures said here);
     }
-
-pub read_given-requires-clause-small : goal.read_given-requires-clause-small
-read_given-requires-clause-small c = c.requires.small

@@ -1,4 +1,4 @@
-use Rattle.std.proofs.Common.{Option, rules, ◌≡◌, ℤ, Some, None, true, false, ap, sym, ◌∙◌, subst, to_z, of_z, w64}
+use Rattle.std.proofs.Common.{Option, rules, ◌≡◌, ℤ, Some, None, true, ap, sym, ◌∙◌, subst, to_z, of_z, w64}
 use Rattle.ss_machine_notices.proofs.Common.{act, frame_small, HasOneTick, Here, is_due, IsNextEvent, IsNextNotice, least_event, living, Seen, State}
 use Rattle.ss_code_instructions.specs.declared.instruction.Instruction.TheVariants.{TakeEvent as Runs}
 use Rattle.ss_machine_instructions.specs.Ways.{led, begun_event_at, led_to}
@@ -9,16 +9,14 @@ use Rattle.ss_machine_notices.proofs.events.take_event.Goals as goal
 
 pub returns-then-not-has_taken_tick : goal.returns-then-not-has_taken_tick
 returns-then-not-has_taken_tick c = λ w core all r.
-    let none : c.has_taken_tick.result ≡ false = search rules in
-    let kept = c.has_taken_tick.ensures.none none in
+    let kept = c.has_taken_tick.ensures.none (search rules) in
     pauses w core c.args.here c.args.state.now (Runs c.args.cell) r c.stop.new.self (led c.after.result) (ap is_due r.runs.carries.2) kept.0 (search rules) (led_stopped c.on-on.result c.after.result c.stop.result c.after.ensures c.stop.ensures.none)
 
 -- no notice is pending
 pub returns-in_default : goal.returns-in_default
 returns-in_default c = λ w core all r.
     let s = c.args.state.now in let e = c.next_event.new.world in
-    let some : c.has_taken_tick.result ≡ true = search rules in
-    let took = c.has_taken_tick.ensures.taken some in
+    let took = c.has_taken_tick.ensures.taken (search rules) in
     let kept : e ≡ s.world = c.in_default.ensures.1 ∙ ap (λ (t : State). t.world) took.2 in
     let none : least_event s.world.pending ≡ None = sym (ap (λ (t : State). least_event t.world.pending) took.2) ∙ c.in_default.ensures.0 in
     let same : record c.has_taken_tick.new.self { world = e } ≡ record s { ticks = took.0 } = ap (λ (t : State). record t { world = e }) took.2 ∙ ap (λ (v : Seen). record s { ticks = took.0; world = v }) kept in
@@ -29,8 +27,7 @@ returns-in_default c = λ w core all r.
 pub returns-in-None : goal.returns-in-None
 returns-in-None c = λ w core all r.
     let x = c.in-Some.notice in let e = c.next_event.new.world in
-    let some : c.has_taken_tick.result ≡ true = search rules in
-    let took = c.has_taken_tick.ensures.taken some in
+    let took = c.has_taken_tick.ensures.taken (search rules) in
     let same : to_z w64 (of_z w64 x) ≡ x = search rules in
     let comes = subst (λ (t : State). IsNextNotice t.world e (Some x)) took.2 c.in-Some.ensures in
     let gone = subst (λ (y : ℤ). living e.heap y ≡ None) same (sym c.in-None.ensures) in

@@ -4,24 +4,21 @@ use Rattle.ss_base.specs.declared.layout.Layout.{Layout}
 use Rattle.ss_machine_notices.proofs.Giving.{suits_class, suits_mode, set_not, set_noted}
 use Rattle.ss_machine_notices.proofs.scheduling.give_number.Goals as goal
 
-pub set_number-requires-clause-class : goal.set_number-requires-clause-class
-set_number-requires-clause-class c = suits_class c.args.what.class c.args.field c.args.what.notice (Whole c.args.number) c.args.what.noted c.args.world.now c.requires
+pub set_number-requires : goal.set_number-requires
+set_number-requires c = record {
+  class = suits_class c.args.what.class c.args.field c.args.what.notice (Whole c.args.number) c.args.what.noted c.args.world.now c.requires;
+  mode = suits_mode c.args.what.class c.args.field c.args.what.notice (Whole c.args.number) c.args.what.noted c.args.world.now c.requires ∙ ap Some (sym c.requires.right);
+}
 
-pub set_number-requires-clause-mode : goal.set_number-requires-clause-mode
-set_number-requires-clause-mode c =
-    suits_mode c.args.what.class c.args.field c.args.what.notice (Whole c.args.number) c.args.what.noted c.args.world.now c.requires ∙ ap Some (sym c.requires.right)
-
-pub note_if-requires-clause-class : goal.note_if-requires-clause-class
-note_if-requires-clause-class c =
+pub note_if-requires : goal.note_if-requires
+note_if-requires c =
     let layout = c.in-Ok.ensures.set.1 in
-    subst (λ (l : Layout). c.args.what.class < length l.classes) (sym layout)
-    (suits_class c.args.what.class c.args.field c.args.what.notice (Whole c.args.number) c.args.what.noted c.args.world.now c.requires)
-
-pub note_if-requires-clause-mode : goal.note_if-requires-clause-mode
-note_if-requires-clause-mode c =
-    let layout = c.in-Ok.ensures.set.1 in
-    subst (λ (l : Layout). slice_get (modes_of l c.args.what.class) c.args.field ≡ Some Integer) (sym layout)
-    (suits_mode c.args.what.class c.args.field c.args.what.notice (Whole c.args.number) c.args.what.noted c.args.world.now c.requires ∙ ap Some (sym c.requires.right))
+    record {
+      class = subst (λ (l : Layout). c.args.what.class < length l.classes) (sym layout) (suits_class c.args.what.class c.args.field c.args.what.notice (Whole c.args.number) c.args.what.noted c.args.world.now c.requires);
+      mode =
+          subst (λ (l : Layout). slice_get (modes_of l c.args.what.class) c.args.field ≡ Some Integer) (sym layout)
+          (suits_mode c.args.what.class c.args.field c.args.what.notice (Whole c.args.number) c.args.what.noted c.args.world.now c.requires ∙ ap Some (sym c.requires.right));
+    }
 
 pub returns-in-Err : goal.returns-in-Err
 returns-in-Err c = λ g.

@@ -4,11 +4,11 @@ use Rattle.ss_machine_frames.proofs.Places.{number_is, text_is}
 use Rattle.ss_machine_notices.proofs.Giving.{suiting_as, suits_class, suits_field, suits_mode}
 use Rattle.ss_machine_notices.proofs.scheduling.give_one.Goals as goal
 
-pub mode_at-requires-clause-class : goal.mode_at-requires-clause-class
-mode_at-requires-clause-class c = suits_class c.args.what.class c.args.field c.args.what.notice c.requires.value c.args.what.noted c.args.world.now c.requires.suits
-
-pub mode_at-requires-clause-field : goal.mode_at-requires-clause-field
-mode_at-requires-clause-field c = suits_field c.args.what.class c.args.field c.args.what.notice c.requires.value c.args.what.noted c.args.world.now c.requires.suits
+pub mode_at-requires : goal.mode_at-requires
+mode_at-requires c = record {
+  class = suits_class c.args.what.class c.args.field c.args.what.notice c.requires.value c.args.what.noted c.args.world.now c.requires.suits;
+  field = suits_field c.args.what.class c.args.field c.args.what.notice c.requires.value c.args.what.noted c.args.world.now c.requires.suits;
+}
 
 pub number_at-requires : goal.number_at-requires
 number_at-requires c = c.requires.within

@@ -3,12 +3,11 @@ use Rattle.ss_machine_notices.proofs.Common.{HasSetField, Text}
 use Rattle.ss_machine_notices.proofs.Giving.{suits_class, suits_mode, text_set}
 use Rattle.ss_machine_notices.proofs.scheduling.give_text.Goals as goal
 
-pub set_text-requires-clause-class : goal.set_text-requires-clause-class
-set_text-requires-clause-class c = suits_class c.args.what.class c.args.field c.args.what.notice (Text c.args.text) c.args.what.noted c.args.world.now c.requires
-
-pub set_text-requires-clause-mode : goal.set_text-requires-clause-mode
-set_text-requires-clause-mode c =
-    suits_mode c.args.what.class c.args.field c.args.what.notice (Text c.args.text) c.args.what.noted c.args.world.now c.requires ∙ ap Some (sym c.requires.right)
+pub set_text-requires : goal.set_text-requires
+set_text-requires c = record {
+  class = suits_class c.args.what.class c.args.field c.args.what.notice (Text c.args.text) c.args.what.noted c.args.world.now c.requires;
+  mode = suits_mode c.args.what.class c.args.field c.args.what.notice (Text c.args.text) c.args.what.noted c.args.world.now c.requires ∙ ap Some (sym c.requires.right);
+}
 
 pub returns : goal.returns
 returns c = λ g.

@@ -21,7 +21,5 @@ returns-in-Ok c = λ g.
     let same_n : to_z w64 (of_z w64 n) ≡ n = search rules in
     let same_t : to_z w64 (of_z w64 t) ≡ t = search rules in
     let prepared_it = subst (λ (y : ℤ). IsSettledIn g.store (prepared class (Whole n) g.values y) c.args.world.now mid (Ok tt)) same_t (c.in-Ok.ensures g) in
-    let filed =
-    subst (λ (x : ℤ). HasChangedWithMemory (filed_notice class (Whole x) t) mid new q) same_n
-    (subst (λ (y : ℤ). HasChangedWithMemory (filed_notice class (Whole (to_z w64 (of_z w64 n))) y) mid new q) same_t c.schedule.ensures) in
+    let filed : HasChangedWithMemory (filed_notice class (Whole n) t) mid new q = simp (same_n, same_t) at c.schedule.ensures in
     filed_then c.args.what.class c.args.what.notice c.args.what.noted c.args.what.from c.args.given c.args.rows.now c.args.world.now g t mid new q prepared_it filed

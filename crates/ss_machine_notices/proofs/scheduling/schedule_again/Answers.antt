@@ -4,7 +4,7 @@ use Rattle.ss_machine_notices.proofs.Giving.{create_class, again_not, again}
 use Rattle.ss_machine_notices.proofs.scheduling.schedule_again.Goals as goal
 
 pub look_unpended-requires : goal.look_unpended-requires
-look_unpended-requires c = record { class = create_class c.args.what.class c.args.what.noted c.args.what.from c.args.given c.args.rows.now c.args.world.now c.requires c.args.time }
+look_unpended-requires c = record { class = create_class c.requires }
 
 pub returns-in-Err : goal.returns-in-Err
 returns-in-Err c = λ g.

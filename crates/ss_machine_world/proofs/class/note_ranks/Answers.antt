@@ -1,14 +1,7 @@
 use Rattle.std.proofs.Common.{arith, ◌≡◌, ◌-◌, ◌+◌, List, length, drop, Some, refl, sym, subst}
 use Rattle.ss_machine_world.proofs.Common.{AreSaidFrom, Notices, slice_get, slice_get_read}
-use Rattle.ss_machine_world.proofs.Said.{drop_one, drop_all, one_ranked, unranked}
+use Rattle.ss_machine_world.proofs.Said.{drop_one, one_ranked}
 use Rattle.ss_machine_world.proofs.class.note_ranks.Goals as goal
-
-pub loop-rank-init : goal.loop-rank-init
-loop-rank-init c = record {
-  within = omega arith;
-  said = λ l ss said.
-      subst (λ (es : List Notices). AreSaidFrom (length c.args.notices.now) l es ss c.args.classes.now) (sym (drop_all c.args.notices.now)) (unranked (length c.args.notices.now) l ss c.args.classes.now said);
-}
 
 pub loop-rank-preserved : goal.loop-rank-preserved
 loop-rank-preserved c =

@@ -1,4 +1,4 @@
-use Rattle.std.proofs.Common.{◌≡◌, ap, sym, subst, ◌∙◌}
+use Rattle.std.proofs.Common.{◌≡◌, sym, subst, ◌∙◌}
 use Rattle.std.specs.Prelude.{MatchResult, Err}
 use Rattle.std.proofs.lemmas.Int.{to_z-of_z}
 use Rattle.ss_base.specs.Arithmetic.{minus_of}
@@ -9,9 +9,6 @@ use Rattle.ss_machine_entities.proofs.population.Population.subtract_whole.Goals
 
 pub invariant_of-self : goal.invariant_of-self
 invariant_of-self c = c.self.invariant ∙ sym (changed_keeps c.self.inside.heap.state c.subtract_whole.new.self.state _ _ _ _ c.subtract_whole.result c.subtract_whole.ensures.done).counts
-
-pub returns-clause-layout : goal.returns-clause-layout
-returns-clause-layout c = (changed_keeps c.self.inside.heap.state c.subtract_whole.new.self.state _ _ _ _ c.subtract_whole.result c.subtract_whole.ensures.done).layout ∙ ap (λ (h : State). h.layout) c.self.view_is
 
 pub returns-clause-done : goal.returns-clause-done
 returns-clause-done c =

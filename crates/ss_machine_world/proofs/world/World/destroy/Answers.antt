@@ -1,14 +1,7 @@
-use Rattle.std.proofs.Common.{rules, ◌≡◌, true, false, Err, refl, subst, to_z, of_z, w64, ℤ}
+use Rattle.std.proofs.Common.{rules, ◌≡◌, false, Err, refl, subst, to_z, of_z, w64, ℤ}
 use Rattle.ss_machine_world.proofs.Common.{Fails, gone, HasChanged, is_pending, Whole, with_seen, without}
 use Rattle.ss_machine_world.proofs.Leaving.{gone_without}
 use Rattle.ss_machine_world.proofs.world.World.destroy.Goals as goal
-
-pub scheduled-requires-clause-pending : goal.scheduled-requires-clause-pending
-scheduled-requires-clause-pending c =
-    let n = c.args.number in
-    let same : to_z w64 (of_z w64 n) ≡ n = search rules in
-    let pending : is_pending n c.args.self.now.pending.entries ≡ true = search rules in
-    rw same pending
 
 pub returns-then-is_scheduled : goal.returns-then-is_scheduled
 returns-then-is_scheduled c =

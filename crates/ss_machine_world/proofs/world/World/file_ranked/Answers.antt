@@ -1,19 +1,11 @@
 use Rattle.std.proofs.Common.{rules, ◌≡◌, List, length, Some, None, refl, ap, sym, ◌∙◌, subst, to_z, of_z, w64}
-use Rattle.ss_machine_world.proofs.Common.{Discipline, HasRearranged, Seen, slice_get, State}
+use Rattle.ss_machine_world.proofs.Common.{Discipline, HasRearranged, Seen, slice_get}
 use Rattle.std.proofs.lemmas.Option.{slice_get_read, slice_get_past}
-use Rattle.ss_world.specs.Disciplines.{filed, HasMemberKeys}
+use Rattle.ss_world.specs.Disciplines.{filed}
 use Rattle.ss_machine_world.proofs.Ruling.{ruled_by}
 use Rattle.ss_machine_world.proofs.Starting.{seen_of}
 use Rattle.ss_machine_world.proofs.Said.{said_of_layout}
 use Rattle.ss_machine_world.proofs.world.World.file_ranked.Goals as goal
-
-pub file-requires-clause-keys : goal.file-requires-clause-keys
-file-requires-clause-keys c =
-    let i = c.self.inside in let d = c.in-Some.discipline.now in
-    let at = slice_get_read c.deref.result.now (length c.deref.result.now) c.args.set d refl c.in-Some.ensures.lookup.3.0 c.in-Some.ensures.lookup.1 in
-    let has : slice_get c.args.self.now.disciplines c.args.set ≡ Some d =
-    sym (ap (λ (v : Seen). slice_get v.disciplines c.args.set) c.self.view_is) ∙ subst (λ (ds : List Discipline). slice_get ds c.args.set ≡ Some d) c.deref.ensures.value at in
-    subst (λ (h : State). HasMemberKeys h.layout c.args.set d) (sym (ap (λ (v : Seen). v.heap) c.self.view_is)) (c.requires.keys d has)
 
 pub returns-in-Some : goal.returns-in-Some
 returns-in-Some c = λ d has.

@@ -1,15 +1,7 @@
-use Rattle.std.proofs.Common.{rules, ◌≡◌, ℤ, Ok, Err, ap, subst, to_z, of_z, w64}
+use Rattle.std.proofs.Common.{rules, ◌≡◌, ℤ, Err, ap, subst, to_z, of_z, w64}
 use Rattle.ss_machine_world.proofs.Common.{known_in, Seen, State}
 use Rattle.ss_machine_world.proofs.Leaving.{kept_pending, there_in}
 use Rattle.ss_machine_world.proofs.world.World.scheduled.Goals as goal
-
-pub returns-in-Ok : goal.returns-in-Ok
-returns-in-Ok c =
-    let e = c.args.self.now in let class = c.args.class in let n = c.args.number in
-    let same : to_z w64 (of_z w64 n) ≡ n = search rules in
-    let heap = ap (λ (v : Seen). v.heap) c.self.view_is in
-    kept_pending e class n (there_in e.heap.layout.classes class c.requires.class) (Ok tt)
-    (subst (λ (h : State). Ok tt ≡ known_in h class n) heap (subst (λ (z : ℤ). Ok tt ≡ known_in c.self.inside.population class z) same c.in-Ok.ensures)) c.requires.pending
 
 pub returns-in-Err : goal.returns-in-Err
 returns-in-Err c =
