@@ -1,7 +1,7 @@
 -- Values that are laid in the rows one after the other.
 use Rattle.std.proofs.Common.{◌≡◌, ℕ, zero, suc, ◌+◌, ◌<◌, List, [], ◌∷◌, ◌++◌, length, get_or, drop, refl, sym, ap, ◌∙◌, subst, arith, length-append}
 use Rattle.std.specs.Prelude.{slice_get, Some, pos}
-use Rattle.ss_machine.proofs.Common.{AreValuesAt, drop_all, drop_more, first_value, first_values, firsts_laid, Mode, Text, Value, values_laid, Whole}
+use Rattle.ss_machine.proofs.Common.{AreValuesAt, drop_more, first_values, Mode, Text, Value, values_laid, Whole}
 use Rattle.ss_machine_frames.specs.Rows.{TwoRows, IsValueAt, AreAlike, with_last}
 use Rattle.ss_machine_frames.proofs.Places.{agree_on, agree_same, agree_within, value_agrees}
 
@@ -11,15 +11,6 @@ pub laid_more : (vs : List Value) (i : ℕ) (v : Value) → i < length vs → v 
 laid_more vs i v lt is r s e h =
     let next : drop i vs ≡ v ∷ drop (i + 1) vs = drop_more vs i v lt ∙ ap (λ x. x ∷ drop (i + 1) vs) (sym is) in
     ap (λ t. values_laid t (drop (i + 1) vs)) e ∙ sym (ap (values_laid r) next) ∙ h
-
-pub laid_all : (vs : List Value) (i : ℕ) → length vs < i + 1 → (r : TwoRows) → {all : TwoRows} → values_laid r (drop i vs) ≡ all → r ≡ all
-laid_all vs i le r h = sym (ap (values_laid r) (drop_all i vs (omega (arith, le)))) ∙ h
-
-pub firsts_more : (ms : List Mode) (i : ℕ) (d : Mode) → i < length ms → (r s : TwoRows) → s ≡ with_last r (first_value (get_or ms i d)) → {all : TwoRows} → firsts_laid r (drop i ms) ≡ all → firsts_laid s (drop (i + 1) ms) ≡ all
-firsts_more ms i d lt r s e h = ap (λ t. firsts_laid t (drop (i + 1) ms)) e ∙ sym (ap (firsts_laid r) (drop_more ms i d lt)) ∙ h
-
-pub firsts_all : (ms : List Mode) (i : ℕ) → length ms < i + 1 → (r : TwoRows) → {all : TwoRows} → firsts_laid r (drop i ms) ≡ all → r ≡ all
-firsts_all ms i le r h = sym (ap (firsts_laid r) (drop_all i ms (omega (arith, le)))) ∙ h
 
 -- ## Where they lie
 

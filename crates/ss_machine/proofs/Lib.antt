@@ -3,6 +3,7 @@ mod Known
 mod Fields
 mod Items
 pub mod Inputs
+pub mod Joining
 mod Likeness
 pub mod Reaching
 mod Stepping

@@ -1,7 +1,7 @@
 -- A machine before its first step, and one that goes on.
-use Rattle.std.proofs.Common.{◌≡◌, ℕ, ◌+◌, ◌-◌, ◌*◌, ◌≤◌, Bool, true, false, [], length, None, refl, sym, ap, subst, arith}
+use Rattle.std.proofs.Common.{◌≡◌, ℕ, ◌+◌, ◌-◌, ◌*◌, ◌≤◌, Bool, true, false, [], length, None, sym, ap, subst, arith}
 use Rattle.ss_machine.proofs.Common.{first_here, Generated, HasShape, IsAtStart, IsFirstState, IsGenerated, left_from, left_in_calls, situated, slice_get, State, Stop, takes_tick_at}
-use Rattle.ss_machine.specs.declared.stop.Stop.TheVariants.{Input, Memory, Output, Ended, Fault, Paused, Failed}
+use Rattle.ss_machine.specs.declared.stop.Stop.TheVariants.{Paused}
 use Rattle.ss_code_instructions.specs.Running.{start}
 use Rattle.ss_machine.proofs.Reaching.{made_of}
 use Rattle.ss_machine.specs.Held.{IsReady, kept_after}
@@ -24,10 +24,4 @@ first_ready shape code made s first at =
 
 -- only after a pause the next run goes on
 pub kept_none : (stop : Stop) → kept_after stop ≡ None → stop ≡ Paused
-kept_none Ended e = absurd cc
-kept_none (Fault kind line) e = absurd cc
-kept_none Paused e = refl
-kept_none Memory e = absurd cc
-kept_none Output e = absurd cc
-kept_none Input e = absurd cc
-kept_none Failed e = absurd cc
+kept_none stop e = grind arith

@@ -1,20 +1,9 @@
 -- A run that goes on with other ticks.
 use Rattle.std.proofs.Common.{◌≡◌, ℕ, ◌-◌, ◌≤◌, List, Option, arith}
-use Rattle.ss_machine.proofs.Common.{Compiled, Core, Generated, HasCome, Here, IsFinished, IsRepresented, IsRunResult, IsSituated, situated, Situation, Source, State, Stop}
+use Rattle.ss_machine.proofs.Common.{Compiled, Core, Generated, HasCome, IsFinished, IsRepresented, IsRunResult, Situation, Source, Stop}
 use Rattle.ss_machine.specs.declared.stop.Stop.TheVariants.{Input, Memory, Output, Ended, Fault, Paused, Failed}
 use Rattle.ss_meaning.specs.Meaning as endings
 use Rattle.ss_machine.proofs.Inputs.{reads_so, fails_so, finds_so}
-
--- ## Ticks are handed out
-
-pub stands_ticked : (w : Compiled) (c : Core) (here : Here) (s : State) (t : ℕ) → IsRepresented w c (situated here s) → IsRepresented w c (situated here (record s { ticks = t }))
-stands_ticked w c here s t h = record {
-  reached = h.reached;
-  holds = record { place = h.holds.place; held = h.holds.held; world = h.holds.world; even = h.holds.even; line = h.holds.line };
-}
-
-pub situated_ticked : (code : Generated) (here : Here) (s : State) (t : ℕ) → IsSituated code (situated here s) → IsSituated code (situated here (record s { ticks = t }))
-situated_ticked code here s t z = (z.0, z.1, (z.2.0, stands_ticked z.0 z.2.0 here s t z.2.1))
 
 -- what is so of a situation is so of one that holds no other states
 module _ {R : Type 0} (remaining : R → Option (List ℕ)) (code : Generated) (old old' new : Situation) (source last : Source R) (before after : Option (List ℕ)) (taken made : ℕ) (from : (w : Compiled) (c : Core) → IsRepresented w c old → IsRepresented w c old') where
@@ -44,12 +33,7 @@ module _ {R : Type 0} (remaining : R → Option (List ℕ)) (code : Generated) (
 -- no run is ever stuck
 pub never : {R : Type 0} (remaining : R → Option (List ℕ)) (stop : Stop) (code : Generated) (old new : Situation) (source last : Source R) (before after : Option (List ℕ)) (taken made : ℕ) → IsRunResult remaining stop code old new source last before after taken made → stop ≡ Failed → ⊥
 never remaining Failed code old new source last before after taken made h e = h
-never remaining Ended code old new source last before after taken made h e = cc
-never remaining (Fault kind line) code old new source last before after taken made h e = cc
-never remaining Paused code old new source last before after taken made h e = cc
-never remaining Memory code old new source last before after taken made h e = cc
-never remaining Output code old new source last before after taken made h e = cc
-never remaining Input code old new source last before after taken made h e = cc
+never remaining _ code old new source last before after taken made h e = cc
 
 -- the ticks that were used, by those that are left
 pub used_by : (last used left : ℕ) → used ≤ last → left ≤ last - used → (last - used) - left ≡ (last - left) - used

@@ -1,10 +1,9 @@
 -- The first state of a machine.
 use Rattle.std.proofs.Common.{◌≡◌, ℕ, ◌+◌, ◌<◌, ◌≤◌, ◌^◌, List, [], ◌∷◌, length, refl, sym, ap, ◌∙◌, subst, pos, arith}
 use Rattle.std.specs.Ordering.{int_eq}
-use Rattle.std.specs.Prelude.{Result, Ok, Err, IfOk}
-use Rattle.ss_machine.proofs.Common.{AreCallsAt, AreValuesAt, Code, first_value, IsAtStart, IsCodeOf, Mode, Seen, situated, State}
-use Rattle.ss_code.specs.Running.{Generated, IsGenerated, Said}
-use Rattle.ss_code_instructions.specs.Carried.{RunningCode, IsEntry, IsSized, main_entry}
+use Rattle.ss_machine.proofs.Common.{AreCallsAt, AreValuesAt, Code, first_value, IsAtStart, IsCodeOf, Mode, situated, State}
+use Rattle.ss_code.specs.Running.{Generated, Said}
+use Rattle.ss_code_instructions.specs.Carried.{RunningCode, IsEntry, main_entry}
 use Rattle.ss_machine.specs.Beginning.{firsts_laid, IsFirstState, values_laid, IsLaidOut, IsFirstWorld, first_here, none_laid}
 use Rattle.ss_machine_frames.specs.Rows.{TwoRows, AreAlike, AreGrown, with_value, cleared}
 use Rattle.ss_machine_instructions.specs.Doing.{Compiled, world_of}
@@ -12,14 +11,9 @@ use Rattle.ss_base.specs.declared.layout.Owner.TheVariants.{System}
 use Rattle.ss_world.specs.State.{first_state}
 use Rattle.ss_world.specs.PendingList.{none_pending}
 use Rattle.ss_meaning.specs.Histories.{starting, no_histories}
-use Rattle.ss_meaning.specs.Store.{first_values, Notices}
+use Rattle.ss_meaning.specs.Store.{first_values}
 use Rattle.ss_code_instructions.specs.Running.{begin_store}
 use Rattle.ss_machine_time.specs.Records.{columns_of}
-use Rattle.ss_base.specs.Plain.{PlainLayout}
-use Rattle.ss_base.specs.declared.layout.Discipline.{Discipline}
-use Rattle.ss_program.specs.declared.sections.Statistic.{Statistic}
-use Rattle.ss_world.specs.declared.ties.TieShape.{TieShape}
-use Rattle.std.specs.declared.alloc.AllocError.{AllocError}
 use Rattle.ss_machine_frames.proofs.Entering.{cleared_all, cleared_below, cleared_long, value_texts}
 use Rattle.ss_machine_frames.proofs.Places.{agree_on, agree_within, all_agree}
 use Rattle.ss_machine.proofs.Laying.{laid_at, laid_agrees, laid_even, laid_long, firsts_long}
@@ -136,30 +130,6 @@ at_start code s first w of input =
         line = first.line;
       };
     }
-
--- ## What is made
-
--- the frame of MAIN has room for its variables
-pub main_sized : (code : Generated) → IsGenerated code → IsSized code.run.main
-main_sized code z = z.2.code.main.sized
-
--- a world as it is made is the first one
-pub world_made : (code : Generated) (layout : PlainLayout) (disciplines : List Discipline) (notices : List Notices) (shapes : List (List TieShape)) (statistics : List Statistic) (answer : Result Seen AllocError)
-    → layout ≡ code.said.layout → disciplines ≡ code.said.setting.disciplines → notices ≡ code.said.setting.notices → shapes ≡ code.said.ties → statistics ≡ code.said.setting.statistics
-    → IfOk answer (λ world. world ≡ record { disciplines = disciplines; notices = notices; statistics = statistics; heap = first_state layout; time = pos 0; pending = none_pending shapes; histories = world.histories })
-    → IfOk answer (λ world. columns_of world.histories ≡ starting layout System (int_eq (pos 0)) (pos 0) statistics (no_histories statistics))
-    → IfOk answer (λ world. IsFirstWorld code world)
-world_made code layout disciplines notices shapes statistics (Ok world) l d n t s is histories = record {
-  disciplines = ap (λ (x : Seen). x.disciplines) is ∙ d;
-  notices = ap (λ (x : Seen). x.notices) is ∙ n;
-  statistics = ap (λ (x : Seen). x.statistics) is ∙ s;
-  heap = ap (λ (x : Seen). x.heap) is ∙ ap first_state l;
-  time = ap (λ (x : Seen). x.time) is;
-  pending = ap (λ (x : Seen). x.pending) is ∙ ap none_pending t;
-  histories = subst (λ k. columns_of world.histories ≡ starting k System (int_eq (pos 0)) (pos 0) code.said.setting.statistics (no_histories code.said.setting.statistics)) l
-      (subst (λ j. columns_of world.histories ≡ starting layout System (int_eq (pos 0)) (pos 0) j (no_histories j)) s histories);
-}
-world_made code layout disciplines notices shapes statistics (Err e) l d n t s is histories = is
 
 -- rows as they are laid
 pub laid : (code : Generated) (all grown rows : TwoRows) → all ≡ values_laid (firsts_laid none_laid code.globals) code.run.constants → AreGrown all grown → length grown.texts ≡ length grown.numbers

@@ -1,17 +1,7 @@
-use Rattle.std.proofs.Common.{rules, ◌≡◌, ◌+◌, ◌<◌, ◌≤◌, ◌^◌, length, arith}
+use Rattle.std.proofs.Common.{rules, ◌≡◌, ◌+◌, ◌<◌, ◌≤◌, ◌^◌, length}
 use Rattle.ss_machine.proofs.Common.{cleared, firsts_laid, none_laid, values_laid}
-use Rattle.ss_machine.proofs.Starting.{main_sized, laid}
+use Rattle.ss_machine.proofs.Starting.{laid}
 use Rattle.ss_machine.proofs.first.first_rows.Goals as goal
-
-pub clear-requires : goal.clear-requires
-clear-requires c =
-    let code = c.args.code.now in
-    let sized = main_sized code c.len-made.ensures.made in
-    let all = c.put_constants.new.rows in
-    let room : length all.numbers + code.run.main.room ≤ length c.lengthen.new.self.numbers = search rules in
-    let long : c.len-frame.result ≡ length all.numbers = search rules in
-    let others : length c.main-main.result.now.others.items ≡ length code.run.main.others.items = search rules in
-    omega (arith, room, long, others, sized.variables)
 
 pub returns : goal.returns
 returns c =

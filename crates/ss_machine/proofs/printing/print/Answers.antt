@@ -38,6 +38,3 @@ returns-in-Err-clause-written g c = λ number.
     (part_sent c.args.here s number c.args.cell l before after (subst (λ k. HasSentPart s.world s.rows k l before after) c.cell-from.ensures sent))
     (λ failed. less_sent c.args.here s number c.args.cell l before after (subst (λ k. HasSentLess s.world s.rows k l before after) c.cell-from.ensures (c.print_from.ensures.less (c.in-Err.is ∙ ap Err failed))))
     c.stop.ensures.stopped (ap (on_after c.args.here) c.stop.ensures.none)
-
-pub returns-in-Err-clause-output : goal.returns-in-Err-clause-output
-returns-in-Err-clause-output g c = λ none q. c.print_from.ensures.output (search rules)

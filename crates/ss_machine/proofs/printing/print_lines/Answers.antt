@@ -1,7 +1,8 @@
 use Rattle.std.proofs.Common.{rules, ◌≡◌, ◌+◌, ◌++◌, [], ◌∷◌, min, length, drop, refl, sym, ap, ◌∙◌, arith}
 use Rattle.ss_machine.proofs.Common.{append_assoc, filled, line_end, lines_with, picture_fields}
 use Rattle.std.proofs.lemmas.Result.{err_from_is_err_and}
-use Rattle.ss_machine.proofs.Known.{turn, took_both, part_after, less_after}
+use Rattle.std.proofs.KnownBytes.{Appends-trans}
+use Rattle.ss_machine.proofs.Known.{turn, part_after, less_after}
 use Rattle.ss_machine.proofs.Fields.{now_suits, later_suits}
 use Rattle.ss_machine.proofs.printing.print_lines.Goals as goal
 
@@ -53,6 +54,6 @@ loop-picture-preserved g c =
       done = i.done ++ line;
       so_far = i.so_far ∙ ap (λ l. i.done ++ l) (one ∙ rw (c.split_at.ensures.front, c.split_at.ensures.back) refl) ∙ sym (append_assoc i.done line (lines_with (drop (c.loop-picture.picture-index + 1) c.args.pictures.now) c.split_at.result.1.now));
       suited = rw c.split_at.ensures.back (later_suits c.args.pictures.now c.loop-picture.picture-index p xs c.min-count.result c.loop-picture-test.true c.picture-item.is count i.suited);
-      took = took_both _ _ _ i.done line i.took c.in_ok-print_line.ensures.ok;
+      took = Appends-trans _ _ _ i.done line i.took c.in_ok-print_line.ensures.ok;
       risen = omega (arith, i.risen, c.in_ok-print_line.ensures.never_falls);
     }

@@ -2,7 +2,7 @@ use Rattle.std.proofs.Common.{rules, ◌≡◌, true, replicate, sym, ap, ◌∙
 use Rattle.std.specs.Prelude.{int_lt, ◌||◌}
 use Rattle.ss_machine.proofs.Common.{Appends, BadCount, Breaks, Compiled, HasTakenLess, HasWritten, IsSending, line_end, line_or, NoOutput, on_after, Rest}
 use Rattle.ss_code_instructions.specs.declared.instruction.Instruction.TheVariants.{Skip as Runs}
-use Rattle.ss_machine.proofs.Known.{keeps_same}
+use Rattle.std.proofs.KnownBytes.{Keeps-refl}
 use Rattle.ss_machine.proofs.Written.{count_within, skip_fails, skip_sends, skip_on, few_lines, bad_lines, unwritten}
 use Rattle.ss_machine.proofs.printing.skip.Goals as goal
 
@@ -11,9 +11,6 @@ None_handed w = Unit {0}
 
 pub number-count-requires : goal.number-count-requires
 number-count-requires g c = let z = c.requires in count_within z.0 z.1 c.args.here c.args.state.now c.args.count.now z.2
-
-pub lines_in-requires : goal.lines_in-requires
-lines_in-requires g c = sym c.is_bad.ensures ∙ c.if-is_bad.false
 
 pub returns-then-is_bad-clause-written : goal.returns-then-is_bad-clause-written
 returns-then-is_bad-clause-written g c =
@@ -25,7 +22,7 @@ returns-then-is_bad-clause-written g c =
     let bad = bad_lines n (subst (λ m. (int_lt m (pos 0) || int_lt (pos 1000) m) ≡ true) same test) in
     subst (λ o. HasWritten None_handed c.args.here s (Runs c.args.count.now) known known c.fault.new.self o) (ap (on_after c.args.here) (sym c.fault.ensures.none))
     (rw c.fault.ensures.faulted (
-      keeps_same known,
+      Keeps-refl known,
       λ w core u r. skip_fails w core c.args.here s c.args.count.now r n c.number-count.ensures bad ∙ ap (λ o. Rest (Breaks BadCount (line_or r.placed.line o))) (sym r.holds.line),
     ))
 

@@ -1,6 +1,6 @@
 use Rattle.std.proofs.Common.{rules, ◌≡◌, ◌++◌, [], ◌∷◌, sym, subst, arith}
 use Rattle.ss_machine.proofs.Common.{AllByRecursion, IsPrintable}
-use Rattle.ss_machine.proofs.Items.{AreSoFar, none_yet, can_now, can_then, small_then, one_more, all_shown, printable_more}
+use Rattle.ss_machine.proofs.Items.{AreSoFar, none_yet, can_then, small_then, one_more, all_shown, printable_more}
 use Rattle.ss_machine.proofs.showing.show.Goals as goal
 
 pub loop-kind-init : goal.loop-kind-init
@@ -13,18 +13,6 @@ loop-kind-init c =
       shown = subst (AreSoFar s.world s.rows c.args.from c.args.from c.args.kinds.now c.args.kinds.now) (sym empty) (none_yet s.world s.rows c.args.from c.args.kinds.now);
       printable = subst (AllByRecursion IsPrintable) (sym empty) tt;
     }
-
-pub item_of-item-requires : goal.item_of-item-requires
-item_of-item-requires c =
-    let s = c.args.state.now in
-    let l = c.loop-kind in
-    can_now s.world s.rows c.args.from c.args.kinds.now l.at l.kind-index _ c.loop-kind-test.true l.invariant.can
-
-pub overflow_add-at : goal.overflow_add-at
-overflow_add-at c =
-    let s = c.args.state.now in
-    let l = c.loop-kind in
-    record { fits = small_then s.world s.rows c.args.from c.args.kinds.now l.at l.kind-index _ c.loop-kind-test.true _ c.cells_of-at.ensures l.invariant.can c.requires.small l.invariant.low }
 
 pub loop-kind-preserved : goal.loop-kind-preserved
 loop-kind-preserved c =

@@ -1,7 +1,6 @@
 use Rattle.std.proofs.Common.{None, IfOk, refl, sym, subst}
 use Rattle.ss_machine.proofs.Common.{IsAtStart, IsFirstState, IsGenerated, IsReady, situated, State}
 use Rattle.ss_machine.proofs.Readiness.{first_ready}
-use Rattle.ss_machine.proofs.Starting.{frame_small}
 use Rattle.ss_machine.proofs.machine.Machine.new.Goals as goal
 
 pub stands_first-requires : goal.stands_first-requires
@@ -9,12 +8,6 @@ stands_first-requires c =
     let e = c.in_ok-code.ensures in
     let first = subst (λ r. IfOk r (λ (s : State). IsFirstState c.args.code s)) e.1 c.first_state-first.ensures in
     subst (λ k. IsFirstState k c.in_ok-code.state) (sym e.0) first
-
-pub first_place-place-requires : goal.first_place-place-requires
-first_place-place-requires c =
-    let e = c.in_ok-code.ensures in
-    let first = subst (λ r. IfOk r (λ (s : State). IsFirstState c.args.code s)) e.1 c.first_state-first.ensures in
-    frame_small c.in_ok-code.code c.in_ok-code.state (subst (λ k. IsFirstState k c.in_ok-code.state) (sym e.0) first)
 
 pub invariant_of-result : goal.invariant_of-result
 invariant_of-result c =

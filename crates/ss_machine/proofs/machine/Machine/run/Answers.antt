@@ -1,37 +1,11 @@
-use Rattle.std.proofs.Common.{rules, ◌≡◌, ◌+◌, ◌-◌, ◌*◌, ◌≤◌, ◌<◌, ◌^◌, length, min, refl, sym, ap, subst, ◌∙◌, arith}
-use Rattle.std.proofs.lemmas.Option.{none-some, same_Some}
+use Rattle.std.proofs.Common.{rules, ◌≡◌, ◌+◌, ◌-◌, ◌*◌, ◌≤◌, ◌<◌, ◌^◌, length, min, sym, ap, subst, ◌∙◌, arith}
+use Rattle.std.proofs.lemmas.Option.{none-some}
 use Rattle.ss_machine.proofs.Common.{HasSteps, Here, IsRunResult, situated, State}
-use Rattle.ss_machine.specs.Held.{Held, answer_again}
+use Rattle.ss_machine.specs.Held.{Held}
 use Rattle.ss_machine.proofs.Readiness.{kept_none}
-use Rattle.ss_machine.proofs.Resuming.{stands_ticked, situated_ticked, ran_from, never, used_by}
+use Rattle.ss_machine.proofs.Ending.{stands_rested, situated_rested}
+use Rattle.ss_machine.proofs.Resuming.{ran_from, never, used_by}
 use Rattle.ss_machine.proofs.machine.Machine.run.Goals as goal
-
-pub returns-in-Some : goal.returns-in-Some
-returns-in-Some g c =
-    let view = c.self.view_is in
-    let made = c.self.invariant.made in
-    let stop = c.in-Some.stop in
-    let is = sym (ap (λ (v : Held). v.stopped) view) ∙ c.in-Some.is in
-    record {
-      again = λ before q. (subst (λ s. c.again.result ≡ answer_again s) (same_Some stop before (sym is ∙ q)) c.again.ensures, refl, refl, refl);
-      ran = λ none. absurd (none-some stop (sym none ∙ is));
-      code = refl;
-      situated = λ none. absurd (none-some stop (sym none ∙ is));
-      stopped = λ none. absurd (none-some stop (sym none ∙ is));
-      used = (omega arith, omega arith);
-      within = λ none. absurd (none-some stop (sym none ∙ is));
-      paused = λ none. absurd (none-some stop (sym none ∙ is));
-      never_failed = λ none. absurd (none-some stop (sym none ∙ is));
-      unmissed = λ none. absurd (none-some stop (sym none ∙ is));
-      steps = omega arith;
-      least = subst (λ (v : Held). v.used ≤ v.steps) view made.least;
-      most = subst (λ (v : Held). v.steps ≤ (3 * v.used + 4) * length v.code.run.instructions) view made.most;
-      output = λ none. absurd (none-some stop (sym none ∙ is));
-      input = λ none. absurd (none-some stop (sym none ∙ is));
-      never_falls = omega arith;
-      read_never_falls = omega arith;
-      end = λ h. h;
-    }
 
 pub run-rest-requires : goal.run-rest-requires
 run-rest-requires g c =
@@ -42,7 +16,7 @@ run-rest-requires g c =
     let small : last < 2 ^ 64 = search rules in
     let from : m.used ≤ last = search rules in
     record {
-      situated = situated_ticked m.code (record { place = m.place; frame = m.frame }) m.state (last - m.used) (i.situated none);
+      situated = situated_rested m.code (record { place = m.place; frame = m.frame }) m.state m.state.ending m.state.steps (last - m.used) (i.situated none);
       left = (m.used, omega (arith, small, from), i.left none);
       unmissed = c.requires (sym (ap (λ (v : Held). v.stopped) c.self.view_is) ∙ none);
     }
@@ -90,7 +64,7 @@ returns g c =
     let rest = situated c.run-rest.result.here new in
     let used = used_by last m.used new.ticks from e.ticks in
     let plain : IsRunResult rem stop m.code start rest first final before after ((last - m.used) - new.ticks) (new.steps - m.state.steps) =
-    ran_from rem m.code start (situated from_here ticked) rest first final before after ((last - m.used) - new.ticks) (new.steps - m.state.steps) (λ w core st. stands_ticked w core from_here m.state (last - m.used) st) stop e.ran in
+    ran_from rem m.code start (situated from_here ticked) rest first final before after ((last - m.used) - new.ticks) (new.steps - m.state.steps) (λ w core st. stands_rested w core from_here m.state m.state.ending m.state.steps (last - m.used) st) stop e.ran in
     let ran : IsRunResult rem stop m.code start rest first final before after ((last - new.ticks) - m.used) (new.steps - m.state.steps) =
     subst (λ t. IsRunResult rem stop m.code start rest first final before after t (new.steps - m.state.steps)) used plain in
     let same = ap (λ (v : Held). v.used) view in
