@@ -2,7 +2,8 @@
 use Rattle.std.proofs.Common.{◌≡◌, ℕ, zero, suc, ◌+◌, ◌<◌, ◌≤◌, ◌^◌, ◌*◌, Bool, true, false, List, [], ◌∷◌, map, length, slice_get, Option, Some, None, Ok, Err, refl, ap, ◌∙◌, arith}
 use Rattle.std.specs.Prelude.{IsOk, nat_lt, nat_le, nat_abs, is_some, ℤ, pos, negsuc, if◌then◌else◌}
 use Rattle.std.proofs.lemmas.Bool.{lt-ltb, le-leb}
-use Rattle.ss_records_entities.proofs.Common.{BlockPlace, Cells, Directory, ints, Layout, Made, Numbers, record_at, records_at, state_of}
+use Rattle.std.proofs.lemmas.List.{length-map}
+use Rattle.ss_records_entities.proofs.Common.{BlockPlace, Cells, Directory, ints, Layout, Made, record_at, records_at, state_of}
 use lib.Signed.{lt_z}
 use Rattle.ss_base.specs.declared.fault.FaultKind.TheVariants.{CreatedTwice}
 use Rattle.ss_world.specs.State.{LAST_NUMBER, Members, State, MOST_ENTITIES, created, created_all, made_many, with_made, is_made_in}
@@ -17,15 +18,11 @@ at_rest a A none = omega (arith, none)
 pub rests : (a A b B : ℕ) → a ≡ 0 → (b ≡ a) × (B ≡ A) → B ≡ A + b
 rests a A b B none same = omega (arith, none, same.0, same.1)
 
-many : (l : Layout) (cs : Cells) (xs : Numbers) → length (map (record_at l cs) xs) ≡ length xs
-many l cs [] = refl
-many l cs (z ∷ zs) = omega (arith, many l cs zs)
-
 module _ (l : Layout) (cs : Cells) (d : Directory) (ms : List Members) (c n : ℕ) (is : n ≡ length d.numbers) where
   pub one_left : n < LAST_NUMBER → IsOk (created (state_of l cs d ms) c)
   one_left room =
       let may : nat_lt (length d.numbers) LAST_NUMBER ≡ true = lt-ltb (length d.numbers) LAST_NUMBER (omega (arith, room, is)) in
-      rw (many l cs d.numbers, may) refl
+      rw (length-map d.numbers (record_at l cs), may) refl
 
 -- ## The entities of a permanent class
 

@@ -43,41 +43,46 @@ at_least a b h = by_less (ltb b a) refl where
 pub entry_is : {p q : BlockPlace} → Some (Some p) ≡ Some (Some q) → p ≡ q
 entry_is e = cc
 
-pub map_same : (f g : Option BlockPlace → Option Record) (d : Numbers) → ((j : ℕ) (q : Option BlockPlace) → slice_get d j ≡ Some q → g q ≡ f q) → map g d ≡ map f d
+-- a list where one place is set
+pub get_put : {A : Type 0} (xs : List A) (i : ℕ) (v a : A) → slice_get xs i ≡ Some a → slice_get (slice_set xs i v) i ≡ Some v
+get_put [] i v a h = cc
+get_put (z ∷ zs) zero v a h = refl
+get_put (z ∷ zs) (suc i) v a h = get_put zs i v a h
+
+pub get_other : {A : Type 0} (xs : List A) (i : ℕ) (v : A) (j : ℕ) → (i ≡ j → ⊥) → slice_get (slice_set xs i v) j ≡ slice_get xs j
+get_other [] i v j n = refl
+get_other (z ∷ zs) zero v zero n = absurd (n refl)
+get_other (z ∷ zs) zero v (suc j) n = refl
+get_other (z ∷ zs) (suc i) v zero n = refl
+get_other (z ∷ zs) (suc i) v (suc j) n = get_other zs i v j (λ e. n (ap suc e))
+
+pub map_same : {A B : Type 0} (f g : A → B) (xs : List A) → ((j : ℕ) (a : A) → slice_get xs j ≡ Some a → g a ≡ f a) → map g xs ≡ map f xs
 map_same f g [] o = refl
-map_same f g (z ∷ zs) o = λ t. o zero z refl t ∷ map_same f g zs (λ j q m. o (suc j) q m) t
+map_same f g (z ∷ zs) o = λ t. o zero z refl t ∷ map_same f g zs (λ j a m. o (suc j) a m) t
 
--- a list of records where one has changed
-pub map_set : (f g : Option BlockPlace → Option Record) (d : Numbers) (i : ℕ) (e : Option BlockPlace) (v : Option Record) → slice_get d i ≡ Some e → g e ≡ v
-    → ((j : ℕ) (q : Option BlockPlace) → slice_get d j ≡ Some q → (i ≡ j → ⊥) → g q ≡ f q) → map g d ≡ slice_set (map f d) i v
-map_set f g [] i e v h k o = cc
-map_set f g (z ∷ zs) zero e v h k o = let here : z ≡ e = cc in λ t. (ap g here ∙ k) t ∷ map_same f g zs (λ j q m. o (suc j) q m (λ n. absurd (omega (arith, n)))) t
-map_set f g (z ∷ zs) (suc i) e v h k o = λ t. o zero z refl (λ n. absurd (omega (arith, n))) t ∷ map_set f g zs i e v h k (λ j q m n. o (suc j) q m (λ b. n (omega (arith, b)))) t
+-- a list that is read as it was but for one place
+map_set : {A B : Type 0} (f g : A → B) (xs : List A) (i : ℕ) (a : A) (v : B) → slice_get xs i ≡ Some a → g a ≡ v
+    → ((j : ℕ) (b : A) → slice_get xs j ≡ Some b → (i ≡ j → ⊥) → g b ≡ f b) → map g xs ≡ slice_set (map f xs) i v
+map_set f g [] i a v h k o = cc
+map_set f g (z ∷ zs) zero a v h k o = let here : z ≡ a = cc in λ t. (ap g here ∙ k) t ∷ map_same f g zs (λ j b m. o (suc j) b m (λ n. absurd (omega (arith, n)))) t
+map_set f g (z ∷ zs) (suc i) a v h k o = λ t. o zero z refl (λ n. absurd (omega (arith, n))) t ∷ map_set f g zs i a v h k (λ j b m n. o (suc j) b m (λ e. n (omega (arith, e)))) t
 
-row_same : (l : Layout) (cs ds : Cells) (ps : List BlockPlace) → ((i : ℕ) (p : BlockPlace) → slice_get ps i ≡ Some p → record_of l (words_at ds p.at) ≡ record_of l (words_at cs p.at)) → map (λ (p : BlockPlace). record_of l (words_at ds p.at)) ps ≡ map (λ (p : BlockPlace). record_of l (words_at cs p.at)) ps
-row_same l cs ds [] o = refl
-row_same l cs ds (p ∷ ps) o = λ t. o zero p refl t ∷ row_same l cs ds ps (λ i q h. o (suc i) q h) t
+-- the record of a place
+abbrev pub at_place : Layout → Cells → BlockPlace → Record
+at_place l cs p = record_of l (words_at cs p.at)
 
--- the permanent entities where the words of each are read as they were
-pub made_same : (l : Layout) (cs ds : Cells) (ms : Made) → ((i : ℕ) (p : BlockPlace) → IsMade ms i p → record_of l (words_at ds p.at) ≡ record_of l (words_at cs p.at)) → map (records_at l ds) ms ≡ map (records_at l cs) ms
-made_same l cs ds [] o = refl
-made_same l cs ds (None ∷ ms) o = ap (λ rs. None ∷ rs) (made_same l cs ds ms (λ i p h. o i p (suc h.0, h.1, h.2, h.3)))
-made_same l cs ds (Some ps ∷ ms) o = λ t. Some (row_same l cs ds ps (λ i p h. o i p (zero, ps, refl, h)) t) ∷ made_same l cs ds ms (λ i p h. o i p (suc h.0, h.1, h.2, h.3)) t
+-- the entities of creation numbers, and the permanent ones, where the words of each are read as they were
+pub numbers_same : (l : Layout) (cs ds : Cells) (d : Numbers) → ((i : ℕ) (p : BlockPlace) → slice_get d i ≡ Some (Some p) → at_place l ds p ≡ at_place l cs p) → map (record_at l ds) d ≡ map (record_at l cs) d
+numbers_same l cs ds d o = map_same (record_at l cs) (record_at l ds) d entry where
+  entry : (i : ℕ) (q : Option BlockPlace) → slice_get d i ≡ Some q → record_at l ds q ≡ record_at l cs q
+  entry i None h = refl
+  entry i (Some p) h = ap Some (o i p h)
 
-row_set : (l : Layout) (cs ds : Cells) (ps : List BlockPlace) (i : ℕ) (p : BlockPlace) (v : Record) → slice_get ps i ≡ Some p → record_of l (words_at ds p.at) ≡ v
-    → ((j : ℕ) (q : BlockPlace) → slice_get ps j ≡ Some q → (i ≡ j → ⊥) → record_of l (words_at ds q.at) ≡ record_of l (words_at cs q.at)) → map (λ (q : BlockPlace). record_of l (words_at ds q.at)) ps ≡ slice_set (map (λ (q : BlockPlace). record_of l (words_at cs q.at)) ps) i v
-row_set l cs ds [] i p v h e o = cc
-row_set l cs ds (z ∷ zs) zero p v h e o = let here : z ≡ p = cc in λ t. (ap (λ (q : BlockPlace). record_of l (words_at ds q.at)) here ∙ e) t ∷ row_same l cs ds zs (λ j q m. o (suc j) q m (λ n. absurd (omega (arith, n)))) t
-row_set l cs ds (z ∷ zs) (suc i) p v h e o = λ t. o zero z refl (λ n. absurd (omega (arith, n))) t ∷ row_set l cs ds zs i p v h e (λ j q m n. o (suc j) q m (λ b. n (omega (arith, b)))) t
-
-made_set : (l : Layout) (cs ds : Cells) (ms : Made) (c : ℕ) (ps : List BlockPlace) (i : ℕ) (v : Record) → slice_get ms c ≡ Some (Some ps)
-    → map (λ (q : BlockPlace). record_of l (words_at ds q.at)) ps ≡ slice_set (map (λ (q : BlockPlace). record_of l (words_at cs q.at)) ps) i v
-    → ((b : ℕ) (qs : List BlockPlace) → slice_get ms b ≡ Some (Some qs) → (c ≡ b → ⊥) → (j : ℕ) (q : BlockPlace) → slice_get qs j ≡ Some q → record_of l (words_at ds q.at) ≡ record_of l (words_at cs q.at))
-    → map (records_at l ds) ms ≡ slice_set (map (records_at l cs) ms) c (Some (slice_set (map (λ (q : BlockPlace). record_of l (words_at cs q.at)) ps) i v))
-made_set l cs ds [] c ps i v m e o = cc
-made_set l cs ds (z ∷ zs) zero ps i v m e o = let here : z ≡ Some ps = cc in λ t. (ap (records_at l ds) here ∙ ap Some e) t ∷ made_same l cs ds zs (λ j q h. o (suc h.0) h.1 h.2 (λ n. absurd (omega (arith, n))) j q h.3) t
-made_set l cs ds (None ∷ zs) (suc c) ps i v m e o = ap (λ rs. None ∷ rs) (made_set l cs ds zs c ps i v m e (λ b qs h n. o (suc b) qs h (λ k. n (omega (arith, k)))))
-made_set l cs ds (Some rs ∷ zs) (suc c) ps i v m e o = λ t. Some (row_same l cs ds rs (λ j q h. o zero rs refl (λ n. absurd (omega (arith, n))) j q h) t) ∷ made_set l cs ds zs c ps i v m e (λ b qs h n. o (suc b) qs h (λ k. n (omega (arith, k)))) t
+pub made_same : (l : Layout) (cs ds : Cells) (ms : Made) → ((i : ℕ) (p : BlockPlace) → IsMade ms i p → at_place l ds p ≡ at_place l cs p) → map (records_at l ds) ms ≡ map (records_at l cs) ms
+made_same l cs ds ms o = map_same (records_at l cs) (records_at l ds) ms row where
+  row : (c : ℕ) (m : Option (List BlockPlace)) → slice_get ms c ≡ Some m → records_at l ds m ≡ records_at l cs m
+  row c None h = refl
+  row c (Some ps) h = ap Some (map_same (at_place l cs) (at_place l ds) ps (λ i p k. o i p (c, ps, h, k)))
 
 module _ (l : Layout) (cs : Cells) (sys : Ptr) (d : Directory) (ms : List Members) (K : ArePartsKept l cs sys d ms) where
   pub formed_there : (x : ℤ) (p : BlockPlace) → numbered_place d.numbers x ≡ Ok p → (n : ℕ) × AreFormed l (class_at_place cs p) n (words_at cs p.at)
@@ -168,12 +173,13 @@ module _ (l : Layout) (cs : Cells) (sys : Ptr) (d : Directory) (ms : List Member
     -- the entry of a permanent entity
     module _ (c : ℕ) (ps : List BlockPlace) (m : slice_get d.classes c ≡ Some (Some ps)) (h : slice_get ps i ≡ Some p) where
       pub records_same : map (record_at l ds) d.numbers ≡ map (record_at l cs) d.numbers
-      records_same = map_same (record_at l cs) (record_at l ds) d.numbers other_entry where
-        other_entry : (j : ℕ) (q : Option BlockPlace) → slice_get d.numbers j ≡ Some q → record_at l ds q ≡ record_at l cs q
-        other_entry j None e = refl
-        other_entry j (Some q) e = ap Some (read_other j q (inl e) (λ k. let y = K.made c ps m in K.kinds j q e (subst (λ b. IsPermanent (kind_of l b)) (sym (ap (λ (r : Ptr). class_in_words (words_at cs r)) (sym k) ∙ y.class i p h)) y.permanent)))
+      records_same = numbers_same l cs ds d.numbers
+          (λ j q e. read_other j q (inl e) (λ k. let y = K.made c ps m in K.kinds j q e (subst (λ b. IsPermanent (kind_of l b)) (sym (ap (λ (r : Ptr). class_in_words (words_at cs r)) (sym k) ∙ y.class i p h)) y.permanent)))
 
       pub permanents_written : (v : Record) → record_of l (words_at ds p.at) ≡ v → map (records_at l ds) d.classes ≡ slice_set (map (records_at l cs) d.classes) c (Some (slice_set (map (λ (q : BlockPlace). record_of l (words_at cs q.at)) ps) i v))
-      permanents_written v e = made_set l cs ds d.classes c ps i v m
-          (row_set l cs ds ps i p v h e (λ j q k n. read_other j q (inr (c, ps, m, k)) (λ z. n (K.apart i j p q g (inr (c, ps, m, k)) z))))
-          (λ b qs k n j q x. read_other j q (inr (b, qs, k, x)) (λ z. n (sym ((K.made c ps m).class i p h) ∙ ap (λ (r : Ptr). class_in_words (words_at cs r)) z ∙ (K.made b qs k).class j q x)))
+      permanents_written v e = map_set (records_at l cs) (records_at l ds) d.classes c (Some ps) _ m
+          (ap Some (map_set (at_place l cs) (at_place l ds) ps i p v h e (λ j q k n. read_other j q (inr (c, ps, m, k)) (λ z. n (K.apart i j p q g (inr (c, ps, m, k)) z))))) other_row where
+            other_row : (b : ℕ) (o : Option (List BlockPlace)) → slice_get d.classes b ≡ Some o → (c ≡ b → ⊥) → records_at l ds o ≡ records_at l cs o
+            other_row b None k n = refl
+            other_row b (Some qs) k n = ap Some (map_same (at_place l cs) (at_place l ds) qs
+                (λ j q x. read_other j q (inr (b, qs, k, x)) (λ z. n (sym ((K.made c ps m).class i p h) ∙ ap (λ (r : Ptr). class_in_words (words_at cs r)) z ∙ (K.made b qs k).class j q x))))

@@ -1,11 +1,12 @@
 -- Where the words of a set lead, from an owner and from a member.
-use Rattle.std.proofs.Common.{◌≡◌, ℕ, ◌+◌, ◌^◌, ◌<◌, ◌≤◌, Bool, true, false, List, [], length, slice_get, Option, Some, None, ◌⊎◌, inl, inr, refl, sym, ap, subst, ◌∙◌, arith}
-use Rattle.ss_records_entities.proofs.Common.{ArePartsKept, by_same, Cells, Class, counter, Directory, entity_at, entry_of, get_inside, get_there, HasLink, head0, is_filed, is_some, IsCounter, IsEntityOf, IsInList, IsLink, IsNotInList, last_or, Layout, link, listing, MayOwn, member_base, Members, members_of, number, Owner, owner_at, owner_base, owner_of, plain, pred_from, SetLayout, succ, System, Word, word_at}
+use Rattle.std.proofs.Common.{◌≡◌, ℕ, ◌+◌, ◌^◌, ◌<◌, ◌≤◌, Bool, true, false, List, [], length, slice_get, Some, None, ◌⊎◌, inl, inr, refl, sym, ap, subst, ◌∙◌, arith}
+use Rattle.ss_records_entities.proofs.Common.{ArePartsKept, by_same, Cells, Class, counter, Directory, entity_at, entry_of, false_is_not_true, get_inside, get_there, HasLink, head0, is_filed, is_some, IsCounter, IsEntityOf, IsInList, IsLink, IsNotInList, last_or, Layout, link, listing, MayOwn, member_base, Members, members_of, number, Owner, owner_at, owner_base, owner_of, plain, pred_from, SetLayout, succ, System, Word, word_at}
 use denote.RawPtr.{Ptr}
 use Rattle.ss_records_words.proofs.Splice.{pred_is, succ_is, head_is, last_is, succ_differs}
 use Rattle.ss_world.specs.Sets.{follower, member_class, member_in, owner_in, owner_kind, precursor, members_by, companions}
 use Rattle.ss_records_words.proofs.Listing.{not_many}
 use Rattle.ss_records_words.proofs.Filed.{number_at, owner_number_at, above_zero, filed_or_not}
+use Rattle.ss_records_entities.proofs.Issuing.{none_is}
 use Rattle.ss_records_entities.proofs.Listed.{follower_is, precursor_is, pred_differs, few}
 
 pub link_same : {p q : Ptr} → link p ≡ link q → p ≡ q
@@ -200,18 +201,11 @@ module _ (l : Layout) (cs : Cells) (sys : Ptr) (d : Directory) (ms : List Member
     )
 
     pub in_none : is_filed ms s x ≡ false → owner_of ms s x ≡ None
-    in_none e = by_case (owner_of ms s x) refl where
-      by_case : (r : Option ℕ) → owner_of ms s x ≡ r → owner_of ms s x ≡ None
-      by_case None q = q
-      by_case (Some o) q = absurd (clash (sym (ap is_some q) ∙ e)) where
-        clash : true ≡ false → ⊥
-        clash z = cc
+    in_none e = none_is (owner_of ms s x) e
 
     -- the set that has x
     pub in_which : is_filed ms s x ≡ true → (o : ℕ) × (owner_of ms s x ≡ Some o) × (IsInList x (f o))
     in_which e = elim (filed_or_not ms s x) as (λ _. (o : ℕ) × (owner_of ms s x ≡ Some o) × (IsInList x (f o))) [
       | inl a ↦ a
-      | inr a ↦ absurd (clash (sym (ap is_some a.0) ∙ e))
-    ] where
-      clash : false ≡ true → ⊥
-      clash z = cc
+      | inr a ↦ absurd (false_is_not_true (sym (ap is_some a.0) ∙ e))
+    ]

@@ -1,7 +1,6 @@
 mod Common
 pub mod Apart
 pub mod Assigns
-pub mod Attributes
 pub mod Classed
 pub mod Creates
 pub mod Cuts

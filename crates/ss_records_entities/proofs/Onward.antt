@@ -14,7 +14,7 @@ entity_number (Ok r) n m h = cc
 entity_number (Err f) n m h = absurd cc
 
 -- the reference to an entity that is there is its number
-named_by : (st : State) (k : ClassKind) (c : ℕ) (o : ℤ) (m : ℕ) → and_then (entity_of_kind st k c o) (λ r. Ok (number_in o)) ≡ Ok m → o ≡ pos m
+pub named_by : (st : State) (k : ClassKind) (c : ℕ) (o : ℤ) (m : ℕ) → and_then (entity_of_kind st k c o) (λ r. Ok (number_in o)) ≡ Ok m → o ≡ pos m
 named_by st k c (pos n) m h = ap pos (entity_number (entity_of_kind st k c (pos n)) n m h)
 named_by st Permanent c (negsuc n) m h = absurd cc
 named_by st Temporary c (negsuc n) m h = absurd cc

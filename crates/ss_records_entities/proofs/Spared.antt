@@ -1,9 +1,9 @@
 -- What holds once words of one set name alone were written.
-use Rattle.std.proofs.Common.{◌≡◌, ℕ, suc, ◌<◌, List, map, length, slice_get, Some, None, inl, inr, refl, sym, ap, subst, ◌∙◌, arith}
-use Rattle.ss_records_entities.proofs.Common.{AreFormed, AreOfClass, ArePartsKept, AreShowing, AreSpared, BlockPlace, by_same, Cells, class_at_place, Directory, entity_at, IsEntityOf, IsListedAt, IsNameKept, IsNumber, IsOfName, IsPermanent, kind_of, Layout, links_start, MayOwn, Members, members_of, Option, owner_at, plain, record_at, record_of, records_at, SetLayout, slots_of, word_at, Words, words_at, words_of}
+use Rattle.std.proofs.Common.{◌≡◌, ℕ, suc, ◌<◌, List, map, length, slice_get, Some, inl, inr, refl, sym, ap, subst, ◌∙◌, arith}
+use Rattle.ss_records_entities.proofs.Common.{AreFormed, AreOfClass, ArePartsKept, AreShowing, AreSpared, BlockPlace, by_same, Cells, class_at_place, Directory, entity_at, IsEntityOf, IsListedAt, IsNameKept, IsNumber, IsOfName, IsPermanent, kind_of, Layout, links_start, MayOwn, Members, members_of, owner_at, plain, record_at, record_of, records_at, SetLayout, slots_of, word_at, Words, words_at, words_of}
 use denote.RawPtr.{Ptr}
 use Rattle.ss_records_entities.proofs.ReadWords.{record_same}
-use Rattle.ss_records_entities.proofs.Keeps.{map_same, made_same}
+use Rattle.ss_records_entities.proofs.Keeps.{numbers_same, made_same}
 use Rattle.ss_records_entities.proofs.Moved.{shows_moved}
 use Rattle.ss_records_entities.proofs.NamesKept.{of_back, of_on, own_back, own_on, names_same}
 use Rattle.ss_records_words.proofs.Disjoint.{above_head, above_end, names_apart}
@@ -61,10 +61,7 @@ module _ (l : Layout) (cs : Cells) (sys : Ptr) (d : Directory) (ms : List Member
   read_spared j q e = record_same l (words_at cs q.at) (words_at ds q.at) (λ k low. head_same j q e k low)
 
   pub records_spared : map (record_at l ds) d.numbers ≡ map (record_at l cs) d.numbers
-  records_spared = map_same (record_at l cs) (record_at l ds) d.numbers entry where
-    entry : (j : ℕ) (q : Option BlockPlace) → slice_get d.numbers j ≡ Some q → record_at l ds q ≡ record_at l cs q
-    entry j None e = refl
-    entry j (Some q) e = ap Some (read_spared j q (inl e))
+  records_spared = numbers_same l cs ds d.numbers (λ j q e. read_spared j q (inl e))
 
   pub permanents_spared : map (records_at l ds) d.classes ≡ map (records_at l cs) d.classes
   permanents_spared = made_same l cs ds d.classes (λ j q h. read_spared j q (inr h))
