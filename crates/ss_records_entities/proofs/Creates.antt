@@ -1,6 +1,6 @@
 -- A new block under the next number.
 use Rattle.std.proofs.Common.{◌≡◌, ℕ, zero, suc, ◌+◌, ◌*◌, ◌^◌, ◌<◌, ◌≤◌, true, false, cond, List, [], ◌∷◌, ◌++◌, map, length, slice_get, Some, None, Ok, ◌⊎◌, inl, inr, refl, sym, ap, subst, ◌∙◌, arith}
-use Rattle.ss_records_entities.proofs.Common.{Alpha, AreFormed, ArePartsKept, blanks, block_words, BlockPlace, Bool, by_same, cast_signed, Cells, Class, class_at_place, class_in_words, created, Directory, entry_of, first_record, Integer, is_notice, IsBorn, IsEntityOf, IsLaid, IsListedAt, IsNumber, IsPermanent, kind_of, LAST_NUMBER, Layout, links_start, listed, listing, lt-ltb, lying, Made, Members, Mode, modes_of, nat_lt, number, Numbers, Option, own_or, permanent_count, plain, pos, record_at, record_of, records_at, state_of, System, value_of_words, values_end, values_from, Word, word_at, word_of, words_at, ℤ}
+use Rattle.ss_records_entities.proofs.Common.{Alpha, AreFormed, ArePartsKept, blanks, block_words, BlockPlace, Bool, by_same, cast_signed, Cells, Class, class_at_place, class_in_words, created, Directory, entry_of, first_record, Integer, is_notice, IsBorn, IsEntityOf, IsLaid, IsListedAt, IsNumber, IsPermanent, kind_of, LAST_NUMBER, Layout, links_start, listed, listing, lt-ltb, lying, Made, Members, Mode, modes_of, nat_lt, number, Numbers, permanent_count, plain, pos, record_at, record_of, records_at, state_of, System, value_of_words, values_end, values_from, Word, word_at, word_of, words_at, ℤ}
 use mir.Syntax.{w64}
 use denote.RawPtr.{Ptr}
 use Rattle.ss_records_blocks.proofs.Entries.{get_inside, living_push, living_bound}
@@ -8,7 +8,7 @@ use Rattle.ss_records_blocks.proofs.Puts.{length-blanks, words_new, words_old}
 use Rattle.ss_base.specs.Layout.{first_value}
 use Rattle.ss_records_entities.proofs.ReadWords.{read_as}
 use Rattle.std.proofs.lemmas.List.{length-append, length-map, map-append}
-use Rattle.ss_records_entities.proofs.Keeps.{numbers_same, made_same, entry_is}
+use Rattle.ss_records_entities.proofs.Keeps.{by_own, numbers_same, made_same, entry_is}
 use Rattle.ss_records_entities.proofs.NamesCreated.{name_born}
 
 first_of : (m : Mode) → value_of_words m 0 0 ≡ first_value m
@@ -46,18 +46,10 @@ get_on (z ∷ zs) q (suc i) p h = get_on zs q i p h
 
 -- what is listed once a number is pushed
 pushed : (d : Directory) (q : BlockPlace) (b i : ℕ) (p : BlockPlace) → slice_get (listing (lying (d.numbers ++ Some q ∷ []) d.classes) b) i ≡ Some (Some p) → ((i ≡ length d.numbers) × (q ≡ p)) ⊎ (slice_get (listing d b) i ≡ Some (Some p))
-pushed d q b i p h = by_class (slice_get d.classes b) h where
-  by_class : (o : Option (Option (List BlockPlace))) → slice_get (own_or (d.numbers ++ Some q ∷ []) o) i ≡ Some (Some p) → ((i ≡ length d.numbers) × (q ≡ p)) ⊎ (slice_get (own_or d.numbers o) i ≡ Some (Some p))
-  by_class None k = get_cases d.numbers q p i k
-  by_class (Some None) k = get_cases d.numbers q p i k
-  by_class (Some (Some ps)) k = inr k
+pushed d q b i p h = by_own (λ us vs. slice_get us i ≡ Some (Some p) → ((i ≡ length d.numbers) × (q ≡ p)) ⊎ (slice_get vs i ≡ Some (Some p))) (d.numbers ++ Some q ∷ []) d.numbers (get_cases d.numbers q p i) (λ us k. inr k) (slice_get d.classes b) h
 
 push_on : (d : Directory) (q : BlockPlace) (b i : ℕ) (p : BlockPlace) → slice_get (listing d b) i ≡ Some (Some p) → slice_get (listing (lying (d.numbers ++ Some q ∷ []) d.classes) b) i ≡ Some (Some p)
-push_on d q b i p h = by_class (slice_get d.classes b) h where
-  by_class : (o : Option (Option (List BlockPlace))) → slice_get (own_or d.numbers o) i ≡ Some (Some p) → slice_get (own_or (d.numbers ++ Some q ∷ []) o) i ≡ Some (Some p)
-  by_class None k = get_on d.numbers q i p k
-  by_class (Some None) k = get_on d.numbers q i p k
-  by_class (Some (Some ps)) k = k
+push_on d q b i p h = by_own (λ us vs. slice_get vs i ≡ Some (Some p) → slice_get us i ≡ Some (Some p)) (d.numbers ++ Some q ∷ []) d.numbers (get_on d.numbers q i p) (λ us k. k) (slice_get d.classes b) h
 
 no_words : {n m : ℕ} → 0 ≡ n → n ≡ m → 2 ≤ m → ⊥
 no_words a b h = omega (arith, a, b, h)

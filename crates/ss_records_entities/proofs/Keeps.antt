@@ -1,8 +1,6 @@
 -- What the functions above the blocks keep.
-use Rattle.std.proofs.Common.{◌≡◌, ℕ, zero, suc, ◌<◌, ◌≤◌, Bool, true, false, List, [], ◌∷◌, map, length, slice_get, slice_set, Option, Some, None, Ok, Err, inl, inr, refl, sym, ap, subst, ◌∙◌, arith}
-use Rattle.ss_records_entities.proofs.Common.{above_head, AreFormed, AreOfClass, ArePartsKept, BlockPlace, Cells, class_at_place, class_in_words, differs, Directory, FaultKind, IsListedAt, IsMade, IsNumber, IsOfName, IsPermanent, issued_place, IsWrittenAt, Layout, links_start, Made, negsuc, number, numbered_place, Numbers, plain, pos, record_at, record_of, records_at, Result, same, state_of, word_at, word_of, words_at, WrongClass, ℤ}
-use Rattle.std.proofs.Math.Dec.{ltb}
-use Rattle.std.proofs.lemmas.Bool.{ltb-true, ltb-false}
+use Rattle.std.proofs.Common.{◌≡◌, ℕ, zero, suc, ◌<◌, ◌≤◌, true, false, List, [], ◌∷◌, map, length, slice_get, slice_set, Option, Some, None, Ok, Err, inl, inr, refl, sym, ap, subst, ◌∙◌, arith}
+use Rattle.ss_records_entities.proofs.Common.{above_head, AreFormed, ArePartsKept, BlockPlace, Cells, class_at_place, class_in_words, differs, Directory, FaultKind, IsListedAt, IsMade, IsNameKept, IsNumber, IsOfName, IsPermanent, issued_place, IsWrittenAt, Layout, links_start, Made, negsuc, number, numbered_place, Numbers, own_or, plain, pos, record_at, record_of, records_at, Result, same, SetLayout, state_of, word_at, word_of, words_at, WrongClass, ℤ}
 use denote.RawPtr.{Ptr}
 use Rattle.ss_world.specs.State.{and_then, is_notice, kind_of, Members, numbered_record, of_class, Record, issued_record, of_notice, notice}
 use Rattle.ss_records_blocks.proofs.Puts.{by_ptr}
@@ -35,10 +33,7 @@ there d (pos (suc i)) p h = (i, refl, issued_there (slice_get d i) p h)
 there d (negsuc k) p h = cc
 
 at_least : (a b : ℕ) → (b < a → ⊥) → a ≤ b
-at_least a b h = by_less (ltb b a) refl where
-  by_less : (v : Bool) → ltb b a ≡ v → a ≤ b
-  by_less true e = absurd (h (ltb-true b a e))
-  by_less false e = ltb-false b a e
+at_least a b h = omega (arith, h)
 
 pub entry_is : {p q : BlockPlace} → Some (Some p) ≡ Some (Some q) → p ≡ q
 entry_is e = cc
@@ -67,6 +62,12 @@ map_set f g [] i a v h k o = cc
 map_set f g (z ∷ zs) zero a v h k o = let here : z ≡ a = cc in λ t. (ap g here ∙ k) t ∷ map_same f g zs (λ j b m. o (suc j) b m (λ n. absurd (omega (arith, n)))) t
 map_set f g (z ∷ zs) (suc i) a v h k o = λ t. o zero z refl (λ n. absurd (omega (arith, n))) t ∷ map_set f g zs i a v h k (λ j b m n. o (suc j) b m (λ e. n (omega (arith, e)))) t
 
+-- of what is listed of a class, where its own entities are not made or are as they were
+pub by_own : (P : Numbers → Numbers → Type 0) (xs ys : Numbers) → P xs ys → ((zs : Numbers) → P zs zs) → (o : Option (Option (List BlockPlace))) → P (own_or xs o) (own_or ys o)
+by_own P xs ys h r None = h
+by_own P xs ys h r (Some None) = h
+by_own P xs ys h r (Some (Some ps)) = r (map Some ps)
+
 -- the record of a place
 abbrev pub at_place : Layout → Cells → BlockPlace → Record
 at_place l cs p = record_of l (words_at cs p.at)
@@ -83,6 +84,26 @@ made_same l cs ds ms o = map_same (records_at l cs) (records_at l ds) ms row whe
   row : (c : ℕ) (m : Option (List BlockPlace)) → slice_get ms c ≡ Some m → records_at l ds m ≡ records_at l cs m
   row c None h = refl
   row c (Some ps) h = ap Some (map_same (at_place l cs) (at_place l ds) ps (λ i p k. o i p (c, ps, h, k)))
+
+-- what is kept where each entry has its class and its form, and each set name the links of its lists
+pub kept_by : (l : Layout) (cs : Cells) (sys : Ptr) (d : Directory) (ms ns : List Members) → ArePartsKept l cs sys d ms → (ds : Cells) → length ds ≡ length cs → length (words_at ds sys) ≡ length (words_at cs sys) → word_at ds sys 1 ≡ word_at cs sys 1
+    → ((j : ℕ) (q : BlockPlace) → IsListedAt d j q → class_at_place ds q ≡ class_at_place cs q) → ((j : ℕ) (q : BlockPlace) → IsListedAt d j q → AreFormed l (class_at_place cs q) (suc j) (words_at ds q.at))
+    → ((s : ℕ) (t : SetLayout) → slice_get l.sets s ≡ Some t → IsNameKept l ds sys d ns s t) → ArePartsKept l ds sys d ns
+kept_by l cs sys d ms ns K ds count size last same formed names = record {
+  small = K.small;
+  issued = K.issued;
+  width = K.width;
+  system = size ∙ K.system;
+  end = last ∙ K.end;
+  kinds = λ j q h k. K.kinds j q h (subst (λ c. IsPermanent (kind_of l c)) (same j q (inl h)) k);
+  made = λ c ps h. let m = K.made c ps h in record { permanent = m.permanent; class = λ j q x. same j q (inr (c, ps, h, x)) ∙ m.class j q x; few = m.few };
+  classes = λ j q h. subst (λ c. c < length l.classes) (sym (same j q h)) (K.classes j q h);
+  formed = λ j q h. subst (λ c. AreFormed l c (suc j) (words_at ds q.at)) (sym (same j q h)) (formed j q h);
+  apart = K.apart;
+  off_system = K.off_system;
+  counted = count ∙ K.counted;
+  names = names;
+}
 
 module _ (l : Layout) (cs : Cells) (sys : Ptr) (d : Directory) (ms : List Members) (K : ArePartsKept l cs sys d ms) where
   pub formed_there : (x : ℤ) (p : BlockPlace) → numbered_place d.numbers x ≡ Ok p → (n : ℕ) × AreFormed l (class_at_place cs p) n (words_at cs p.at)
@@ -129,29 +150,14 @@ module _ (l : Layout) (cs : Cells) (sys : Ptr) (d : Directory) (ms : List Member
     pub class_kept : (j : ℕ) (q : BlockPlace) → IsListedAt d j q → class_at_place ds q ≡ class_at_place cs q
     class_kept j q h = entries j q h (λ k e. ap class_in (sym e) ∙ same_class ∙ ap (λ (r : Ptr). class_in_words (words_at cs r)) e) (λ n. ap class_in_words (w.others q.at n))
 
-    made_kept : (c : ℕ) (ps : List BlockPlace) → slice_get d.classes c ≡ Some (Some ps) → AreOfClass l ds c ps
-    made_kept c ps e = let m = K.made c ps e in record { permanent = m.permanent; class = λ j q h. class_kept j q (inr (c, ps, e, h)) ∙ m.class j q h; few = m.few }
-
     pub kept_written : ArePartsKept l ds sys d ms
-    kept_written = record {
-      small = K.small;
-      issued = K.issued;
-      width = K.width;
-      system = ap length (w.others sys (K.off_system i p g)) ∙ K.system;
-      end = ap (λ us. word_of us 1) (w.others sys (K.off_system i p g)) ∙ K.end;
-      kinds = λ j q h k. K.kinds j q h (subst (λ c. IsPermanent (kind_of l c)) (class_kept j q (inl h)) k);
-      made = made_kept;
-      classes = λ j q h. subst (λ c. c < length l.classes) (sym (class_kept j q h)) (K.classes j q h);
-      formed = λ j q h. subst (λ c. AreFormed l c (suc j) (words_at ds q.at)) (sym (class_kept j q h)) (entries j q h {P = AreFormed l (class_at_place cs q) (suc j) (words_at ds q.at)}
-          (λ k e. subst (λ (r : Ptr). AreFormed l (class_in_words (words_at cs r)) (suc j) (words_at ds r)) e (subst (λ n. AreFormed l (class_at_place cs p) (suc n) (words_at ds p.at)) k f))
-          (λ n. subst (λ us. AreFormed l (class_at_place cs q) (suc j) us) (sym (w.others q.at n)) (K.formed j q h)));
-      apart = K.apart;
-      off_system = K.off_system;
-      counted = w.count ∙ K.counted;
-      names = λ s t h. names_same l cs sys d ms K ds class_kept s t h (λ q k o. by_ptr p.at q
-          (λ e z. subst (λ r. word_at ds r k ≡ word_at cs r k) z (links k (at_least (links_start l (class_at_place cs p)) k (λ small. above_head l cs sys d ms K s t h i p k g small (subst (λ r. IsOfName l cs sys d s t r k) (sym z) o)))))
-          (λ e n. ap (λ us. word_of us k) (w.others q n)));
-    }
+    kept_written = kept_by l cs sys d ms ms K ds w.count (ap length (w.others sys (K.off_system i p g))) (ap (λ us. word_of us 1) (w.others sys (K.off_system i p g))) class_kept
+        (λ j q h. entries j q h {P = AreFormed l (class_at_place cs q) (suc j) (words_at ds q.at)}
+            (λ k e. subst (λ (r : Ptr). AreFormed l (class_in_words (words_at cs r)) (suc j) (words_at ds r)) e (subst (λ n. AreFormed l (class_at_place cs p) (suc n) (words_at ds p.at)) k f))
+            (λ n. subst (λ us. AreFormed l (class_at_place cs q) (suc j) us) (sym (w.others q.at n)) (K.formed j q h)))
+        (λ s t h. names_same l cs sys d ms K ds class_kept s t h (λ q k o. by_ptr p.at q
+            (λ e z. subst (λ r. word_at ds r k ≡ word_at cs r k) z (links k (at_least (links_start l (class_at_place cs p)) k (λ small. above_head l cs sys d ms K s t h i p k g small (subst (λ r. IsOfName l cs sys d s t r k) (sym z) o)))))
+            (λ e n. ap (λ us. word_of us k) (w.others q n))))
 
     -- what is read at the other entries
     read_other : (j : ℕ) (q : BlockPlace) → IsListedAt d j q → (p.at ≡ q.at → ⊥) → record_of l (words_at ds q.at) ≡ record_of l (words_at cs q.at)

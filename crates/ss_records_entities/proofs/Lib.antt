@@ -28,7 +28,6 @@ pub mod Onward
 pub mod OwnLinks
 pub mod Owning
 pub mod Passing
-pub mod ReadKind
 pub mod ReadWords
 pub mod Relinked
 pub mod Remembered

@@ -137,9 +137,7 @@ module _ (l : Layout) (cs bs : Cells) (sys : Ptr) (d : Directory) (ms : List Mem
   still_here = kept i p (omega arith) g
 
   pub kept_rest : (j : ℕ) (q : BlockPlace) → i + 1 ≤ j → slice_get d.numbers j ≡ Some (Some q) → words_at (without_block bs p.at) q.at ≡ words_at cs q.at
-  kept_rest j q h k = words_without bs p.at q.at (λ z. absurd (less_is_not i j h (K.apart i j p q (inl g) (inl k) z))) ∙ kept j q (omega (arith, h)) k where
-    less_is_not : (a b : ℕ) → a + 1 ≤ b → a ≡ b → ⊥
-    less_is_not a b x y = omega (arith, x, y)
+  kept_rest j q h k = words_without bs p.at q.at (λ z. let e = K.apart i j p q (inl g) (inl k) z in absurd (omega (arith, h, e))) ∙ kept j q (omega (arith, h)) k
 
   pub kept_system : words_at bs sys ≡ words_at cs sys → words_at (without_block bs p.at) sys ≡ words_at cs sys
   kept_system h = words_without bs p.at sys (K.off_system i p (inl g)) ∙ h

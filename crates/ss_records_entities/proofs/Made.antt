@@ -5,7 +5,7 @@ use denote.RawPtr.{Ptr}
 use Rattle.ss_records_words.proofs.Listing.{listed, unmapped}
 use Rattle.ss_records_blocks.specs.Writes.{HasNoneAt, ArePlaced, AreUnchanged}
 use Rattle.std.proofs.lemmas.List.{length-set, map-set}
-use Rattle.ss_records_entities.proofs.Keeps.{get_put, get_other, numbers_same, made_same}
+use Rattle.ss_records_entities.proofs.Keeps.{kept_by, get_put, get_other, numbers_same, made_same}
 use Rattle.ss_records_entities.proofs.NamesCreated.{name_born}
 use Rattle.ss_records_entities.proofs.Creates.{off_entry, off_sys, born_formed, record_first, few_made}
 
@@ -40,23 +40,11 @@ module _ (l : Layout) (cs : Cells) (sys : Ptr) (d : Directory) (ms : List Member
     same_system = u.words sys (some_words sys (block_words l System) K.system (omega arith))
 
     pub kept_unchanged : ArePartsKept l ds sys d ms
-    kept_unchanged = record {
-      small = K.small;
-      issued = K.issued;
-      width = K.width;
-      system = ap length same_system ∙ K.system;
-      end = ap (λ us. word_of us 1) same_system ∙ K.end;
-      kinds = λ i p h. subst (λ us. IsPermanent (kind_of l (class_in_words us)) → ⊥) (sym (same_words i p (inl h))) (K.kinds i p h);
-      made = λ c ps h. let m = K.made c ps h in record { permanent = m.permanent; class = λ i p x. ap class_in_words (same_words i p (inr (c, ps, h, x))) ∙ m.class i p x; few = m.few };
-      classes = λ i p h. subst (λ us. class_in_words us < length l.classes) (sym (same_words i p h)) (K.classes i p h);
-      formed = λ i p h. subst (λ us. AreFormed l (class_in_words us) (suc i) us) (sym (same_words i p h)) (K.formed i p h);
-      apart = K.apart;
-      off_system = K.off_system;
-      counted = u.count ∙ K.counted;
-      names = λ s t g. name_born l cs sys d ms K s t g d ds same_system
-          (λ b i p h k. inr (h, same_words i p (listed d b i p h)))
-          (λ b i p h k. (h, ap class_in_words (same_words i p (listed d b i p h)) ∙ k));
-    }
+    kept_unchanged = kept_by l cs sys d ms ms K ds u.count (ap length same_system) (ap (λ us. word_of us 1) same_system) (λ i p h. ap class_in_words (same_words i p h))
+        (λ i p h. subst (λ us. AreFormed l (class_at_place cs p) (suc i) us) (sym (same_words i p h)) (K.formed i p h))
+        (λ s t g. name_born l cs sys d ms K s t g d ds same_system
+            (λ b i p h k. inr (h, same_words i p (listed d b i p h)))
+            (λ b i p h k. (h, ap class_in_words (same_words i p (listed d b i p h)) ∙ k)))
 
     pub state_unchanged : state_of l ds d ms ≡ state_of l cs d ms
     state_unchanged =
@@ -148,5 +136,5 @@ module _ (l : Layout) (cs : Cells) (sys : Ptr) (d : Directory) (ms : List Member
     state_made n many =
         let one = numbers_same l cs ds d.numbers (λ i p h. ap (record_of l) (old i p (inl h))) in
         let first = row_first l ds c ps (λ i p h. record_first l c (words_at ds p.at) (new_class i p h) (born i p h).values) ∙ ap (λ k. replicate k (first_record l c)) many in
-        let two = map-set (records_at l ds) d.classes c (Some ps) ∙ (λ t. slice_set (made_same l cs ds d.classes (λ i p h. ap (record_of l) (old i p (inr h))) t) c (Some (first t))) in
+        let two : map (records_at l ds) (slice_set d.classes c (Some ps)) ≡ slice_set (map (records_at l cs) d.classes) c (Some (replicate n (first_record l c))) = map-set (records_at l ds) d.classes c (Some ps) ∙ (λ t. slice_set (made_same l cs ds d.classes (λ i p h. ap (record_of l) (old i p (inr h))) t) c (Some (first t))) in
         λ t. record (state_of l cs d ms) { records = one t; permanents = two t }

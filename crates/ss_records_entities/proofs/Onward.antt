@@ -38,14 +38,6 @@ owner_with st s o n (Err f) e h = absurd cc
 has_owner : (st : State) (s : ℕ) (o x : ℤ) (n : ℕ) → joiner st s x ≡ Ok n → member_test st s o x ≡ Ok true → (m : ℕ) × (owner st s o ≡ Ok m) × IsInList n (members_of st.lists s m)
 has_owner st s o x n j h = owner_with st s o n (owner st s o) refl (sym (ap (λ z. and_then z (λ k. and_then (owner st s o) (λ m. Ok (contains (members_of st.lists s m) k)))) j) ∙ h)
 
-no_member : (st : State) (s : ℕ) (o x : ℤ) (f : FaultKind) (z : Result ℕ FaultKind) → z ≡ Err f → and_then z (λ k. and_then (owner st s o) (λ m. Ok (contains (members_of st.lists s m) k))) ≡ Ok true → ⊥
-no_member st s o x f (Ok n) e h = cc
-no_member st s o x f (Err g) e h = cc
-
--- what may not be a member is none
-pub not_member : (st : State) (s : ℕ) (o x : ℤ) (f : FaultKind) → joiner st s x ≡ Err f → member_test st s o x ≡ Ok true → ⊥
-not_member st s o x f e h = no_member st s o x f (joiner st s x) e h
-
 module _ (r : Records) (K : IsKept r) (s : ℕ) (inside : s < length r.layout.sets) where
   -- whoever has a member is an owner
   pub owner_is : (o x : ℕ) → IsInList x (members_of r.notes.lists s o) → owner (state r) s (pos o) ≡ Ok o

@@ -1,5 +1,5 @@
 -- Walking along a set past the members that do not rank after a number.
-use Rattle.std.proofs.Common.{◌≡◌, ℕ, suc, inl, inr, ◌+◌, ◌*◌, ◌^◌, ◌<◌, ◌≤◌, Bool, true, false, List, [], ◌∷◌, ◌++◌, length, slice_get, Some, Ok, refl, sym, ap, subst, ◌∙◌, arith, append_assoc, append-nil}
+use Rattle.std.proofs.Common.{◌≡◌, ℕ, suc, inl, inr, ◌+◌, ◌*◌, ◌^◌, ◌<◌, Bool, true, false, List, [], ◌∷◌, ◌++◌, length, slice_get, Some, Ok, refl, sym, ap, subst, ◌∙◌, arith, append_assoc, append-nil}
 use Rattle.ss_records_entities.proofs.Common.{IsEntityPlace, AreAllDistinct, AreNeighbours, BlockPlace, CanJoin, class_at_place, entity_at, EntityBlock, entry_of, get_there, HasLink, head0, int_cmp, Integer, IsInList, IsInPlace, IsKept, IsListedAt, IsNumber, link, listed, match_ordering, member_base, member_class, members_of, Mode, modes_of, not, number, place_in_record, places, pos, Records, SetLayout, state, succ, Value, value_at, value_in, Whole, word_at, ℤ}
 use denote.RawPtr.{Ptr}
 use Rattle.ss_base.specs.Order.{value_cmp}
@@ -120,9 +120,6 @@ module _ (r : Records) (K : IsKept r) (s : ℕ) (inside : s < length r.layout.se
 
     pub small : q.number < 2 ^ 62
     small = small_of r.layout r.blocks.cells r.system.at (places r) r.notes.lists K s inside (member_class r.layout s) q.number (inr joins.is)
-
-    pub left : touches ≤ length f
-    left = omega (arith, S.touched, S.size, ap length shape.1)
 
     -- that ranks after the number
     module _ (e : t q.number ≡ true) where
