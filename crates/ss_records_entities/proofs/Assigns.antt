@@ -158,7 +158,7 @@ module _ (r : Records) (K : IsKept r) where
       pub found_assigned : assigned st c f x v ≡ Ok (state_of l ds d r.notes.lists)
       found_assigned =
           let ws = words_at cs p.at in
-          let room : k + 1 < length ws = omega (arith, field_in (mode_of v) mode, head_room l (class_at_place cs p) (suc i) ws (K.formed e.index p e.entry)) in
+          let room : k + 1 < length ws = omega (arith, field_in (mode_of v) mode, head_room l (class_at_place cs p) (suc e.index) ws (K.formed e.index p e.entry)) in
           let value : read_as l (class_at_place cs p) us ≡ new =
           record_value l (class_at_place cs p) ws f k w.first w.second (mode_of v) v start (subst (λ b. slice_get (modes_of l b) f ≡ Some (mode_of v)) (sym e.class) mode) w.value room (subst (λ b. f < length (modes_of l b)) (sym e.class) (get_inside (modes_of l c) f (mode_of v) mode)) in
           let n : number_in x - 1 ≡ e.index = ap (λ y. number_in y - 1) e.is ∙ omega arith in
@@ -180,7 +180,7 @@ module _ (r : Records) (K : IsKept r) where
       pub found_reads : value_in (state_of l ds d r.notes.lists) c f x ≡ Ok v
       found_reads =
           let ws = words_at cs p.at in
-          let room : k + 1 < length ws = omega (arith, field_in (mode_of v) mode, head_room l (class_at_place cs p) (suc i) ws (K.formed e.index p e.entry)) in
+          let room : k + 1 < length ws = omega (arith, field_in (mode_of v) mode, head_room l (class_at_place cs p) (suc e.index) ws (K.formed e.index p e.entry)) in
           let class : class_at_place ds p ≡ c = class_put e.index p e.entry ds us value_put ∙ e.class in
           let there : entity_in (state_of l ds d r.notes.lists) c x ≡ Ok (record_of l (words_at ds p.at)) = ap (entity_in (state_of l ds d r.notes.lists) c) e.is ∙ entity_is l ds r.system.at d r.notes.lists found_kept c (suc e.index) e.index p refl class e.entry in
           let a : word_of (words_at ds p.at) k ≡ number w.first = ap (λ vs. word_of vs k) value_put.words ∙ two_first ws k w.first w.second room in
