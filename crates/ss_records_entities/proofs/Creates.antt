@@ -1,13 +1,14 @@
 -- A new block under the next number.
 use Rattle.std.proofs.Common.{◌≡◌, ℕ, zero, suc, ◌+◌, ◌*◌, ◌^◌, ◌<◌, ◌≤◌, true, false, cond, List, [], ◌∷◌, ◌++◌, map, length, slice_get, Some, None, Ok, ◌⊎◌, inl, inr, refl, sym, ap, subst, ◌∙◌, arith}
-use Rattle.ss_records_entities.proofs.Common.{Alpha, AreFormed, ArePartsKept, blanks, block_words, BlockPlace, Bool, by_same, cast_signed, Cells, Class, class_at_place, class_in_words, created, Directory, entry_of, first_record, Integer, is_notice, IsBorn, IsEntityOf, IsLaid, IsListedAt, IsNumber, IsPermanent, kind_of, LAST_NUMBER, Layout, links_start, listed, listing, lt-ltb, lying, Made, Members, Mode, modes_of, nat_lt, number, Numbers, Option, own_or, permanent_count, plain, pos, Record, record_at, record_of, records_at, state_of, System, value_of_words, values_end, values_from, Word, word_at, word_of, words_at, ℤ}
+use Rattle.ss_records_entities.proofs.Common.{Alpha, AreFormed, ArePartsKept, blanks, block_words, BlockPlace, Bool, by_same, cast_signed, Cells, Class, class_at_place, class_in_words, created, Directory, entry_of, first_record, Integer, is_notice, IsBorn, IsEntityOf, IsLaid, IsListedAt, IsNumber, IsPermanent, kind_of, LAST_NUMBER, Layout, links_start, listed, listing, lt-ltb, lying, Made, Members, Mode, modes_of, nat_lt, number, Numbers, permanent_count, plain, pos, record_at, record_of, records_at, state_of, System, value_of_words, values_end, values_from, Word, word_at, word_of, words_at, ℤ}
 use mir.Syntax.{w64}
 use denote.RawPtr.{Ptr}
 use Rattle.ss_records_blocks.proofs.Entries.{get_inside, living_push, living_bound}
 use Rattle.ss_records_blocks.proofs.Puts.{length-blanks, words_new, words_old}
 use Rattle.ss_base.specs.Layout.{first_value}
 use Rattle.ss_records_entities.proofs.ReadWords.{read_as}
-use Rattle.ss_records_entities.proofs.Keeps.{map_same, made_same, entry_is}
+use Rattle.std.proofs.lemmas.List.{length-append, length-map, map-append}
+use Rattle.ss_records_entities.proofs.Keeps.{by_own, numbers_same, made_same, entry_is}
 use Rattle.ss_records_entities.proofs.NamesCreated.{name_born}
 
 first_of : (m : Mode) → value_of_words m 0 0 ≡ first_value m
@@ -45,26 +46,10 @@ get_on (z ∷ zs) q (suc i) p h = get_on zs q i p h
 
 -- what is listed once a number is pushed
 pushed : (d : Directory) (q : BlockPlace) (b i : ℕ) (p : BlockPlace) → slice_get (listing (lying (d.numbers ++ Some q ∷ []) d.classes) b) i ≡ Some (Some p) → ((i ≡ length d.numbers) × (q ≡ p)) ⊎ (slice_get (listing d b) i ≡ Some (Some p))
-pushed d q b i p h = by_class (slice_get d.classes b) h where
-  by_class : (o : Option (Option (List BlockPlace))) → slice_get (own_or (d.numbers ++ Some q ∷ []) o) i ≡ Some (Some p) → ((i ≡ length d.numbers) × (q ≡ p)) ⊎ (slice_get (own_or d.numbers o) i ≡ Some (Some p))
-  by_class None k = get_cases d.numbers q p i k
-  by_class (Some None) k = get_cases d.numbers q p i k
-  by_class (Some (Some ps)) k = inr k
+pushed d q b i p h = by_own (λ us vs. slice_get us i ≡ Some (Some p) → ((i ≡ length d.numbers) × (q ≡ p)) ⊎ (slice_get vs i ≡ Some (Some p))) (d.numbers ++ Some q ∷ []) d.numbers (get_cases d.numbers q p i) (λ us k. inr k) (slice_get d.classes b) h
 
 push_on : (d : Directory) (q : BlockPlace) (b i : ℕ) (p : BlockPlace) → slice_get (listing d b) i ≡ Some (Some p) → slice_get (listing (lying (d.numbers ++ Some q ∷ []) d.classes) b) i ≡ Some (Some p)
-push_on d q b i p h = by_class (slice_get d.classes b) h where
-  by_class : (o : Option (Option (List BlockPlace))) → slice_get (own_or d.numbers o) i ≡ Some (Some p) → slice_get (own_or (d.numbers ++ Some q ∷ []) o) i ≡ Some (Some p)
-  by_class None k = get_on d.numbers q i p k
-  by_class (Some None) k = get_on d.numbers q i p k
-  by_class (Some (Some ps)) k = k
-
-length_push : (d : Numbers) (q : BlockPlace) → length (d ++ Some q ∷ []) ≡ length d + 1
-length_push [] q = omega arith
-length_push (z ∷ zs) q = omega (arith, length_push zs q)
-
-map_push : (f : Option BlockPlace → Option Record) (d : Numbers) (e : Option BlockPlace) → map f (d ++ e ∷ []) ≡ map f d ++ f e ∷ []
-map_push f [] e = refl
-map_push f (z ∷ zs) e = ap (λ l. f z ∷ l) (map_push f zs e)
+push_on d q b i p h = by_own (λ us vs. slice_get vs i ≡ Some (Some p) → slice_get us i ≡ Some (Some p)) (d.numbers ++ Some q ∷ []) d.numbers (get_on d.numbers q i p) (λ us k. k) (slice_get d.classes b) h
 
 no_words : {n m : ℕ} → 0 ≡ n → n ≡ m → 2 ≤ m → ⊥
 no_words a b h = omega (arith, a, b, h)
@@ -152,7 +137,7 @@ module _ (l : Layout) (cs : Cells) (sys : Ptr) (d : Directory) (ms : List Member
     pub kept_created : ArePartsKept l ds sys e ms
     kept_created = record {
       small = K.small;
-      issued = omega (arith, length_push d.numbers q, room);
+      issued = omega (arith, length-append d.numbers (Some q ∷ []), room);
       width = K.width;
       system = ap length (kept_words sys (off_sys q.at fresh)) ∙ K.system;
       end = ap (λ us. word_of us 1) (kept_words sys (off_sys q.at fresh)) ∙ K.end;
@@ -180,23 +165,15 @@ module _ (l : Layout) (cs : Cells) (sys : Ptr) (d : Directory) (ms : List Member
           (λ b i p h k. (push_on d q b i p h, ap class_in_words (old i p (listed d b i p h)) ∙ k));
     }
 
-    records_same : (i : ℕ) (o : Option BlockPlace) → slice_get d.numbers i ≡ Some o → record_at l ds o ≡ record_at l cs o
-    records_same i None h = refl
-    records_same i (Some p) h = ap (λ us. Some (record_of l us)) (old i p (inl h))
-
     records_created : map (record_at l ds) e.numbers ≡ map (record_at l cs) d.numbers ++ Some (first_record l c) ∷ []
     records_created =
-        map_push (record_at l ds) d.numbers (Some q) ∙ (λ i. map_same (record_at l cs) (record_at l ds) d.numbers records_same i ++ Some (record_first l c (words_at ds q.at) new_class laid.values i) ∷ [])
+        map-append (record_at l ds) d.numbers (Some q ∷ []) ∙ (λ i. numbers_same l cs ds d.numbers (λ j p h. ap (record_of l) (old j p (inl h))) i ++ Some (record_first l c (words_at ds q.at) new_class laid.values i) ∷ [])
 
     permanents_kept : map (records_at l ds) d.classes ≡ map (records_at l cs) d.classes
     permanents_kept = made_same l cs ds d.classes (λ i p h. ap (record_of l) (old i p (inr h)))
 
-    length_map : (f : Option BlockPlace → Option Record) (xs : Numbers) → length (map f xs) ≡ length xs
-    length_map f [] = refl
-    length_map f (z ∷ zs) = ap suc (length_map f zs)
-
     pub is_created : (z : ℤ) → z ≡ pos (length d.numbers + 1) → created (state_of l cs d ms) c ≡ Ok (z, state_of l ds e ms)
     is_created z h =
-        let n : length (map (record_at l cs) d.numbers) ≡ length d.numbers = length_map (record_at l cs) d.numbers in
+        let n : length (map (record_at l cs) d.numbers) ≡ length d.numbers = length-map d.numbers (record_at l cs) in
         let may : nat_lt (length d.numbers) LAST_NUMBER ≡ true = lt-ltb (length d.numbers) LAST_NUMBER room in
         rw (n, may) (λ i. Ok (sym h i, record (state_of l cs d ms) { records = sym records_created i; permanents = sym permanents_kept i }))

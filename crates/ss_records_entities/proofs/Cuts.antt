@@ -135,17 +135,11 @@ module _ (st : State) (s : ℕ) (o x : ℤ) (m n : ℕ) (jn : joiner st s x ≡ 
   at_both : (g : ℕ → ℕ → Result State FaultKind) → and_then (joiner st s x) (λ i. and_then (owner st s o) (g i)) ≡ g n m
   at_both g = ap (λ z. and_then z (λ i. and_then (owner st s o) (g i))) jn ∙ ap (λ z. and_then z (g n)) om
 
-  put_twice : (put : ℕ → List ℕ → List ℕ) → is_filed st.lists s n ≡ true → and_then (joiner st s x) (λ i. and_then (owner st s o) (λ k. put_in put st s k i)) ≡ Err FiledTwice
-  put_twice put h = at_both (λ i k. put_in put st s k i) ∙ rw h refl
-
-  put_done : (put : ℕ → List ℕ → List ℕ) (new : State) → is_filed st.lists s n ≡ false → new ≡ with_list_of st s m (put n (members_of st.lists s m)) → and_then (joiner st s x) (λ i. and_then (owner st s o) (λ k. put_in put st s k i)) ≡ Ok new
-  put_done put new h e = at_both (λ i k. put_in put st s k i) ∙ rw h (ap Ok (sym e))
-
   put_tried : (put : ℕ → List ℕ → List ℕ) (new : State) (r : Result (Unit {0}) FaultKind)
       → MatchResult r (λ _. (is_filed st.lists s n ≡ false) × (new ≡ with_list_of st s m (put n (members_of st.lists s m)))) (λ e. (e ≡ FiledTwice) × (is_filed st.lists s n ≡ true) × (new ≡ st))
       → MatchResult r (λ _. and_then (joiner st s x) (λ i. and_then (owner st s o) (λ k. put_in put st s k i)) ≡ Ok new) (λ e. (and_then (joiner st s x) (λ i. and_then (owner st s o) (λ k. put_in put st s k i)) ≡ Err e) × (new ≡ st))
-  put_tried put new (Ok u) h = put_done put new h.0 h.1
-  put_tried put new (Err e) h = (put_twice put h.1 ∙ ap Err (sym h.0), h.2)
+  put_tried put new (Ok u) h = at_both (λ i k. put_in put st s k i) ∙ rw h.0 (ap Ok (sym h.1))
+  put_tried put new (Err e) h = (at_both (λ i k. put_in put st s k i) ∙ rw h.1 (ap Err (sym h.0)), h.2)
 
   -- at an end
   pub end_tried : (last : Bool) (new : State) (r : Result (Unit {0}) FaultKind)

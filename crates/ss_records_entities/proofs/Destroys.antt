@@ -1,18 +1,11 @@
 -- A block that is given back.
-use Rattle.std.proofs.Common.{◌≡◌, ℕ, zero, suc, ◌-◌, ◌<◌, true, false, List, [], ◌∷◌, map, length, slice_get, slice_set, Option, Some, None, Ok, Err, inl, inr, refl, sym, ap, subst, ◌∙◌, arith}
-use Rattle.ss_records_entities.proofs.Common.{and_then, AreFormed, ArePartsKept, block_words, BlockPlace, blocks_without, by_same, Cells, Class, class_at_place, class_in_words, destroyed, Directory, entity_in, in_a_set, IsListedAt, IsMade, IsNotInList, IsPermanent, kind_of, Layout, let_go, listed, listing, lying, Members, members_of, number_in, Numbers, own_or, owns_members, pos, record_at, record_of, records_at, SetLayout, state_of, without_block, word_of, words_at, words_without, ℤ}
+use Rattle.std.proofs.Common.{◌≡◌, ℕ, zero, suc, ◌-◌, ◌<◌, true, false, List, [], ◌∷◌, map, length, slice_get, slice_set, Some, None, Ok, Err, inl, inr, refl, sym, ap, subst, ◌∙◌, arith}
+use Rattle.ss_records_entities.proofs.Common.{and_then, AreFormed, ArePartsKept, block_words, BlockPlace, blocks_without, by_same, Cells, Class, class_at_place, class_in_words, destroyed, Directory, entity_in, in_a_set, IsListedAt, IsMade, IsNotInList, IsPermanent, kind_of, Layout, let_go, listed, listing, lying, Members, members_of, number_in, Numbers, owns_members, pos, record_at, record_of, records_at, SetLayout, state_of, without_block, word_of, words_at, words_without, ℤ}
 use denote.RawPtr.{Ptr}
-use Rattle.ss_records_entities.proofs.Keeps.{made_same, entry_is}
+use Rattle.ss_records_entities.proofs.Keeps.{at_place, by_own, get_other, numbers_same, made_same, entry_is}
 use Rattle.ss_records_entities.proofs.NamesGone.{name_gone}
 use Rattle.ss_base.specs.declared.fault.FaultKind.TheVariants.{InASet, OwnsMembers}
 use Rattle.ss_records_blocks.proofs.Entries.{living_gone, length_set}
-
-get_other : (d : Numbers) (i : ℕ) (v : Option BlockPlace) (j : ℕ) → (i ≡ j → ⊥) → slice_get (slice_set d i v) j ≡ slice_get d j
-get_other [] i v j n = refl
-get_other (z ∷ zs) zero v zero n = absurd (n refl)
-get_other (z ∷ zs) zero v (suc j) n = refl
-get_other (z ∷ zs) (suc i) v zero n = refl
-get_other (z ∷ zs) (suc i) v (suc j) n = get_other zs i v j (λ e. n (ap suc e))
 
 get_gone : (d : Numbers) (i : ℕ) (p : BlockPlace) → slice_get (slice_set d i None) i ≡ Some (Some p) → ⊥
 get_gone [] i p h = cc
@@ -21,24 +14,14 @@ get_gone (z ∷ zs) (suc i) p h = get_gone zs i p h
 
 -- what is listed once a number is gone
 dropped : (d : Directory) (i b j : ℕ) (q : BlockPlace) → slice_get (listing (lying (slice_set d.numbers i None) d.classes) b) j ≡ Some (Some q) → slice_get (listing d b) j ≡ Some (Some q)
-dropped d i b j q h = by_class (slice_get d.classes b) h where
+dropped d i b j q h = by_own (λ us vs. slice_get us j ≡ Some (Some q) → slice_get vs j ≡ Some (Some q)) (slice_set d.numbers i None) d.numbers in_numbers (λ us k. k) (slice_get d.classes b) h where
   in_numbers : slice_get (slice_set d.numbers i None) j ≡ Some (Some q) → slice_get d.numbers j ≡ Some (Some q)
   in_numbers k = by_same i j (λ t n. absurd (get_gone d.numbers i q (ap (slice_get (slice_set d.numbers i None)) n ∙ k))) (λ t n. sym (get_other d.numbers i None j n) ∙ k)
 
-  by_class : (o : Option (Option (List BlockPlace))) → slice_get (own_or (slice_set d.numbers i None) o) j ≡ Some (Some q) → slice_get (own_or d.numbers o) j ≡ Some (Some q)
-  by_class None k = in_numbers k
-  by_class (Some None) k = in_numbers k
-  by_class (Some (Some ps)) k = k
-
 not_dropped : (d : Directory) (i b j : ℕ) (q : BlockPlace) → slice_get (listing d b) j ≡ Some (Some q) → ((i ≡ j) → slice_get d.numbers j ≡ Some (Some q) → ⊥) → slice_get (listing (lying (slice_set d.numbers i None) d.classes) b) j ≡ Some (Some q)
-not_dropped d i b j q h other = by_class (slice_get d.classes b) h where
+not_dropped d i b j q h other = by_own (λ us vs. slice_get vs j ≡ Some (Some q) → slice_get us j ≡ Some (Some q)) (slice_set d.numbers i None) d.numbers in_numbers (λ us k. k) (slice_get d.classes b) h where
   in_numbers : slice_get d.numbers j ≡ Some (Some q) → slice_get (slice_set d.numbers i None) j ≡ Some (Some q)
   in_numbers k = by_same i j (λ t n. absurd (other n k)) (λ t n. get_other d.numbers i None j n ∙ k)
-
-  by_class : (o : Option (Option (List BlockPlace))) → slice_get (own_or d.numbers o) j ≡ Some (Some q) → slice_get (own_or (slice_set d.numbers i None) o) j ≡ Some (Some q)
-  by_class None k = in_numbers k
-  by_class (Some None) k = in_numbers k
-  by_class (Some (Some ps)) k = k
 
 module _ (l : Layout) (cs : Cells) (sys : Ptr) (d : Directory) (ms : List Members) (K : ArePartsKept l cs sys d ms) (i : ℕ) (p : BlockPlace) (g : slice_get d.numbers i ≡ Some (Some p)) where
   abbrev e : Directory
@@ -86,17 +69,12 @@ module _ (l : Layout) (cs : Cells) (sys : Ptr) (d : Directory) (ms : List Member
   }
 
   pub records_destroyed : map (record_at l ds) e.numbers ≡ slice_set (map (record_at l cs) d.numbers) i None
-  records_destroyed = map_gone d.numbers i (λ j q h n. ap (λ us. Some (record_of l us)) (words_without cs p.at q.at (λ z. n (K.apart i j p q (inl g) (inl h) z)))) where
-    map_others : (xs : Numbers) → ((j : ℕ) (q : BlockPlace) → slice_get xs j ≡ Some (Some q) → record_at l ds (Some q) ≡ record_at l cs (Some q)) → map (record_at l ds) xs ≡ map (record_at l cs) xs
-    map_others [] o = refl
-    map_others (None ∷ zs) o = ap (λ rs. None ∷ rs) (map_others zs (λ j q h. o (suc j) q h))
-    map_others (Some q ∷ zs) o = λ t. o zero q refl t ∷ map_others zs (λ j q h. o (suc j) q h) t
-
-    map_gone : (xs : Numbers) (k : ℕ) → ((j : ℕ) (q : BlockPlace) → slice_get xs j ≡ Some (Some q) → (k ≡ j → ⊥) → record_at l ds (Some q) ≡ record_at l cs (Some q)) → map (record_at l ds) (slice_set xs k None) ≡ slice_set (map (record_at l cs) xs) k None
+  records_destroyed = map_gone d.numbers i (λ j q h n. ap (record_of l) (words_without cs p.at q.at (λ z. n (K.apart i j p q (inl g) (inl h) z)))) where
+    map_gone : (xs : Numbers) (k : ℕ) → ((j : ℕ) (q : BlockPlace) → slice_get xs j ≡ Some (Some q) → (k ≡ j → ⊥) → at_place l ds q ≡ at_place l cs q) → map (record_at l ds) (slice_set xs k None) ≡ slice_set (map (record_at l cs) xs) k None
     map_gone [] k o = refl
-    map_gone (z ∷ zs) zero o = ap (λ rs. None ∷ rs) (map_others zs (λ j q h. o (suc j) q h (λ n. absurd (omega (arith, n)))))
+    map_gone (z ∷ zs) zero o = ap (λ rs. None ∷ rs) (numbers_same l cs ds zs (λ j q h. o (suc j) q h (λ n. absurd (omega (arith, n)))))
     map_gone (None ∷ zs) (suc k) o = ap (λ rs. None ∷ rs) (map_gone zs k (λ j q h n. o (suc j) q h (λ m. n (omega (arith, m)))))
-    map_gone (Some q ∷ zs) (suc k) o = λ t. o zero q refl (λ n. absurd (omega (arith, n))) t ∷ map_gone zs k (λ j q h n. o (suc j) q h (λ m. n (omega (arith, m)))) t
+    map_gone (Some q ∷ zs) (suc k) o = λ t. Some (o zero q refl (λ n. absurd (omega (arith, n))) t) ∷ map_gone zs k (λ j q h n. o (suc j) q h (λ m. n (omega (arith, m)))) t
 
   permanents_kept : map (records_at l ds) d.classes ≡ map (records_at l cs) d.classes
   permanents_kept = made_same l cs ds d.classes (λ j q h. ap (record_of l) (words_without cs p.at q.at (not_made j q h)))

@@ -1,8 +1,6 @@
 -- What the functions above the blocks keep.
-use Rattle.std.proofs.Common.{◌≡◌, ℕ, zero, suc, ◌<◌, ◌≤◌, Bool, true, false, List, [], ◌∷◌, map, length, slice_get, slice_set, Option, Some, None, Ok, Err, inl, inr, refl, sym, ap, subst, ◌∙◌, arith}
-use Rattle.ss_records_entities.proofs.Common.{above_head, AreFormed, AreOfClass, ArePartsKept, BlockPlace, Cells, class_at_place, class_in_words, differs, Directory, FaultKind, IsListedAt, IsMade, IsNumber, IsOfName, IsPermanent, issued_place, IsWrittenAt, Layout, links_start, Made, negsuc, number, numbered_place, Numbers, plain, pos, record_at, record_of, records_at, Result, same, state_of, word_at, word_of, words_at, WrongClass, ℤ}
-use Rattle.std.proofs.Math.Dec.{ltb}
-use Rattle.std.proofs.lemmas.Bool.{ltb-true, ltb-false}
+use Rattle.std.proofs.Common.{◌≡◌, ℕ, zero, suc, ◌<◌, ◌≤◌, true, false, List, [], ◌∷◌, map, length, slice_get, slice_set, Option, Some, None, Ok, Err, inl, inr, refl, sym, ap, subst, ◌∙◌, arith}
+use Rattle.ss_records_entities.proofs.Common.{above_head, AreFormed, ArePartsKept, BlockPlace, Cells, class_at_place, class_in_words, differs, Directory, FaultKind, IsListedAt, IsMade, IsNameKept, IsNumber, IsOfName, IsPermanent, issued_place, IsWrittenAt, Layout, links_start, Made, negsuc, number, numbered_place, Numbers, own_or, plain, pos, record_at, record_of, records_at, Result, same, SetLayout, state_of, word_at, word_of, words_at, WrongClass, ℤ}
 use denote.RawPtr.{Ptr}
 use Rattle.ss_world.specs.State.{and_then, is_notice, kind_of, Members, numbered_record, of_class, Record, issued_record, of_notice, notice}
 use Rattle.ss_records_blocks.proofs.Puts.{by_ptr}
@@ -35,49 +33,77 @@ there d (pos (suc i)) p h = (i, refl, issued_there (slice_get d i) p h)
 there d (negsuc k) p h = cc
 
 at_least : (a b : ℕ) → (b < a → ⊥) → a ≤ b
-at_least a b h = by_less (ltb b a) refl where
-  by_less : (v : Bool) → ltb b a ≡ v → a ≤ b
-  by_less true e = absurd (h (ltb-true b a e))
-  by_less false e = ltb-false b a e
+at_least a b h = omega (arith, h)
 
 pub entry_is : {p q : BlockPlace} → Some (Some p) ≡ Some (Some q) → p ≡ q
 entry_is e = cc
 
-pub map_same : (f g : Option BlockPlace → Option Record) (d : Numbers) → ((j : ℕ) (q : Option BlockPlace) → slice_get d j ≡ Some q → g q ≡ f q) → map g d ≡ map f d
+-- a list where one place is set
+pub get_put : {A : Type 0} (xs : List A) (i : ℕ) (v a : A) → slice_get xs i ≡ Some a → slice_get (slice_set xs i v) i ≡ Some v
+get_put [] i v a h = cc
+get_put (z ∷ zs) zero v a h = refl
+get_put (z ∷ zs) (suc i) v a h = get_put zs i v a h
+
+pub get_other : {A : Type 0} (xs : List A) (i : ℕ) (v : A) (j : ℕ) → (i ≡ j → ⊥) → slice_get (slice_set xs i v) j ≡ slice_get xs j
+get_other [] i v j n = refl
+get_other (z ∷ zs) zero v zero n = absurd (n refl)
+get_other (z ∷ zs) zero v (suc j) n = refl
+get_other (z ∷ zs) (suc i) v zero n = refl
+get_other (z ∷ zs) (suc i) v (suc j) n = get_other zs i v j (λ e. n (ap suc e))
+
+pub map_same : {A B : Type 0} (f g : A → B) (xs : List A) → ((j : ℕ) (a : A) → slice_get xs j ≡ Some a → g a ≡ f a) → map g xs ≡ map f xs
 map_same f g [] o = refl
-map_same f g (z ∷ zs) o = λ t. o zero z refl t ∷ map_same f g zs (λ j q m. o (suc j) q m) t
+map_same f g (z ∷ zs) o = λ t. o zero z refl t ∷ map_same f g zs (λ j a m. o (suc j) a m) t
 
--- a list of records where one has changed
-pub map_set : (f g : Option BlockPlace → Option Record) (d : Numbers) (i : ℕ) (e : Option BlockPlace) (v : Option Record) → slice_get d i ≡ Some e → g e ≡ v
-    → ((j : ℕ) (q : Option BlockPlace) → slice_get d j ≡ Some q → (i ≡ j → ⊥) → g q ≡ f q) → map g d ≡ slice_set (map f d) i v
-map_set f g [] i e v h k o = cc
-map_set f g (z ∷ zs) zero e v h k o = let here : z ≡ e = cc in λ t. (ap g here ∙ k) t ∷ map_same f g zs (λ j q m. o (suc j) q m (λ n. absurd (omega (arith, n)))) t
-map_set f g (z ∷ zs) (suc i) e v h k o = λ t. o zero z refl (λ n. absurd (omega (arith, n))) t ∷ map_set f g zs i e v h k (λ j q m n. o (suc j) q m (λ b. n (omega (arith, b)))) t
+-- a list that is read as it was but for one place
+map_set : {A B : Type 0} (f g : A → B) (xs : List A) (i : ℕ) (a : A) (v : B) → slice_get xs i ≡ Some a → g a ≡ v
+    → ((j : ℕ) (b : A) → slice_get xs j ≡ Some b → (i ≡ j → ⊥) → g b ≡ f b) → map g xs ≡ slice_set (map f xs) i v
+map_set f g [] i a v h k o = cc
+map_set f g (z ∷ zs) zero a v h k o = let here : z ≡ a = cc in λ t. (ap g here ∙ k) t ∷ map_same f g zs (λ j b m. o (suc j) b m (λ n. absurd (omega (arith, n)))) t
+map_set f g (z ∷ zs) (suc i) a v h k o = λ t. o zero z refl (λ n. absurd (omega (arith, n))) t ∷ map_set f g zs i a v h k (λ j b m n. o (suc j) b m (λ e. n (omega (arith, e)))) t
 
-row_same : (l : Layout) (cs ds : Cells) (ps : List BlockPlace) → ((i : ℕ) (p : BlockPlace) → slice_get ps i ≡ Some p → record_of l (words_at ds p.at) ≡ record_of l (words_at cs p.at)) → map (λ (p : BlockPlace). record_of l (words_at ds p.at)) ps ≡ map (λ (p : BlockPlace). record_of l (words_at cs p.at)) ps
-row_same l cs ds [] o = refl
-row_same l cs ds (p ∷ ps) o = λ t. o zero p refl t ∷ row_same l cs ds ps (λ i q h. o (suc i) q h) t
+-- of what is listed of a class, where its own entities are not made or are as they were
+pub by_own : (P : Numbers → Numbers → Type 0) (xs ys : Numbers) → P xs ys → ((zs : Numbers) → P zs zs) → (o : Option (Option (List BlockPlace))) → P (own_or xs o) (own_or ys o)
+by_own P xs ys h r None = h
+by_own P xs ys h r (Some None) = h
+by_own P xs ys h r (Some (Some ps)) = r (map Some ps)
 
--- the permanent entities where the words of each are read as they were
-pub made_same : (l : Layout) (cs ds : Cells) (ms : Made) → ((i : ℕ) (p : BlockPlace) → IsMade ms i p → record_of l (words_at ds p.at) ≡ record_of l (words_at cs p.at)) → map (records_at l ds) ms ≡ map (records_at l cs) ms
-made_same l cs ds [] o = refl
-made_same l cs ds (None ∷ ms) o = ap (λ rs. None ∷ rs) (made_same l cs ds ms (λ i p h. o i p (suc h.0, h.1, h.2, h.3)))
-made_same l cs ds (Some ps ∷ ms) o = λ t. Some (row_same l cs ds ps (λ i p h. o i p (zero, ps, refl, h)) t) ∷ made_same l cs ds ms (λ i p h. o i p (suc h.0, h.1, h.2, h.3)) t
+-- the record of a place
+abbrev pub at_place : Layout → Cells → BlockPlace → Record
+at_place l cs p = record_of l (words_at cs p.at)
 
-row_set : (l : Layout) (cs ds : Cells) (ps : List BlockPlace) (i : ℕ) (p : BlockPlace) (v : Record) → slice_get ps i ≡ Some p → record_of l (words_at ds p.at) ≡ v
-    → ((j : ℕ) (q : BlockPlace) → slice_get ps j ≡ Some q → (i ≡ j → ⊥) → record_of l (words_at ds q.at) ≡ record_of l (words_at cs q.at)) → map (λ (q : BlockPlace). record_of l (words_at ds q.at)) ps ≡ slice_set (map (λ (q : BlockPlace). record_of l (words_at cs q.at)) ps) i v
-row_set l cs ds [] i p v h e o = cc
-row_set l cs ds (z ∷ zs) zero p v h e o = let here : z ≡ p = cc in λ t. (ap (λ (q : BlockPlace). record_of l (words_at ds q.at)) here ∙ e) t ∷ row_same l cs ds zs (λ j q m. o (suc j) q m (λ n. absurd (omega (arith, n)))) t
-row_set l cs ds (z ∷ zs) (suc i) p v h e o = λ t. o zero z refl (λ n. absurd (omega (arith, n))) t ∷ row_set l cs ds zs i p v h e (λ j q m n. o (suc j) q m (λ b. n (omega (arith, b)))) t
+-- the entities of creation numbers, and the permanent ones, where the words of each are read as they were
+pub numbers_same : (l : Layout) (cs ds : Cells) (d : Numbers) → ((i : ℕ) (p : BlockPlace) → slice_get d i ≡ Some (Some p) → at_place l ds p ≡ at_place l cs p) → map (record_at l ds) d ≡ map (record_at l cs) d
+numbers_same l cs ds d o = map_same (record_at l cs) (record_at l ds) d entry where
+  entry : (i : ℕ) (q : Option BlockPlace) → slice_get d i ≡ Some q → record_at l ds q ≡ record_at l cs q
+  entry i None h = refl
+  entry i (Some p) h = ap Some (o i p h)
 
-made_set : (l : Layout) (cs ds : Cells) (ms : Made) (c : ℕ) (ps : List BlockPlace) (i : ℕ) (v : Record) → slice_get ms c ≡ Some (Some ps)
-    → map (λ (q : BlockPlace). record_of l (words_at ds q.at)) ps ≡ slice_set (map (λ (q : BlockPlace). record_of l (words_at cs q.at)) ps) i v
-    → ((b : ℕ) (qs : List BlockPlace) → slice_get ms b ≡ Some (Some qs) → (c ≡ b → ⊥) → (j : ℕ) (q : BlockPlace) → slice_get qs j ≡ Some q → record_of l (words_at ds q.at) ≡ record_of l (words_at cs q.at))
-    → map (records_at l ds) ms ≡ slice_set (map (records_at l cs) ms) c (Some (slice_set (map (λ (q : BlockPlace). record_of l (words_at cs q.at)) ps) i v))
-made_set l cs ds [] c ps i v m e o = cc
-made_set l cs ds (z ∷ zs) zero ps i v m e o = let here : z ≡ Some ps = cc in λ t. (ap (records_at l ds) here ∙ ap Some e) t ∷ made_same l cs ds zs (λ j q h. o (suc h.0) h.1 h.2 (λ n. absurd (omega (arith, n))) j q h.3) t
-made_set l cs ds (None ∷ zs) (suc c) ps i v m e o = ap (λ rs. None ∷ rs) (made_set l cs ds zs c ps i v m e (λ b qs h n. o (suc b) qs h (λ k. n (omega (arith, k)))))
-made_set l cs ds (Some rs ∷ zs) (suc c) ps i v m e o = λ t. Some (row_same l cs ds rs (λ j q h. o zero rs refl (λ n. absurd (omega (arith, n))) j q h) t) ∷ made_set l cs ds zs c ps i v m e (λ b qs h n. o (suc b) qs h (λ k. n (omega (arith, k)))) t
+pub made_same : (l : Layout) (cs ds : Cells) (ms : Made) → ((i : ℕ) (p : BlockPlace) → IsMade ms i p → at_place l ds p ≡ at_place l cs p) → map (records_at l ds) ms ≡ map (records_at l cs) ms
+made_same l cs ds ms o = map_same (records_at l cs) (records_at l ds) ms row where
+  row : (c : ℕ) (m : Option (List BlockPlace)) → slice_get ms c ≡ Some m → records_at l ds m ≡ records_at l cs m
+  row c None h = refl
+  row c (Some ps) h = ap Some (map_same (at_place l cs) (at_place l ds) ps (λ i p k. o i p (c, ps, h, k)))
+
+-- what is kept where each entry has its class and its form, and each set name the links of its lists
+pub kept_by : (l : Layout) (cs : Cells) (sys : Ptr) (d : Directory) (ms ns : List Members) → ArePartsKept l cs sys d ms → (ds : Cells) → length ds ≡ length cs → length (words_at ds sys) ≡ length (words_at cs sys) → word_at ds sys 1 ≡ word_at cs sys 1
+    → ((j : ℕ) (q : BlockPlace) → IsListedAt d j q → class_at_place ds q ≡ class_at_place cs q) → ((j : ℕ) (q : BlockPlace) → IsListedAt d j q → AreFormed l (class_at_place cs q) (suc j) (words_at ds q.at))
+    → ((s : ℕ) (t : SetLayout) → slice_get l.sets s ≡ Some t → IsNameKept l ds sys d ns s t) → ArePartsKept l ds sys d ns
+kept_by l cs sys d ms ns K ds count size last same formed names = record {
+  small = K.small;
+  issued = K.issued;
+  width = K.width;
+  system = size ∙ K.system;
+  end = last ∙ K.end;
+  kinds = λ j q h k. K.kinds j q h (subst (λ c. IsPermanent (kind_of l c)) (same j q (inl h)) k);
+  made = λ c ps h. let m = K.made c ps h in record { permanent = m.permanent; class = λ j q x. same j q (inr (c, ps, h, x)) ∙ m.class j q x; few = m.few };
+  classes = λ j q h. subst (λ c. c < length l.classes) (sym (same j q h)) (K.classes j q h);
+  formed = λ j q h. subst (λ c. AreFormed l c (suc j) (words_at ds q.at)) (sym (same j q h)) (formed j q h);
+  apart = K.apart;
+  off_system = K.off_system;
+  counted = count ∙ K.counted;
+  names = names;
+}
 
 module _ (l : Layout) (cs : Cells) (sys : Ptr) (d : Directory) (ms : List Members) (K : ArePartsKept l cs sys d ms) where
   pub formed_there : (x : ℤ) (p : BlockPlace) → numbered_place d.numbers x ≡ Ok p → (n : ℕ) × AreFormed l (class_at_place cs p) n (words_at cs p.at)
@@ -124,29 +150,14 @@ module _ (l : Layout) (cs : Cells) (sys : Ptr) (d : Directory) (ms : List Member
     pub class_kept : (j : ℕ) (q : BlockPlace) → IsListedAt d j q → class_at_place ds q ≡ class_at_place cs q
     class_kept j q h = entries j q h (λ k e. ap class_in (sym e) ∙ same_class ∙ ap (λ (r : Ptr). class_in_words (words_at cs r)) e) (λ n. ap class_in_words (w.others q.at n))
 
-    made_kept : (c : ℕ) (ps : List BlockPlace) → slice_get d.classes c ≡ Some (Some ps) → AreOfClass l ds c ps
-    made_kept c ps e = let m = K.made c ps e in record { permanent = m.permanent; class = λ j q h. class_kept j q (inr (c, ps, e, h)) ∙ m.class j q h; few = m.few }
-
     pub kept_written : ArePartsKept l ds sys d ms
-    kept_written = record {
-      small = K.small;
-      issued = K.issued;
-      width = K.width;
-      system = ap length (w.others sys (K.off_system i p g)) ∙ K.system;
-      end = ap (λ us. word_of us 1) (w.others sys (K.off_system i p g)) ∙ K.end;
-      kinds = λ j q h k. K.kinds j q h (subst (λ c. IsPermanent (kind_of l c)) (class_kept j q (inl h)) k);
-      made = made_kept;
-      classes = λ j q h. subst (λ c. c < length l.classes) (sym (class_kept j q h)) (K.classes j q h);
-      formed = λ j q h. subst (λ c. AreFormed l c (suc j) (words_at ds q.at)) (sym (class_kept j q h)) (entries j q h {P = AreFormed l (class_at_place cs q) (suc j) (words_at ds q.at)}
-          (λ k e. subst (λ (r : Ptr). AreFormed l (class_in_words (words_at cs r)) (suc j) (words_at ds r)) e (subst (λ n. AreFormed l (class_at_place cs p) (suc n) (words_at ds p.at)) k f))
-          (λ n. subst (λ us. AreFormed l (class_at_place cs q) (suc j) us) (sym (w.others q.at n)) (K.formed j q h)));
-      apart = K.apart;
-      off_system = K.off_system;
-      counted = w.count ∙ K.counted;
-      names = λ s t h. names_same l cs sys d ms K ds class_kept s t h (λ q k o. by_ptr p.at q
-          (λ e z. subst (λ r. word_at ds r k ≡ word_at cs r k) z (links k (at_least (links_start l (class_at_place cs p)) k (λ small. above_head l cs sys d ms K s t h i p k g small (subst (λ r. IsOfName l cs sys d s t r k) (sym z) o)))))
-          (λ e n. ap (λ us. word_of us k) (w.others q n)));
-    }
+    kept_written = kept_by l cs sys d ms ms K ds w.count (ap length (w.others sys (K.off_system i p g))) (ap (λ us. word_of us 1) (w.others sys (K.off_system i p g))) class_kept
+        (λ j q h. entries j q h {P = AreFormed l (class_at_place cs q) (suc j) (words_at ds q.at)}
+            (λ k e. subst (λ (r : Ptr). AreFormed l (class_in_words (words_at cs r)) (suc j) (words_at ds r)) e (subst (λ n. AreFormed l (class_at_place cs p) (suc n) (words_at ds p.at)) k f))
+            (λ n. subst (λ us. AreFormed l (class_at_place cs q) (suc j) us) (sym (w.others q.at n)) (K.formed j q h)))
+        (λ s t h. names_same l cs sys d ms K ds class_kept s t h (λ q k o. by_ptr p.at q
+            (λ e z. subst (λ r. word_at ds r k ≡ word_at cs r k) z (links k (at_least (links_start l (class_at_place cs p)) k (λ small. above_head l cs sys d ms K s t h i p k g small (subst (λ r. IsOfName l cs sys d s t r k) (sym z) o)))))
+            (λ e n. ap (λ us. word_of us k) (w.others q n))))
 
     -- what is read at the other entries
     read_other : (j : ℕ) (q : BlockPlace) → IsListedAt d j q → (p.at ≡ q.at → ⊥) → record_of l (words_at ds q.at) ≡ record_of l (words_at cs q.at)
@@ -168,12 +179,13 @@ module _ (l : Layout) (cs : Cells) (sys : Ptr) (d : Directory) (ms : List Member
     -- the entry of a permanent entity
     module _ (c : ℕ) (ps : List BlockPlace) (m : slice_get d.classes c ≡ Some (Some ps)) (h : slice_get ps i ≡ Some p) where
       pub records_same : map (record_at l ds) d.numbers ≡ map (record_at l cs) d.numbers
-      records_same = map_same (record_at l cs) (record_at l ds) d.numbers other_entry where
-        other_entry : (j : ℕ) (q : Option BlockPlace) → slice_get d.numbers j ≡ Some q → record_at l ds q ≡ record_at l cs q
-        other_entry j None e = refl
-        other_entry j (Some q) e = ap Some (read_other j q (inl e) (λ k. let y = K.made c ps m in K.kinds j q e (subst (λ b. IsPermanent (kind_of l b)) (sym (ap (λ (r : Ptr). class_in_words (words_at cs r)) (sym k) ∙ y.class i p h)) y.permanent)))
+      records_same = numbers_same l cs ds d.numbers
+          (λ j q e. read_other j q (inl e) (λ k. let y = K.made c ps m in K.kinds j q e (subst (λ b. IsPermanent (kind_of l b)) (sym (ap (λ (r : Ptr). class_in_words (words_at cs r)) (sym k) ∙ y.class i p h)) y.permanent)))
 
       pub permanents_written : (v : Record) → record_of l (words_at ds p.at) ≡ v → map (records_at l ds) d.classes ≡ slice_set (map (records_at l cs) d.classes) c (Some (slice_set (map (λ (q : BlockPlace). record_of l (words_at cs q.at)) ps) i v))
-      permanents_written v e = made_set l cs ds d.classes c ps i v m
-          (row_set l cs ds ps i p v h e (λ j q k n. read_other j q (inr (c, ps, m, k)) (λ z. n (K.apart i j p q g (inr (c, ps, m, k)) z))))
-          (λ b qs k n j q x. read_other j q (inr (b, qs, k, x)) (λ z. n (sym ((K.made c ps m).class i p h) ∙ ap (λ (r : Ptr). class_in_words (words_at cs r)) z ∙ (K.made b qs k).class j q x)))
+      permanents_written v e = map_set (records_at l cs) (records_at l ds) d.classes c (Some ps) _ m
+          (ap Some (map_set (at_place l cs) (at_place l ds) ps i p v h e (λ j q k n. read_other j q (inr (c, ps, m, k)) (λ z. n (K.apart i j p q g (inr (c, ps, m, k)) z))))) other_row where
+            other_row : (b : ℕ) (o : Option (List BlockPlace)) → slice_get d.classes b ≡ Some o → (c ≡ b → ⊥) → records_at l ds o ≡ records_at l cs o
+            other_row b None k n = refl
+            other_row b (Some qs) k n = ap Some (map_same (at_place l cs) (at_place l ds) qs
+                (λ j q x. read_other j q (inr (b, qs, k, x)) (λ z. n (sym ((K.made c ps m).class i p h) ∙ ap (λ (r : Ptr). class_in_words (words_at cs r)) z ∙ (K.made b qs k).class j q x))))

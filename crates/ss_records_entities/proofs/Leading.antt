@@ -1,6 +1,6 @@
 -- Where the words of a set lead, from an owner and from a member.
-use Rattle.std.proofs.Common.{◌≡◌, ℕ, ◌+◌, ◌^◌, ◌<◌, ◌≤◌, Bool, true, false, List, [], length, slice_get, Option, Some, None, ◌⊎◌, inl, inr, refl, sym, ap, subst, ◌∙◌, arith}
-use Rattle.ss_records_entities.proofs.Common.{ArePartsKept, by_same, Cells, Class, counter, Directory, entity_at, entry_of, get_inside, get_there, HasLink, head0, is_filed, is_some, IsCounter, IsEntityOf, IsInList, IsLink, IsNotInList, last_or, Layout, link, listing, MayOwn, member_base, Members, members_of, number, Owner, owner_at, owner_base, owner_of, plain, pred_from, SetLayout, succ, System, Word, word_at}
+use Rattle.std.proofs.Common.{◌≡◌, ℕ, ◌+◌, ◌^◌, ◌<◌, ◌≤◌, Bool, true, false, List, [], length, slice_get, Some, None, ◌⊎◌, inl, inr, refl, sym, ap, subst, ◌∙◌, arith}
+use Rattle.ss_records_entities.proofs.Common.{ArePartsKept, by_same, Cells, Class, counter, Directory, entity_at, entry_of, false_is_not_true, get_inside, get_there, HasLink, head0, is_filed, is_some, IsCounter, IsEntityOf, IsInList, IsLink, IsNotInList, last_or, Layout, link, listing, MayOwn, member_base, Members, members_of, number, Owner, owner_at, owner_base, owner_of, plain, pred_from, SetLayout, succ, System, word_at}
 use denote.RawPtr.{Ptr}
 use Rattle.ss_records_words.proofs.Splice.{pred_is, succ_is, head_is, last_is, succ_differs}
 use Rattle.ss_world.specs.Sets.{follower, member_class, member_in, owner_in, owner_kind, precursor, members_by, companions}
@@ -8,17 +8,11 @@ use Rattle.ss_records_words.proofs.Listing.{not_many}
 use Rattle.ss_records_words.proofs.Filed.{number_at, owner_number_at, above_zero, filed_or_not}
 use Rattle.ss_records_entities.proofs.Listed.{follower_is, precursor_is, pred_differs, few}
 
-pub link_same : {p q : Ptr} → link p ≡ link q → p ≡ q
-link_same {p} {q} e = ap (λ w. pointed w) e where
-  pointed : Word → Ptr
-  pointed (link r) = r
-  pointed w = p
+link_same : {p q : Ptr} → link p ≡ link q → p ≡ q
+link_same e = cc
 
-pub counter_same : {m n : ℕ} → counter m ≡ counter n → m ≡ n
-counter_same {m} {n} e = ap (λ w. counted w) e where
-  counted : Word → ℕ
-  counted (counter k) = k
-  counted w = 0
+counter_same : {m n : ℕ} → counter m ≡ counter n → m ≡ n
+counter_same e = cc
 
 -- the word k of the block at p leads to the block of the entity n, or to that of the system where n is 0
 pub record To (cs : Cells) (at : ℕ → Ptr) (p : Ptr) (k n : ℕ) : Type 0 where
@@ -123,9 +117,6 @@ module _ (l : Layout) (cs : Cells) (sys : Ptr) (d : Directory) (ms : List Member
     pub positive : 0 ≡ x → ⊥
     positive = above_zero l cs sys d ms K s t g x is
 
-    pub number_is : word_at cs p 1 ≡ number x
-    number_is = (λ i. word_at cs (its_block i) 1) ∙ number_at l cs sys d ms K t.member x (inr is)
-
     -- where x is in the set of o
     module _ (o : ℕ) (h : IsInList x (f o)) where
       pub next_to : To cs at p b (succ x (f o))
@@ -137,12 +128,6 @@ module _ (l : Layout) (cs : Cells) (sys : Ptr) (d : Directory) (ms : List Member
       pub owner_to : To cs home p (b + 2) o
       owner_to = let m = ((K.names s t g).members o x h).2 in
           record { word = (λ i. word_at cs (its_block i) (base t g i + 2)) ∙ (K.names s t g).owner o x h; there = owner_number_at l cs sys d ms K t.owner o m; small = small_owner t.owner o m }
-
-      pub next_differs : succ x (f o) ≡ x → ⊥
-      next_differs = succ_differs x (f o) h ((K.names s t g).distinct o) positive
-
-      pub prev_differs : pred_from 0 x (f o) ≡ x → ⊥
-      prev_differs = pred_differs 0 x (f o) h ((K.names s t g).distinct o) positive
 
     -- where x is in no set of the name
     module _ (out : (o : ℕ) → IsNotInList x (f o)) where
@@ -164,13 +149,13 @@ module _ (l : Layout) (cs : Cells) (sys : Ptr) (d : Directory) (ms : List Member
 
     pub next_beside : Beside b (succ x)
     next_beside = elim (filed_or_not ms s x) as (λ _. Beside b (succ x)) [
-      | inl a ↦ record { to = succ x (f a.0); leads_to = next_to a.0 a.2; out = λ e. absurd (next_differs a.0 a.2 e); in_one = λ n. (a.0, a.1, a.2, refl) }
+      | inl a ↦ record { to = succ x (f a.0); leads_to = next_to a.0 a.2; out = λ e. absurd (succ_differs x (f a.0) a.2 ((K.names s t g).distinct a.0) positive e); in_one = λ n. (a.0, a.1, a.2, refl) }
       | inr a ↦ record { to = x; leads_to = next_self a.1; out = λ e. a.0; in_one = λ n. absurd (n refl) }
     ]
 
     pub prev_beside : Beside (b + 1) (pred_from 0 x)
     prev_beside = elim (filed_or_not ms s x) as (λ _. Beside (b + 1) (pred_from 0 x)) [
-      | inl a ↦ record { to = pred_from 0 x (f a.0); leads_to = prev_to a.0 a.2; out = λ e. absurd (prev_differs a.0 a.2 e); in_one = λ n. (a.0, a.1, a.2, refl) }
+      | inl a ↦ record { to = pred_from 0 x (f a.0); leads_to = prev_to a.0 a.2; out = λ e. absurd (pred_differs 0 x (f a.0) a.2 ((K.names s t g).distinct a.0) positive e); in_one = λ n. (a.0, a.1, a.2, refl) }
       | inr a ↦ record { to = x; leads_to = prev_self a.1; out = λ e. a.0; in_one = λ n. absurd (n refl) }
     ]
 
@@ -199,19 +184,9 @@ module _ (l : Layout) (cs : Cells) (sys : Ptr) (d : Directory) (ms : List Member
       (λ q. let a = n.in_one (λ i. q (e ∙ i)) in ap (precursor 0 x) (companions_are a.0 a.1) ∙ precursor_is 0 x (f a.0) a.2 ∙ sym a.3 ∙ sym e),
     )
 
-    pub in_none : is_filed ms s x ≡ false → owner_of ms s x ≡ None
-    in_none e = by_case (owner_of ms s x) refl where
-      by_case : (r : Option ℕ) → owner_of ms s x ≡ r → owner_of ms s x ≡ None
-      by_case None q = q
-      by_case (Some o) q = absurd (clash (sym (ap is_some q) ∙ e)) where
-        clash : true ≡ false → ⊥
-        clash z = cc
-
     -- the set that has x
     pub in_which : is_filed ms s x ≡ true → (o : ℕ) × (owner_of ms s x ≡ Some o) × (IsInList x (f o))
     in_which e = elim (filed_or_not ms s x) as (λ _. (o : ℕ) × (owner_of ms s x ≡ Some o) × (IsInList x (f o))) [
       | inl a ↦ a
-      | inr a ↦ absurd (clash (sym (ap is_some a.0) ∙ e))
-    ] where
-      clash : false ≡ true → ⊥
-      clash z = cc
+      | inr a ↦ absurd (false_is_not_true (sym (ap is_some a.0) ∙ e))
+    ]

@@ -1,7 +1,6 @@
 mod Common
 pub mod Apart
 pub mod Assigns
-pub mod Attributes
 pub mod Classed
 pub mod Creates
 pub mod Cuts
@@ -29,7 +28,6 @@ pub mod Onward
 pub mod OwnLinks
 pub mod Owning
 pub mod Passing
-pub mod ReadKind
 pub mod ReadWords
 pub mod Relinked
 pub mod Remembered

@@ -4,6 +4,7 @@ use Rattle.ss_records_entities.proofs.Common.{blanks, block_words, BlockPlace, b
 use denote.RawPtr.{Ptr}
 use Rattle.ss_records_words.specs.Kept.{ArePartsKept, IsSmall, state_of, AreRowsHeld}
 use Rattle.ss_world.specs.State.{Members, not_made as unmade, living_numbers, made_entities, living_records}
+use Rattle.std.proofs.lemmas.List.{length-map, length-replicate, nil_from_length}
 use Rattle.ss_records_entities.proofs.Destroys.{not_made}
 use Rattle.ss_records_entities.proofs.NamesGone.{name_first}
 
@@ -12,14 +13,10 @@ numbers_are l cs [] = refl
 numbers_are l cs (None ∷ ps) = numbers_are l cs ps
 numbers_are l cs (Some p ∷ ps) = ap suc (numbers_are l cs ps)
 
-length_row : (l : Layout) (cs : Cells) (ps : List BlockPlace) → length (map (λ (p : BlockPlace). record_of l (words_at cs p.at)) ps) ≡ length ps
-length_row l cs [] = refl
-length_row l cs (p ∷ ps) = ap suc (length_row l cs ps)
-
 made_are : (l : Layout) (cs : Cells) (ms : Made) → made_entities (map (records_at l cs) ms) ≡ permanent_count ms
 made_are l cs [] = refl
 made_are l cs (None ∷ ms) = made_are l cs ms
-made_are l cs (Some ps ∷ ms) = omega (arith, length_row l cs ps, made_are l cs ms)
+made_are l cs (Some ps ∷ ms) = omega (arith, length-map ps (λ (p : BlockPlace). record_of l (words_at cs p.at)), made_are l cs ms)
 
 pub living_is : (l : Layout) (cs : Cells) (d : Directory) (ms : List Members) → living_count d.numbers + permanent_count d.classes + 1 ≡ living_records (state_of l cs d ms) + 1
 living_is l cs d ms = omega (arith, numbers_are l cs d.numbers, made_are l cs d.classes)
@@ -34,10 +31,6 @@ none_counted : (n : ℕ) → permanent_count (replicate n None) ≡ 0
 none_counted zero = refl
 none_counted (suc n) = none_counted n
 
-length_none : (n : ℕ) → length (replicate {A = Option (List BlockPlace)} n None) ≡ n
-length_none zero = refl
-length_none (suc n) = ap suc (length_none n)
-
 none_listed : (n i : ℕ) (p : BlockPlace) → IsListedAt (lying [] (replicate n None)) i p → ⊥
 none_listed n i p (inl h) = cc
 none_listed n i p (inr h) = nothing_made n h.0 h.1 h.2
@@ -51,7 +44,7 @@ pub kept_first : (l : Layout) (ds : Cells) (q : BlockPlace) (w : ℕ) → IsSmal
 kept_first l ds q w small size laid = record {
   small = small;
   issued = omega arith;
-  width = length_none (length l.classes);
+  width = length-replicate (length l.classes) None;
   system = laid.written.size ∙ ap length (words_new [] q.at (blanks w)) ∙ length-blanks w ∙ size;
   end = laid.its_number;
   kinds = λ i p h. cc;
@@ -90,12 +83,8 @@ made_step (Some qs ∷ ms) zero None h = cc
 made_step (Some qs ∷ ms) zero (Some ps) h = let e : qs ≡ ps = cc in omega (arith, ap length e)
 made_step (m ∷ ms) (suc c) o h = let q : suc c + 1 ≡ suc (c + 1) = omega arith in rw q (made_step ms c o h)
 
-pub nothing : (cs : Cells) → length cs ≡ 0 → cs ≡ []
-nothing [] h = refl
-nothing (c ∷ cs) h = absurd (omega (arith, h))
-
 pub nothing_left : (cs : Cells) (p : Ptr) → length cs ≡ 1 → 0 < length (words_at cs p) → without_block cs p ≡ []
-nothing_left cs p h k = nothing (without_block cs p) (omega (arith, blocks_without cs p k, h))
+nothing_left cs p h k = nil_from_length (without_block cs p) (omega (arith, blocks_without cs p k, h))
 
 -- the blocks of the permanent entities, where the others were given back
 pub rows_held : (l : Layout) (cs bs : Cells) (sys : Ptr) (d : Directory) (ms : List Members) → ArePartsKept l cs sys d ms → ((i : ℕ) (p : BlockPlace) → IsMade d.classes i p → words_at bs p.at ≡ words_at cs p.at) → length bs ≡ permanent_count d.classes + 1 → AreRowsHeld l bs sys d.classes
@@ -148,9 +137,7 @@ module _ (l : Layout) (cs bs : Cells) (sys : Ptr) (d : Directory) (ms : List Mem
   still_here = kept i p (omega arith) g
 
   pub kept_rest : (j : ℕ) (q : BlockPlace) → i + 1 ≤ j → slice_get d.numbers j ≡ Some (Some q) → words_at (without_block bs p.at) q.at ≡ words_at cs q.at
-  kept_rest j q h k = words_without bs p.at q.at (λ z. absurd (less_is_not i j h (K.apart i j p q (inl g) (inl k) z))) ∙ kept j q (omega (arith, h)) k where
-    less_is_not : (a b : ℕ) → a + 1 ≤ b → a ≡ b → ⊥
-    less_is_not a b x y = omega (arith, x, y)
+  kept_rest j q h k = words_without bs p.at q.at (λ z. let e = K.apart i j p q (inl g) (inl k) z in absurd (omega (arith, h, e))) ∙ kept j q (omega (arith, h)) k
 
   pub kept_system : words_at bs sys ≡ words_at cs sys → words_at (without_block bs p.at) sys ≡ words_at cs sys
   kept_system h = words_without bs p.at sys (K.off_system i p (inl g)) ∙ h

@@ -1,5 +1,5 @@
 -- What the functions that look at a set read.
-use Rattle.std.proofs.Common.{◌≡◌, ℕ, ◌+◌, ◌^◌, ◌<◌, Bool, true, false, length, slice_get, Some, None, Ok, Err, refl, sym, ap, subst, ◌∙◌, arith}
+use Rattle.std.proofs.Common.{◌≡◌, ℕ, ◌+◌, ◌^◌, ◌<◌, Bool, true, false, length, slice_get, Some, Ok, Err, refl, sym, ap, subst, ◌∙◌, arith}
 use Rattle.std.specs.Prelude.{ℤ, pos, not, nat_eq, if◌then◌else◌}
 use Rattle.ss_records_entities.proofs.Common.{and_then, by_same, CanJoin, cast_signed, counter, differs, entity_at, EntityBlock, FaultKind, get_there, HasLink, head0, ints, is_filed, IsCounter, IsInList, IsKept, IsOwnerBlock, last_or, link, member_base, members_of, number, owner_at, owner_base, owner_of, places, pred_from, Records, SetLayout, State, state, succ, word_at}
 use mir.Syntax.{w64}
@@ -116,9 +116,6 @@ module _ (r : Records) (K : IsKept r) (s : ℕ) (inside : s < length r.layout.se
 
         pub beside_value : (reverse : Bool) → Read reverse → (x : ℤ) → joiner (state r) s x ≡ Ok e.number → (if reverse then previous_in (state r) s x else next_in (state r) s x) ≡ Ok (cast_signed w64 q.number)
         beside_value reverse w x j = sym (beside_is reverse w x q.number j (λ i. absurd (n i)) (λ _. refl))
-
-    pub none_is : (x : ℤ) → joiner (state r) s x ≡ Ok e.number → owner_of r.notes.lists s e.number ≡ None → Ok None ≡ owner_of_member (state r) s x
-    none_is x o none = sym (ap (λ z. and_then z (λ n. Ok (as_number (owner_of r.notes.lists s n)))) o ∙ ap (λ z. Ok (as_number z)) none)
 
     -- where it is in a set
     module _ (filed : is_filed r.notes.lists s e.number ≡ true) where

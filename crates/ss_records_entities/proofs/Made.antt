@@ -1,30 +1,13 @@
 -- The entities of a permanent class that are made together.
-use Rattle.std.proofs.Common.{◌≡◌, ℕ, zero, suc, ◌+◌, ◌^◌, ◌<◌, ◌≤◌, List, [], ◌∷◌, ◌++◌, map, length, slice_get, slice_set, Option, Some, None, ◌⊎◌, inl, inr, refl, sym, ap, subst, ◌∙◌, arith}
-use Rattle.ss_records_entities.proofs.Common.{AreFormed, AreLaidTo, AreOfClass, ArePartsKept, block_words, BlockPlace, by_same, Cells, Class, class_at_place, class_in_words, Directory, entry_of, first_record, is_of, IsBorn, IsEntityOf, IsListedAt, IsMade, IsPermanent, kind_of, Layout, listing, living_bound, lying, Made, Members, own_or, permanent_count, plain, Record, record_at, record_of, records_at, replicate, state_of, System, with_made, word_of, words_at}
+use Rattle.std.proofs.Common.{◌≡◌, ℕ, zero, suc, ◌+◌, ◌^◌, ◌<◌, ◌≤◌, List, [], ◌∷◌, map, length, slice_get, slice_set, Some, None, ◌⊎◌, inl, inr, refl, sym, ap, subst, ◌∙◌, arith}
+use Rattle.ss_records_entities.proofs.Common.{AreFormed, AreLaidTo, AreOfClass, ArePartsKept, block_words, BlockPlace, by_same, Cells, Class, class_at_place, class_in_words, Directory, entry_of, first_record, get_inside, is_of, IsBorn, IsEntityOf, IsListedAt, IsPermanent, kind_of, Layout, listing, living_bound, lying, Made, Members, own_or, permanent_count, plain, record_of, records_at, replicate, state_of, System, with_made, word_of, words_at}
 use denote.RawPtr.{Ptr}
 use Rattle.ss_records_words.proofs.Listing.{listed, unmapped}
 use Rattle.ss_records_blocks.specs.Writes.{HasNoneAt, ArePlaced, AreUnchanged}
-use Rattle.ss_records_entities.proofs.Keeps.{map_same, made_same}
+use Rattle.std.proofs.lemmas.List.{length-set, map-set}
+use Rattle.ss_records_entities.proofs.Keeps.{kept_by, get_put, get_other, numbers_same, made_same}
 use Rattle.ss_records_entities.proofs.NamesCreated.{name_born}
 use Rattle.ss_records_entities.proofs.Creates.{off_entry, off_sys, born_formed, record_first, few_made}
-
--- a row that is set
-get_row_set : (ms : Made) (c : ℕ) (v : Option (List BlockPlace)) (o : Option (List BlockPlace)) → slice_get ms c ≡ Some o → slice_get (slice_set ms c v) c ≡ Some v
-get_row_set [] c v o h = cc
-get_row_set (m ∷ ms) zero v o h = refl
-get_row_set (m ∷ ms) (suc c) v o h = get_row_set ms c v o h
-
-get_other_row : (ms : Made) (c : ℕ) (v : Option (List BlockPlace)) (b : ℕ) → (c ≡ b → ⊥) → slice_get (slice_set ms c v) b ≡ slice_get ms b
-get_other_row [] c v b n = refl
-get_other_row (m ∷ ms) zero v zero n = absurd (n refl)
-get_other_row (m ∷ ms) zero v (suc b) n = refl
-get_other_row (m ∷ ms) (suc c) v zero n = refl
-get_other_row (m ∷ ms) (suc c) v (suc b) n = get_other_row ms c v b (λ e. n (ap suc e))
-
-length_row_set : (ms : Made) (c : ℕ) (v : Option (List BlockPlace)) → length (slice_set ms c v) ≡ length ms
-length_row_set [] c v = refl
-length_row_set (m ∷ ms) zero v = refl
-length_row_set (m ∷ ms) (suc c) v = ap suc (length_row_set ms c v)
 
 count_row_set : (ms : Made) (c : ℕ) (ps : List BlockPlace) → slice_get ms c ≡ Some None → permanent_count (slice_set ms c (Some ps)) ≡ permanent_count ms + length ps
 count_row_set [] c ps h = cc
@@ -44,15 +27,6 @@ row_first : (l : Layout) (cs : Cells) (c : ℕ) (ps : List BlockPlace) → ((i :
 row_first l cs c [] h = refl
 row_first l cs c (p ∷ ps) h = λ t. h zero p refl t ∷ row_first l cs c ps (λ i q g. h (suc i) q g) t
 
-rows_set : (l : Layout) (cs ds : Cells) (ms : Made) (c : ℕ) (ps : List BlockPlace) (rs : List Record) → slice_get ms c ≡ Some None → map (λ (p : BlockPlace). record_of l (words_at ds p.at)) ps ≡ rs
-    → ((i : ℕ) (p : BlockPlace) → IsMade ms i p → record_of l (words_at ds p.at) ≡ record_of l (words_at cs p.at)) → map (records_at l ds) (slice_set ms c (Some ps)) ≡ slice_set (map (records_at l cs) ms) c (Some rs)
-rows_set l cs ds [] c ps rs h e o = cc
-rows_set l cs ds (m ∷ ms) zero ps rs h e o = λ t. Some (e t) ∷ made_same l cs ds ms (λ i p x. o i p (suc x.0, x.1, x.2, x.3)) t
-rows_set l cs ds (m ∷ ms) (suc c) ps rs h e o = λ t. made_same l cs ds (m ∷ []) (λ i p x. o i p (first_made x)) t ++ rows_set l cs ds ms c ps rs h e (λ i p x. o i p (suc x.0, x.1, x.2, x.3)) t where
-  first_made : {i : ℕ} {p : BlockPlace} → IsMade (m ∷ []) i p → IsMade (m ∷ ms) i p
-  first_made (zero, qs, g, k) = (zero, qs, g, k)
-  first_made (suc b, qs, g, k) = cc
-
 module _ (l : Layout) (cs : Cells) (sys : Ptr) (d : Directory) (ms : List Members) (K : ArePartsKept l cs sys d ms) where
   -- blocks that no entity has are no matter
   module _ (ds : Cells) (u : AreUnchanged cs ds) where
@@ -66,31 +40,16 @@ module _ (l : Layout) (cs : Cells) (sys : Ptr) (d : Directory) (ms : List Member
     same_system = u.words sys (some_words sys (block_words l System) K.system (omega arith))
 
     pub kept_unchanged : ArePartsKept l ds sys d ms
-    kept_unchanged = record {
-      small = K.small;
-      issued = K.issued;
-      width = K.width;
-      system = ap length same_system ∙ K.system;
-      end = ap (λ us. word_of us 1) same_system ∙ K.end;
-      kinds = λ i p h. subst (λ us. IsPermanent (kind_of l (class_in_words us)) → ⊥) (sym (same_words i p (inl h))) (K.kinds i p h);
-      made = λ c ps h. let m = K.made c ps h in record { permanent = m.permanent; class = λ i p x. ap class_in_words (same_words i p (inr (c, ps, h, x))) ∙ m.class i p x; few = m.few };
-      classes = λ i p h. subst (λ us. class_in_words us < length l.classes) (sym (same_words i p h)) (K.classes i p h);
-      formed = λ i p h. subst (λ us. AreFormed l (class_in_words us) (suc i) us) (sym (same_words i p h)) (K.formed i p h);
-      apart = K.apart;
-      off_system = K.off_system;
-      counted = u.count ∙ K.counted;
-      names = λ s t g. name_born l cs sys d ms K s t g d ds same_system
-          (λ b i p h k. inr (h, same_words i p (listed d b i p h)))
-          (λ b i p h k. (h, ap class_in_words (same_words i p (listed d b i p h)) ∙ k));
-    }
+    kept_unchanged = kept_by l cs sys d ms ms K ds u.count (ap length same_system) (ap (λ us. word_of us 1) same_system) (λ i p h. ap class_in_words (same_words i p h))
+        (λ i p h. subst (λ us. AreFormed l (class_at_place cs p) (suc i) us) (sym (same_words i p h)) (K.formed i p h))
+        (λ s t g. name_born l cs sys d ms K s t g d ds same_system
+            (λ b i p h k. inr (h, same_words i p (listed d b i p h)))
+            (λ b i p h k. (h, ap class_in_words (same_words i p (listed d b i p h)) ∙ k)))
 
     pub state_unchanged : state_of l ds d ms ≡ state_of l cs d ms
     state_unchanged =
-        let one = map_same (record_at l cs) (record_at l ds) d.numbers entry in let two = made_same l cs ds d.classes (λ i p h. ap (record_of l) (same_words i p (inr h))) in
-        λ t. record (state_of l cs d ms) { records = one t; permanents = two t } where
-          entry : (j : ℕ) (q : Option BlockPlace) → slice_get d.numbers j ≡ Some q → record_at l ds q ≡ record_at l cs q
-          entry j None h = refl
-          entry j (Some q) h = ap (λ us. Some (record_of l us)) (same_words j q (inl h))
+        let one = numbers_same l cs ds d.numbers (λ i p h. ap (record_of l) (same_words i p (inl h))) in let two = made_same l cs ds d.classes (λ i p h. ap (record_of l) (same_words i p (inr h))) in
+        λ t. record (state_of l cs d ms) { records = one t; permanents = two t }
 
   pub room_for_all : (n : ℕ) → n ≤ 2 ^ 20 → length cs + n < 2 ^ 64
   room_for_all n h = omega (arith, K.counted, K.issued, living_bound d.numbers, few_made l cs sys d ms K, h)
@@ -108,13 +67,8 @@ module _ (l : Layout) (cs : Cells) (sys : Ptr) (d : Directory) (ms : List Member
     old_system : words_at ds sys ≡ words_at cs sys
     old_system = fresh_words sys (λ j q g. off_sys l cs sys d ms K q.at (placed.fresh j q g))
 
-    inside_row : (qs : List BlockPlace) (i : ℕ) (p : BlockPlace) → slice_get qs i ≡ Some p → i < length qs
-    inside_row [] i p h = cc
-    inside_row (q ∷ qs) zero p h = omega arith
-    inside_row (q ∷ qs) (suc i) p h = omega (arith, inside_row qs i p h)
-
     born : (i : ℕ) (p : BlockPlace) → slice_get ps i ≡ Some p → IsBorn l ds sys p.at c (suc i)
-    born i p h = laid.laid i p h (inside_row ps i p h)
+    born i p h = laid.laid i p h (get_inside ps i p h)
 
     new_class : (i : ℕ) (p : BlockPlace) → slice_get ps i ≡ Some p → class_at_place ds p ≡ c
     new_class i p h = ap plain (born i p h).its_class
@@ -128,8 +82,8 @@ module _ (l : Layout) (cs : Cells) (sys : Ptr) (d : Directory) (ms : List Member
 
     by_row : {P : Type 0} (b : ℕ) (qs : List BlockPlace) → slice_get e.classes b ≡ Some (Some qs) → ((c ≡ b) → (ps ≡ qs) → P) → (slice_get d.classes b ≡ Some (Some qs) → P) → P
     by_row {P} b qs h new was = by_same c b
-        (λ t z. new z (some_row (sym (get_row_set d.classes c (Some ps) None free) ∙ ap (slice_get e.classes) z ∙ h)))
-        (λ t n. was (sym (get_other_row d.classes c (Some ps) b n) ∙ h))
+        (λ t z. new z (some_row (sym (get_put d.classes c (Some ps) None free) ∙ ap (slice_get e.classes) z ∙ h)))
+        (λ t n. was (sym (get_other d.classes c (Some ps) b n) ∙ h))
 
     by_listed : {P : Type 0} (i : ℕ) (p : BlockPlace) → IsListedAt e i p → (slice_get ps i ≡ Some p → P) → (IsListedAt d i p → P) → P
     by_listed {P} i p (inl h) new was = was (inl h)
@@ -137,10 +91,10 @@ module _ (l : Layout) (cs : Cells) (sys : Ptr) (d : Directory) (ms : List Member
 
     -- where the entities of a class are listed then
     other_listing : (b : ℕ) → (c ≡ b → ⊥) → listing e b ≡ listing d b
-    other_listing b n = ap (own_or d.numbers) (get_other_row d.classes c (Some ps) b n)
+    other_listing b n = ap (own_or d.numbers) (get_other d.classes c (Some ps) b n)
 
     its_listing : listing e c ≡ map Some ps
-    its_listing = ap (own_or d.numbers) (get_row_set d.classes c (Some ps) None free)
+    its_listing = ap (own_or d.numbers) (get_put d.classes c (Some ps) None free)
 
     which : (b i : ℕ) (p : BlockPlace) → slice_get (listing e b) i ≡ Some (Some p) → class_at_place ds p ≡ b → (IsBorn l ds sys p.at b (suc i) × (IsEntityOf cs d b (suc i) → ⊥)) ⊎ ((slice_get (listing d b) i ≡ Some (Some p)) × (words_at ds p.at ≡ words_at cs p.at))
     which b i p h k = by_same c b
@@ -157,7 +111,7 @@ module _ (l : Layout) (cs : Cells) (sys : Ptr) (d : Directory) (ms : List Member
     kept_made = record {
       small = K.small;
       issued = K.issued;
-      width = length_row_set d.classes c (Some ps) ∙ K.width;
+      width = length-set d.classes c (Some ps) ∙ K.width;
       system = ap length old_system ∙ K.system;
       end = ap (λ us. word_of us 1) old_system ∙ K.end;
       kinds = λ i p h. subst (λ us. IsPermanent (kind_of l (class_in_words us)) → ⊥) (sym (old i p (inl h))) (K.kinds i p h);
@@ -180,10 +134,7 @@ module _ (l : Layout) (cs : Cells) (sys : Ptr) (d : Directory) (ms : List Member
 
     pub state_made : (n : ℕ) → length ps ≡ n → state_of l ds e ms ≡ with_made (state_of l cs d ms) c n
     state_made n many =
-        let one = map_same (record_at l cs) (record_at l ds) d.numbers entry in
+        let one = numbers_same l cs ds d.numbers (λ i p h. ap (record_of l) (old i p (inl h))) in
         let first = row_first l ds c ps (λ i p h. record_first l c (words_at ds p.at) (new_class i p h) (born i p h).values) ∙ ap (λ k. replicate k (first_record l c)) many in
-        let two = rows_set l cs ds d.classes c ps (replicate n (first_record l c)) free first (λ i p h. ap (record_of l) (old i p (inr h))) in
-        λ t. record (state_of l cs d ms) { records = one t; permanents = two t } where
-          entry : (j : ℕ) (q : Option BlockPlace) → slice_get d.numbers j ≡ Some q → record_at l ds q ≡ record_at l cs q
-          entry j None h = refl
-          entry j (Some q) h = ap (λ us. Some (record_of l us)) (old j q (inl h))
+        let two : map (records_at l ds) (slice_set d.classes c (Some ps)) ≡ slice_set (map (records_at l cs) d.classes) c (Some (replicate n (first_record l c))) = map-set (records_at l ds) d.classes c (Some ps) ∙ (λ t. slice_set (made_same l cs ds d.classes (λ i p h. ap (record_of l) (old i p (inr h))) t) c (Some (first t))) in
+        λ t. record (state_of l cs d ms) { records = one t; permanents = two t }

@@ -22,11 +22,8 @@ module _ (m m' : Words) (at at' home home' : ℕ → Ptr) (alive alive' owns own
     old_member : (o y : ℕ) → IsInList y (f o) → OldMember y
     old_member o y h = elim (member y (stays o y h).0) as (λ _. OldMember y) [ inl x ↦ x | inr x ↦ absurd (not_and_in y (f o) (x.0 o) h) ]
 
-    in_none : (o y : ℕ) → f o ≡ [] → IsInList y (f o) → ⊥
-    in_none o y e h = subst (λ l. IsInList y l) e h
-
     old_owner : (o y : ℕ) → IsInList y (f o) → OldOwner o
-    old_owner o y h = elim (owner o (stays o y h).1) as (λ _. OldOwner o) [ inl x ↦ x | inr x ↦ absurd (in_none o y x.0 h) ]
+    old_owner o y h = elim (owner o (stays o y h).1) as (λ _. OldOwner o) [ inl x ↦ x | inr x ↦ absurd (subst (λ l. IsInList y l) x.0 h) ]
 
     -- a neighbour, or the end, lies where it lay
     goes : (o n : ℕ) → (n ≡ 0) ⊎ IsInList n (f o) → link (at n) ≡ link (at' n)

@@ -1,7 +1,7 @@
 -- The links of a set name at first, and once an entity is gone.
 use Rattle.std.proofs.Common.{◌≡◌, ℕ, suc, ◌+◌, ◌<◌, ◌≤◌, List, [], slice_get, Some, inl, inr, refl, sym, ap, subst, ◌∙◌}
 use denote.RawPtr.{Ptr}
-use Rattle.ss_records_entities.proofs.Common.{ArePartsKept, block_words, BlockPlace, Cells, Class, class_at_place, class_in_words, count_before, counter, Directory, entity_at, entry_of, is_of, IsEntityOf, IsInList, IsNameKept, IsNotInList, IsOfOwner, IsSystemLaid, Layout, link, listing, MayOwn, Members, members_of, not_and_in, owned_by, owned_from, owned_start, Owner, owner_at, owner_base, owner_inside, place_in_record, SetLayout, Slots, slots_of, System, word_at, word_of, Words, words_at, words_of}
+use Rattle.ss_records_entities.proofs.Common.{ArePartsKept, block_words, BlockPlace, Cells, Class, class_at_place, class_in_words, count_before, counter, Directory, entity_at, entry_of, is_of, IsEntityOf, IsInList, IsNameKept, IsNotInList, IsOfOwner, IsSystemLaid, Layout, link, listing, MayOwn, Members, members_of, not_and_in, owned_by, owned_from, owned_start, Owner, owner_at, owner_base, owner_inside, place_in_record, SetLayout, Slots, slots_of, System, word_at, word_of, words_at, words_of}
 use Rattle.ss_records_entities.proofs.Moved.{shows_moved}
 use Rattle.ss_records_entities.proofs.NamesCreated.{owned_words}
 
@@ -61,12 +61,6 @@ module _ (l : Layout) (cs : Cells) (sys : Ptr) (d : Directory) (ms : List Member
   abbrev w : Slots
   w = slots_of l s t
 
-  abbrev m : Words
-  m = words_of w cs at home
-
-  abbrev m' : Words
-  m' = words_of w ds at' home'
-
   was : (b n : ℕ) → IsEntityOf ds e b n → (IsEntityOf cs d b n) × (entity_at sys e b n ≡ entity_at sys d b n) × ((k : ℕ) → word_at ds (entity_at sys e b n) k ≡ word_at cs (entity_at sys d b n) k)
   was b n h =
       let a = entry_of ds e b n h in let x = entry b a.0 a.1 a.3 in
@@ -88,7 +82,7 @@ module _ (l : Layout) (cs : Cells) (sys : Ptr) (d : Directory) (ms : List Member
   owner_stays (Class b) n h not_it = stays_entity b n h (λ x y. not_it x (ap Class y))
 
   pub name_gone : IsNameKept l ds sys e ms s t
-  name_gone = shows_moved m m' at at' home home' (IsEntityOf cs d t.member) (IsEntityOf ds e t.member) (MayOwn cs d t.owner) (MayOwn ds e t.owner) f (K.names s t g) refl
+  name_gone = shows_moved (words_of w cs at home) (words_of w ds at' home') at at' home home' (IsEntityOf cs d t.member) (IsEntityOf ds e t.member) (MayOwn cs d t.owner) (MayOwn ds e t.owner) f (K.names s t g) refl
       (λ y h. let x = was t.member y h in inl (x.0, x.1, x.2 w.next, x.2 w.prev, x.2 w.owner))
       (λ o h. let x = owner_was t.owner o h in inl (x.0, x.1, x.2 w.first, x.2 w.last, x.2 w.count))
       (λ o y h. let k = (K.names s t g).members o y h in (

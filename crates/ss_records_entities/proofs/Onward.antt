@@ -14,7 +14,7 @@ entity_number (Ok r) n m h = cc
 entity_number (Err f) n m h = absurd cc
 
 -- the reference to an entity that is there is its number
-named_by : (st : State) (k : ClassKind) (c : ℕ) (o : ℤ) (m : ℕ) → and_then (entity_of_kind st k c o) (λ r. Ok (number_in o)) ≡ Ok m → o ≡ pos m
+pub named_by : (st : State) (k : ClassKind) (c : ℕ) (o : ℤ) (m : ℕ) → and_then (entity_of_kind st k c o) (λ r. Ok (number_in o)) ≡ Ok m → o ≡ pos m
 named_by st k c (pos n) m h = ap pos (entity_number (entity_of_kind st k c (pos n)) n m h)
 named_by st Permanent c (negsuc n) m h = absurd cc
 named_by st Temporary c (negsuc n) m h = absurd cc
@@ -37,14 +37,6 @@ owner_with st s o n (Err f) e h = absurd cc
 
 has_owner : (st : State) (s : ℕ) (o x : ℤ) (n : ℕ) → joiner st s x ≡ Ok n → member_test st s o x ≡ Ok true → (m : ℕ) × (owner st s o ≡ Ok m) × IsInList n (members_of st.lists s m)
 has_owner st s o x n j h = owner_with st s o n (owner st s o) refl (sym (ap (λ z. and_then z (λ k. and_then (owner st s o) (λ m. Ok (contains (members_of st.lists s m) k)))) j) ∙ h)
-
-no_member : (st : State) (s : ℕ) (o x : ℤ) (f : FaultKind) (z : Result ℕ FaultKind) → z ≡ Err f → and_then z (λ k. and_then (owner st s o) (λ m. Ok (contains (members_of st.lists s m) k))) ≡ Ok true → ⊥
-no_member st s o x f (Ok n) e h = cc
-no_member st s o x f (Err g) e h = cc
-
--- what may not be a member is none
-pub not_member : (st : State) (s : ℕ) (o x : ℤ) (f : FaultKind) → joiner st s x ≡ Err f → member_test st s o x ≡ Ok true → ⊥
-not_member st s o x f e h = no_member st s o x f (joiner st s x) e h
 
 module _ (r : Records) (K : IsKept r) (s : ℕ) (inside : s < length r.layout.sets) where
   -- whoever has a member is an owner

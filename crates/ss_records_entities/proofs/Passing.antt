@@ -1,12 +1,12 @@
 -- Walking along a set past the members that do not rank after a number.
-use Rattle.std.proofs.Common.{◌≡◌, ℕ, suc, inl, inr, ◌+◌, ◌*◌, ◌^◌, ◌<◌, ◌≤◌, Bool, true, false, List, [], ◌∷◌, ◌++◌, length, slice_get, Some, Ok, refl, sym, ap, subst, ◌∙◌, arith, append_assoc, append-nil}
-use Rattle.ss_records_entities.proofs.Common.{AreAllDistinct, AreNeighbours, BlockPlace, CanJoin, class_at_place, entity_at, entity_in, EntityBlock, entry_of, get_there, HasLink, head0, int_cmp, Integer, IsInList, IsInPlace, IsKept, IsListedAt, IsNumber, link, listed, match_ordering, member_base, member_class, members_of, Mode, modes_of, not, number, place_in_record, places, pos, record_of, Records, SetLayout, state, succ, Value, value_at, value_in, Whole, word_at, words_at, ℤ}
+use Rattle.std.proofs.Common.{◌≡◌, ℕ, suc, inl, inr, ◌+◌, ◌*◌, ◌^◌, ◌<◌, Bool, true, false, List, [], ◌∷◌, ◌++◌, length, slice_get, Some, Ok, refl, sym, ap, subst, ◌∙◌, arith, append_assoc, append-nil}
+use Rattle.ss_records_entities.proofs.Common.{IsEntityPlace, AreAllDistinct, AreNeighbours, BlockPlace, CanJoin, class_at_place, entity_at, EntityBlock, entry_of, get_there, HasLink, head0, int_cmp, Integer, IsInList, IsInPlace, IsKept, IsListedAt, IsNumber, link, listed, match_ordering, member_base, member_class, members_of, Mode, modes_of, not, number, place_in_record, places, pos, Records, SetLayout, state, succ, Value, value_at, value_in, Whole, word_at, ℤ}
 use denote.RawPtr.{Ptr}
 use Rattle.ss_base.specs.Order.{value_cmp}
 use Rattle.ss_records_entities.specs.Passing.{ranks_past, first_where, before_where}
 use Rattle.ss_records_words.proofs.Splice.{length_splice, succ_cut, head_in}
 use Rattle.ss_world.specs.Disciplines.{value_or_zero}
-use Rattle.ss_records_entities.proofs.Assigns.{first_number, second_number, is_value}
+use Rattle.ss_records_entities.proofs.Assigns.{found_first, found_second, found_value}
 use Rattle.ss_records_entities.proofs.Leading.{To, leads, next_to, small_of, count_small}
 use Rattle.ss_records_entities.proofs.Apart.{entity_is}
 use Rattle.ss_records_entities.proofs.Cuts.{lies_there}
@@ -37,19 +37,25 @@ module _ (r : Records) (K : IsKept r) (s : ℕ) (q : EntityBlock) (j : CanJoin r
   place = let a = entry_of r.blocks.cells (places r) class q.number j.is in
       (a.0, a.1, a.2, listed (places r) class a.0 a.1 a.3, a.4, j.lies ∙ ap (entity_at r.system.at (places r) class) a.2 ∙ ap place_in_record a.3)
 
-  its_entity : entity_in (state r) class (pos q.number) ≡ Ok (record_of r.layout (words_at r.blocks.cells place.1.at))
-  its_entity = entity_is r.layout r.blocks.cells r.system.at (places r) r.notes.lists K class q.number place.0 place.1 place.2 place.4 place.3
+  its_entity : IsEntityPlace r class (pos q.number) place.1
+  its_entity = record {
+    index = place.0;
+    is = ap pos place.2;
+    entry = place.3;
+    class = place.4;
+    entity = entity_is r.layout r.blocks.cells r.system.at (places r) r.notes.lists K class q.number place.0 place.1 place.2 place.4 place.3;
+  }
 
   pub is_number : IsNumber (word_at r.blocks.cells q.place.at k)
   is_number = subst (λ z. IsNumber (word_at r.blocks.cells z k)) (sym place.5)
-      (first_number r.layout r.blocks.cells r.system.at (places r) r.notes.lists K place.0 place.1 place.3 class place.4 (pos q.number) (ap pos place.2) its_entity f k start m mode)
+      (found_first r K class (pos q.number) place.1 its_entity f k start m mode)
 
   pub second_is_number : IsNumber (word_at r.blocks.cells q.place.at (k + 1))
   second_is_number = subst (λ z. IsNumber (word_at r.blocks.cells z (k + 1))) (sym place.5)
-      (second_number r.layout r.blocks.cells r.system.at (places r) r.notes.lists K place.0 place.1 place.3 class place.4 (pos q.number) (ap pos place.2) its_entity f k start m mode)
+      (found_second r K class (pos q.number) place.1 its_entity f k start m mode)
 
   pub its_value : value_in (state r) class f (pos q.number) ≡ Ok (value_at m r.blocks.cells q.place.at k)
-  its_value = is_value r.layout r.blocks.cells r.system.at (places r) r.notes.lists K place.0 place.1 place.3 class place.4 (pos q.number) (ap pos place.2) its_entity f k start m mode
+  its_value = found_value r K class (pos q.number) place.1 its_entity f k start m mode
       ∙ ap (λ z. Ok (value_at m r.blocks.cells z k)) (sym place.5)
 
 module _ (r : Records) (K : IsKept r) (s : ℕ) (q : EntityBlock) (j : CanJoin r s q) (f k : ℕ) (start : k ≡ 2 + 2 * f) (mode : slice_get (modes_of r.layout (member_class r.layout s)) f ≡ Some Integer) where
@@ -114,9 +120,6 @@ module _ (r : Records) (K : IsKept r) (s : ℕ) (inside : s < length r.layout.se
 
     pub small : q.number < 2 ^ 62
     small = small_of r.layout r.blocks.cells r.system.at (places r) r.notes.lists K s inside (member_class r.layout s) q.number (inr joins.is)
-
-    pub left : touches ≤ length f
-    left = omega (arith, S.touched, S.size, ap length shape.1)
 
     -- that ranks after the number
     module _ (e : t q.number ≡ true) where

@@ -3,9 +3,6 @@ use Rattle.std.proofs.Common.{◌≡◌, ℕ, zero, suc, ◌+◌, ◌*◌, ◌�
 use Rattle.ss_records_entities.proofs.Common.{cast_signed, class_in_words, is_notice, kind_of, Layout, length-with_word, links_start, Mode, modes_of, number, plain, pos, Record, record_of, record_with_value, Value, value_of_words, values_end, values_from, with_time, with_word, Word, word_here, word_of, word_other, ℤ}
 use mir.Syntax.{w64}
 
-pub number_is : {m n : ℕ} → number m ≡ number n → m ≡ n
-number_is e = ap plain e
-
 -- values that read the same words are the same
 pub values_same : (ms : List Mode) (ws us : List Word) (k : ℕ) → ((j : ℕ) → k ≤ j → j < k + 2 * length ms → word_of us j ≡ word_of ws j) → values_from ms us k ≡ values_from ms ws k
 values_same [] ws us k h = refl

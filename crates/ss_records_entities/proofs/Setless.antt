@@ -37,9 +37,7 @@ module _ (p : SetLayout → Bool) (ts : List SetLayout) (s : ℕ) (t : SetLayout
 -- the sets of a class that owns none
 pub owned_by_none : (ts : List SetLayout) (c : ℕ) → count_sets (owned_by (Class c)) ts ≡ 0 → (k : ℕ) → owner_in (slice_get ts k) ≡ Class c → ⊥
 owned_by_none [] c h k e = absurd cc
-owned_by_none (t ∷ ts) c h zero e = clash (sym (none_of (owned_by (Class c)) t ts h).0 ∙ ap (λ o. same_owner o (Class c)) e ∙ same c) where
-  clash : false ≡ true → ⊥
-  clash z = cc
+owned_by_none (t ∷ ts) c h zero e = false_is_not_true (sym (none_of (owned_by (Class c)) t ts h).0 ∙ ap (λ o. same_owner o (Class c)) e ∙ same c)
 owned_by_none (t ∷ ts) c h (suc k) e = owned_by_none ts c (none_of (owned_by (Class c)) t ts h).1 k e
 
 -- a number that is not other than 0

@@ -1,9 +1,9 @@
 -- What holds once words of one set name alone were written.
-use Rattle.std.proofs.Common.{◌≡◌, ℕ, suc, ◌<◌, List, map, length, slice_get, Some, None, inl, inr, refl, sym, ap, subst, ◌∙◌, arith}
-use Rattle.ss_records_entities.proofs.Common.{AreFormed, AreOfClass, ArePartsKept, AreShowing, AreSpared, BlockPlace, by_same, Cells, class_at_place, Directory, entity_at, IsEntityOf, IsListedAt, IsNameKept, IsNumber, IsOfName, IsPermanent, kind_of, Layout, links_start, MayOwn, Members, members_of, Option, owner_at, plain, record_at, record_of, records_at, SetLayout, slots_of, word_at, Words, words_at, words_of}
+use Rattle.std.proofs.Common.{◌≡◌, ℕ, suc, ◌<◌, List, map, slice_get, Some, inl, inr, refl, sym, ap, subst, ◌∙◌, arith}
+use Rattle.ss_records_entities.proofs.Common.{AreFormed, ArePartsKept, AreShowing, AreSpared, BlockPlace, by_same, Cells, class_at_place, Directory, entity_at, IsEntityOf, IsListedAt, IsNameKept, IsNumber, IsOfName, Layout, links_start, MayOwn, Members, members_of, owner_at, plain, record_at, record_of, records_at, SetLayout, slots_of, word_at, Words, words_at, words_of}
 use denote.RawPtr.{Ptr}
 use Rattle.ss_records_entities.proofs.ReadWords.{record_same}
-use Rattle.ss_records_entities.proofs.Keeps.{map_same, made_same}
+use Rattle.ss_records_entities.proofs.Keeps.{kept_by, numbers_same, made_same}
 use Rattle.ss_records_entities.proofs.Moved.{shows_moved}
 use Rattle.ss_records_entities.proofs.NamesKept.{of_back, of_on, own_back, own_on, names_same}
 use Rattle.ss_records_words.proofs.Disjoint.{above_head, above_end, names_apart}
@@ -31,29 +31,12 @@ module _ (l : Layout) (cs : Cells) (sys : Ptr) (d : Directory) (ms : List Member
       (λ o k. inl (own_back cs ds d class_spared u.owner o k, refl, refl, refl, refl))
       (λ o y k. let e = n.members o y k in (of_on cs ds d class_spared u.member y e.0, own_on cs ds d class_spared u.owner o e.2))
 
-  made_spared : (c : ℕ) (ps : List BlockPlace) → slice_get d.classes c ≡ Some (Some ps) → AreOfClass l ds c ps
-  made_spared c ps e = let m = K.made c ps e in record { permanent = m.permanent; class = λ j q h. class_spared j q (inr (c, ps, e, h)) ∙ m.class j q h; few = m.few }
-
   pub kept_spared : (ns : List Members) → IsNameKept l ds sys d ns s t → ((r p : ℕ) → (s ≡ r → ⊥) → members_of ns r p ≡ members_of ms r p) → ArePartsKept l ds sys d ns
-  kept_spared ns here others = record {
-    small = K.small;
-    issued = K.issued;
-    width = K.width;
-    system = h.size sys ∙ K.system;
-    end = h.word sys 1 (λ o. above_end l cs sys d ms K s t g 1 (omega arith) o) ∙ K.end;
-    kinds = λ j q e x. K.kinds j q e (subst (λ c. IsPermanent (kind_of l c)) (class_spared j q (inl e)) x);
-    made = made_spared;
-    classes = λ j q e. subst (λ c. c < length l.classes) (sym (class_spared j q e)) (K.classes j q e);
-    formed = λ j q e. subst (λ c. AreFormed l c (suc j) (words_at ds q.at)) (sym (class_spared j q e)) (formed_spared j q e);
-    apart = K.apart;
-    off_system = K.off_system;
-    counted = h.count ∙ K.counted;
-    names = λ r u e. by_same s r
-        (λ z q. subst (λ k. IsNameKept l ds sys d ns k u) q (subst (λ v. IsNameKept l ds sys d ns s v) (same_set (sym g ∙ ap (slice_get l.sets) q ∙ e)) here))
-        (λ z n. let f : members_of ns r ≡ members_of ms r = λ i p. others r p n i in
-        subst (λ a. AreShowing (words_of (slots_of l r u) ds (entity_at sys d u.member) (owner_at sys d u.owner)) (entity_at sys d u.member) (owner_at sys d u.owner) (IsEntityOf ds d u.member) (MayOwn ds d u.owner) a) (sym f)
-        (names_same l cs sys d ms K ds class_spared r u e (λ q k o. h.word q k (λ here. names_apart l cs sys d ms K s t g r u q k e n here o))));
-  } where
+  kept_spared ns here others = kept_by l cs sys d ms ns K ds h.count (h.size sys) (h.word sys 1 (λ o. above_end l cs sys d ms K s t g 1 (omega arith) o)) class_spared formed_spared (λ r u e. by_same s r
+      (λ z q. subst (λ k. IsNameKept l ds sys d ns k u) q (subst (λ v. IsNameKept l ds sys d ns s v) (same_set (sym g ∙ ap (slice_get l.sets) q ∙ e)) here))
+      (λ z n. let f : members_of ns r ≡ members_of ms r = λ i p. others r p n i in
+      subst (λ a. AreShowing (words_of (slots_of l r u) ds (entity_at sys d u.member) (owner_at sys d u.owner)) (entity_at sys d u.member) (owner_at sys d u.owner) (IsEntityOf ds d u.member) (MayOwn ds d u.owner) a) (sym f)
+      (names_same l cs sys d ms K ds class_spared r u e (λ q k o. h.word q k (λ here. names_apart l cs sys d ms K s t g r u q k e n here o))))) where
     same_set : {v w : SetLayout} → Some v ≡ Some w → v ≡ w
     same_set e = cc
 
@@ -61,10 +44,7 @@ module _ (l : Layout) (cs : Cells) (sys : Ptr) (d : Directory) (ms : List Member
   read_spared j q e = record_same l (words_at cs q.at) (words_at ds q.at) (λ k low. head_same j q e k low)
 
   pub records_spared : map (record_at l ds) d.numbers ≡ map (record_at l cs) d.numbers
-  records_spared = map_same (record_at l cs) (record_at l ds) d.numbers entry where
-    entry : (j : ℕ) (q : Option BlockPlace) → slice_get d.numbers j ≡ Some q → record_at l ds q ≡ record_at l cs q
-    entry j None e = refl
-    entry j (Some q) e = ap Some (read_spared j q (inl e))
+  records_spared = numbers_same l cs ds d.numbers (λ j q e. read_spared j q (inl e))
 
   pub permanents_spared : map (records_at l ds) d.classes ≡ map (records_at l cs) d.classes
   permanents_spared = made_same l cs ds d.classes (λ j q h. read_spared j q (inr h))

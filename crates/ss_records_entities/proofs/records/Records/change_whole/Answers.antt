@@ -3,7 +3,7 @@ use Rattle.std.specs.Prelude.{pos, if◌then◌else◌, slice_index_or}
 use Rattle.ss_records_entities.proofs.Common.{and_then, Integer, IsValuePut, to_z-of_z, Whole}
 use Rattle.ss_base.specs.Arithmetic.{plus_of, minus_of}
 use Rattle.ss_records_entities.specs.Attributes.{changed_number}
-use Rattle.ss_records_entities.proofs.Attributes.{found_first, found_second, found_value, found_kept, found_length, found_assigned, found_reads}
+use Rattle.ss_records_entities.proofs.Assigns.{found_first, found_second, found_value, found_kept, found_length, found_assigned, found_reads}
 use Rattle.ss_records_entities.proofs.Still.{few_fields}
 use Rattle.ss_records_entities.proofs.records.Records.change_whole.Goals as goal
 

@@ -1,7 +1,7 @@
 use Rattle.std.proofs.Common.{◌≡◌, ap, ◌∙◌}
 use Rattle.ss_records_entities.proofs.Common.{cast_signed, to_z-of_z}
 use mir.Syntax.{w64}
-use Rattle.ss_records_entities.proofs.Attributes.{notice_may, notice_kept, notice_length, notice_timed}
+use Rattle.ss_records_entities.proofs.Assigns.{notice_may, notice_kept, notice_length, notice_timed}
 use Rattle.ss_records_entities.proofs.records.Records.set_time.Goals as goal
 
 pub set_number-requires : goal.set_number-requires

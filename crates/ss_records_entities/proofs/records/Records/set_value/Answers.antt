@@ -1,5 +1,5 @@
 use Rattle.std.proofs.lemmas.Int.{to_z-of_z}
-use Rattle.ss_records_entities.proofs.Attributes.{found_first, found_second, found_kept, found_length, found_assigned}
+use Rattle.ss_records_entities.proofs.Assigns.{found_first, found_second, found_kept, found_length, found_assigned}
 use Rattle.std.proofs.Common.{refl, arith}
 use Rattle.ss_records_entities.proofs.Still.{few_fields}
 use Rattle.ss_records_entities.proofs.records.Records.set_value.Goals as goal

@@ -1,5 +1,5 @@
 use Rattle.ss_records_entities.proofs.Common.{Integer, to_z-of_z, Whole}
-use Rattle.ss_records_entities.proofs.Attributes.{found_first, found_second, found_kept, found_length, found_assigned, found_reads}
+use Rattle.ss_records_entities.proofs.Assigns.{found_first, found_second, found_kept, found_length, found_assigned, found_reads}
 use Rattle.ss_records_entities.proofs.Still.{few_fields}
 use Rattle.ss_records_entities.proofs.records.Records.set_whole.Goals as goal
 

@@ -1,6 +1,6 @@
 use Rattle.std.proofs.Common.{sym, ap, ◌∙◌, Ok, arith}
 use Rattle.std.proofs.lemmas.Int.{to_z-of_z}
-use Rattle.ss_records_entities.proofs.Attributes.{found_first, found_second, found_value}
+use Rattle.ss_records_entities.proofs.Assigns.{found_first, found_second, found_value}
 use Rattle.ss_records_entities.proofs.Still.{few_fields}
 use Rattle.ss_records_entities.proofs.records.Records.value.Goals as goal
 

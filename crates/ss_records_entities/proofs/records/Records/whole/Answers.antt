@@ -1,6 +1,6 @@
 use Rattle.std.proofs.Common.{rules, ◌≡◌, ℤ, w64, to_z, of_z, sym, ap, ◌∙◌, Ok}
 use Rattle.ss_records_entities.proofs.Common.{Integer, to_z-of_z, Whole}
-use Rattle.ss_records_entities.proofs.Attributes.{found_first, found_value}
+use Rattle.ss_records_entities.proofs.Assigns.{found_first, found_value}
 use Rattle.ss_records_entities.proofs.Still.{few_fields}
 use Rattle.ss_records_entities.proofs.records.Records.whole.Goals as goal
 
