@@ -223,7 +223,7 @@ fn looked(heap: &Heap, rank: &Rank, others: &[RankKey], y: i64, value: &Value, n
     ensures after { result.after ≡ match_ordering (value_cmp value.now rank.now.own) rank.now.key.high (ranks_after heap.now.state rank.now.class others.now y rank.now.x) (not rank.now.key.high) }
 {
     let order = order_of(value, &rank.own);
-    let after = ranks_after_by(heap, order, rank.key.high, others, rank.class, y, rank.x);
+    let after = ranks_after_by(heap, order, rank, others, y);
     Seen { after, next }
 }
 
@@ -274,24 +274,16 @@ fn order_of_texts(s: Alpha, t: Alpha) -> Ordering
 // Whether y ranks strictly after x: by the order of the two in a key, high or low, and where they tie in it by the first
 // of the others in which they differ.
 #[inline(always)]
-fn ranks_after_by(
-    heap: &Heap,
-    order: Ordering,
-    high: bool,
-    others: &[RankKey],
-    class: usize,
-    y: i64,
-    x: i64,
-) -> bool
-    requires keys { AreFields heap.now.state.layout class others.now }
-    ensures { result ≡ match_ordering order high (ranks_after heap.now.state class others.now y x) (not high) }
+fn ranks_after_by(heap: &Heap, order: Ordering, rank: &Rank, others: &[RankKey], y: i64) -> bool
+    requires keys { AreFields heap.now.state.layout rank.now.class others.now }
+    ensures { result ≡ match_ordering order rank.now.key.high (ranks_after heap.now.state rank.now.class others.now y rank.now.x) (not rank.now.key.high) }
 {
     match order {
-        Ordering::Less => high,
-        Ordering::Greater => !high,
+        Ordering::Less => rank.key.high,
+        Ordering::Greater => !rank.key.high,
         Ordering::Equal => match others {
             [] => false,
-            _ => ranks_after(heap, others, class, y, x),
+            _ => ranks_after(heap, others, rank.class, y, rank.x),
         },
     }
 }
