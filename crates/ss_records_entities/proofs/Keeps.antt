@@ -153,11 +153,11 @@ module _ (l : Layout) (cs : Cells) (sys : Ptr) (d : Directory) (ms : List Member
     pub kept_written : ArePartsKept l ds sys d ms
     kept_written = kept_by l cs sys d ms ms K ds w.count (ap length (w.others sys (K.off_system i p g))) (ap (λ us. word_of us 1) (w.others sys (K.off_system i p g))) class_kept
         (λ j q h. entries j q h {P = AreFormed l (class_at_place cs q) (suc j) (words_at ds q.at)}
-            (λ k e. subst (λ (r : Ptr). AreFormed l (class_in_words (words_at cs r)) (suc j) (words_at ds r)) e (subst (λ n. AreFormed l (class_at_place cs p) (suc n) (words_at ds p.at)) k f))
-            (λ n. subst (λ us. AreFormed l (class_at_place cs q) (suc j) us) (sym (w.others q.at n)) (K.formed j q h)))
+        (λ k e. subst (λ (r : Ptr). AreFormed l (class_in_words (words_at cs r)) (suc j) (words_at ds r)) e (subst (λ n. AreFormed l (class_at_place cs p) (suc n) (words_at ds p.at)) k f))
+        (λ n. subst (λ us. AreFormed l (class_at_place cs q) (suc j) us) (sym (w.others q.at n)) (K.formed j q h)))
         (λ s t h. names_same l cs sys d ms K ds class_kept s t h (λ q k o. by_ptr p.at q
-            (λ e z. subst (λ r. word_at ds r k ≡ word_at cs r k) z (links k (at_least (links_start l (class_at_place cs p)) k (λ small. above_head l cs sys d ms K s t h i p k g small (subst (λ r. IsOfName l cs sys d s t r k) (sym z) o)))))
-            (λ e n. ap (λ us. word_of us k) (w.others q n))))
+        (λ e z. subst (λ r. word_at ds r k ≡ word_at cs r k) z (links k (at_least (links_start l (class_at_place cs p)) k (λ small. above_head l cs sys d ms K s t h i p k g small (subst (λ r. IsOfName l cs sys d s t r k) (sym z) o)))))
+        (λ e n. ap (λ us. word_of us k) (w.others q n))))
 
     -- what is read at the other entries
     read_other : (j : ℕ) (q : BlockPlace) → IsListedAt d j q → (p.at ≡ q.at → ⊥) → record_of l (words_at ds q.at) ≡ record_of l (words_at cs q.at)

@@ -43,8 +43,8 @@ module _ (l : Layout) (cs : Cells) (sys : Ptr) (d : Directory) (ms : List Member
     kept_unchanged = kept_by l cs sys d ms ms K ds u.count (ap length same_system) (ap (λ us. word_of us 1) same_system) (λ i p h. ap class_in_words (same_words i p h))
         (λ i p h. subst (λ us. AreFormed l (class_at_place cs p) (suc i) us) (sym (same_words i p h)) (K.formed i p h))
         (λ s t g. name_born l cs sys d ms K s t g d ds same_system
-            (λ b i p h k. inr (h, same_words i p (listed d b i p h)))
-            (λ b i p h k. (h, ap class_in_words (same_words i p (listed d b i p h)) ∙ k)))
+        (λ b i p h k. inr (h, same_words i p (listed d b i p h)))
+        (λ b i p h k. (h, ap class_in_words (same_words i p (listed d b i p h)) ∙ k)))
 
     pub state_unchanged : state_of l ds d ms ≡ state_of l cs d ms
     state_unchanged =

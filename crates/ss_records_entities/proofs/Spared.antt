@@ -37,8 +37,8 @@ module _ (l : Layout) (cs : Cells) (sys : Ptr) (d : Directory) (ms : List Member
       (λ z n. let f : members_of ns r ≡ members_of ms r = λ i p. others r p n i in
       subst (λ a. AreShowing (words_of (slots_of l r u) ds (entity_at sys d u.member) (owner_at sys d u.owner)) (entity_at sys d u.member) (owner_at sys d u.owner) (IsEntityOf ds d u.member) (MayOwn ds d u.owner) a) (sym f)
       (names_same l cs sys d ms K ds class_spared r u e (λ q k o. h.word q k (λ here. names_apart l cs sys d ms K s t g r u q k e n here o))))) where
-    same_set : {v w : SetLayout} → Some v ≡ Some w → v ≡ w
-    same_set e = cc
+        same_set : {v w : SetLayout} → Some v ≡ Some w → v ≡ w
+        same_set e = cc
 
   read_spared : (j : ℕ) (q : BlockPlace) → IsListedAt d j q → record_of l (words_at ds q.at) ≡ record_of l (words_at cs q.at)
   read_spared j q e = record_same l (words_at cs q.at) (words_at ds q.at) (λ k low. head_same j q e k low)
