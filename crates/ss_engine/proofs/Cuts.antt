@@ -4,8 +4,9 @@ use Rattle.std.proofs.KnownBytes.{Appends-nil, Consumes-nil}
 use Rattle.ss_engine.proofs.Common.{code_of, Ended, Failed, Fault, Generated, HasCome, HasComeTo, HasTakenBeforeFailure, HasTakenLast, Input, IsAtStart, IsCodeOf, IsCutReading, IsEndKnown, IsFresh, IsProgramOf, last_stop, Memory, Output, Paused, Program, Situation, Source, source_block, source_reader, start, Stop}
 use Rattle.ss_meaning.specs.Meaning.{Ended as EndedThere, Fault as FaultThere}
 use Rattle.ss_engine.specs.Cuts.{IsCutBy, HasBeenCut}
-use Rattle.ss_engine.proofs.Inputs.{fresh_failed, fresh_gave, reads_find}
-use Rattle.ss_engine.proofs.Pieces.{Saying, EachSays, EachLed, finishing, cutting, cutting_reading, cutting_writing}
+use Rattle.ss_engine.proofs.Inputs.{fresh_failed, fresh_gave}
+use Rattle.ss_machine.proofs.Inputs.{reads_finds}
+use Rattle.ss_machine.proofs.Joining.{Saying, EachSays, EachLed, finishing, cutting, cutting_reading, cutting_writing}
 use Rattle.ss_engine.proofs.Headline.{compiled_of, at_first}
 
 module _ {R W : Type 0} (remaining : R → Option (List ℕ)) (contents : W → Option (List ℕ)) (reader last_reader : R) (writer last_writer : W) (text : List ℕ) (p : Program) (is_program : IsProgramOf text p) (code : Generated) (first new : Situation) (source last : Source R) (used made : ℕ)
@@ -50,7 +51,7 @@ module _ {R W : Type 0} (remaining : R → Option (List ℕ)) (contents : W → 
   -- a run that goes on isn't cut: its meaning pauses
   goes : HasCome remaining code first new source last (contents writer) (contents last_writer) used made → HasBeenCut remaining contents text Paused used reader last_reader writer last_writer
   goes h =
-      let g = fresh_gave remaining source last reader last_reader fresh at_last knows (λ input. (rest : List ℕ) × EachLed code first new used made h.bytes input rest) (λ input. Unit {0}) (λ input s. tt) (reads_find remaining source last (EachLed code first new used made h.bytes) h.says) in
+      let g = fresh_gave remaining source last reader last_reader fresh at_last knows (λ input. (rest : List ℕ) × EachLed code first new used made h.bytes input rest) (λ input. Unit {0}) (λ input s. tt) (reads_finds remaining source last (EachLed code first new used made h.bytes) _ (λ i j s. (j, s)) h.says) in
       record {
         program = p;
         is_program = is_program;

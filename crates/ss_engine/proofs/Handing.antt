@@ -25,11 +25,8 @@ no_sum [] e = refl
 no_sum (p ∷ ps) e = absurd cc
 
 -- pieces that were run are some of all
-at_most : (a b c : ℕ) → a ≤ b → b ≤ c → a ≤ c
-at_most a b c h g = omega (arith, h, g)
-
 pub some_used : (pieces : List ℕ) (i used : ℕ) → used ≤ sum (take i pieces) → used ≤ sum pieces
-some_used pieces i used h = at_most used (sum (take i pieces)) (sum pieces) h (sum_by-take-le (λ x. x) pieces i)
+some_used pieces i used h = let le : sum (take i pieces) ≤ sum pieces = sum_by-take-le (λ x. x) pieces i in omega (arith, h, le)
 
 pub more_used : (s n u v t : ℕ) → n ≡ s + t → u ≤ s → v ≤ u + t → v ≤ n
 more_used s n u v t e h g = omega (arith, e, h, g)
@@ -79,6 +76,3 @@ no_runs (p ∷ ps) e = absurd cc
 pub runs_so_far : (pieces rest : List ℕ) (first i : ℕ) → pieces ≡ first ∷ rest → runs_of pieces ≡ take i pieces ++ drop i pieces
 runs_so_far pieces rest first i e =
     subst (λ l. runs_of l ≡ l) (sym e) refl ∙ sym (take-append-drop i pieces)
-
-pub at_least : (a b c : ℕ) → a ≡ b → a ≤ c → b ≤ c
-at_least a b c e h = omega (arith, e, h)

@@ -6,8 +6,9 @@ use Rattle.ss_meaning.specs.Meaning.{Ending, Ended as EndedThere, Fault as Fault
 use Rattle.ss_code_instructions.specs.Running.{Underway, Ends, IsFaithful, start, steps, after_one_step as goes_on}
 use Rattle.ss_code_instructions.specs.Laws.{EndingsStay, IsReportPrefix, HasShape, OnTheWay, OneTickFewer, Pauses, Prefixes, StepsGoOn}
 use Rattle.ss_engine.specs.Headline.{IsMeaning, IsCutShort, IsMeantRun, HasGivenInput, IsSimulated}
-use Rattle.ss_engine.proofs.Inputs.{fails_find, fresh_gave, reads_find}
-use Rattle.ss_engine.proofs.Pieces.{Saying, EachSays, EachLed, finishing, cutting, cutting_reading, cutting_writing}
+use Rattle.ss_engine.proofs.Inputs.{fails_find, fresh_gave}
+use Rattle.ss_machine.proofs.Inputs.{reads_finds}
+use Rattle.ss_machine.proofs.Joining.{Saying, EachSays, EachLed, finishing, cutting, cutting_reading, cutting_writing}
 use Rattle.ss_engine.proofs.Ticks.{pauses_with_fewer}
 
 -- ## The code of a program, and its first state
@@ -147,7 +148,7 @@ module _ (on_the_way : OnTheWay) (fewer_ticks : OneTickFewer) (pauses : Pauses) 
           let x : MachineState = record { core = l.core; report = h.bytes; ticks = 0 } in
           let passed = subst (λ n. steps code made (start code input n) ≡ Underway x) (no_more used) (l.gets [] 0) in
           means_so input used (record { report = h.bytes; ending = PausedThere; ticks = 0 }) (pauses p code behaves input used made 0 x (right input used) passed (due (compiled_of p run) of l.core l.located h.bytes)))
-          (reads_find remaining source last (EachLed run first new used made h.bytes) h.says);
+          (reads_finds remaining source last (EachLed run first new used made h.bytes) _ (λ i j s. (j, s)) h.says);
     }
 
     -- a run in which the reader failed, as any that was cut

@@ -1,53 +1,13 @@
--- One call of a source after another.
-use Rattle.std.proofs.Common.{◌≡◌, ℕ, Bool, true, false, List, [], ◌++◌, refl, sym, ap, subst, ◌∙◌, append_assoc}
-use Rattle.std.proofs.KnownBytes.{Consumes-trans}
+-- What the reader of a fresh source gave.
+use Rattle.std.proofs.Common.{◌≡◌, ℕ, Bool, true, false, List, [], ◌++◌, refl, sym, ap, subst}
 use Rattle.ss_engine.proofs.Common.{HasGivenInput, IsEndKnown, Option, Source}
 use Rattle.std.specs.Io.KnownBytes.{Consumes, IsAtEnd}
-use Rattle.ss_input.specs.Inputs.{source_block, source_reader, IsAhead, HasReadInput, HasFound, IsFresh}
+use Rattle.ss_input.specs.Inputs.{source_block, source_reader, IsAhead, HasFound, IsFresh}
 use Rattle.ss_machine.specs.Runs.{HasFailedRead}
-
-none_more : (xs more : List ℕ) → xs ≡ [] → more ≡ [] → xs ++ more ≡ []
-none_more xs more e f = ap (λ l. l ++ more) e ∙ f
 
 not_both : (b : Bool) → b ≡ false → b ≡ true → ⊥
 not_both true e f = absurd cc
 not_both false e f = absurd cc
-
-module _ {R : Type 0} (remaining : R → Option (List ℕ)) (a b c : Source R) where
-  -- a call that read, and one after which no more is read
-  pub reads_then_finds : (S : (input rest : List ℕ) → Type 0) (T : List ℕ → Type 0) (U : List ℕ → Type 0) → ((input rest : List ℕ) → S input rest → T rest → U input) → HasReadInput remaining a b S → HasFound remaining b c T → HasFound remaining a c U
-  reads_then_finds S T U join h g = record {
-    got = h.got ++ g.got;
-    consumed = Consumes-trans (remaining (source_reader a)) (remaining (source_reader b)) (remaining (source_reader c)) h.got g.got h.consumed g.consumed;
-    after_end = λ e. let u = h.after_end e in let v = g.after_end u.1 in (none_more h.got g.got u.0 v.0, v.1);
-    says = λ more input e st.
-        let first = h.says (g.got ++ more) input (λ q. let v = g.after_end q in none_more g.got more v.0 (e v.1)) (subst (λ l. IsAhead a l input) (append_assoc h.got g.got more) st) in
-        join input first.rest first.says (g.says more first.rest e first.ahead);
-  }
-
-  -- a call that read, and one in which the reader failed
-  pub reads_then_fails : (S : (input rest : List ℕ) → Type 0) (T U : (input later : List ℕ) → Type 0) → ((input rest later : List ℕ) → S input rest → T rest later → U input later) → HasReadInput remaining a b S → HasFailedRead remaining b c T → HasFailedRead remaining a c U
-  reads_then_fails S T U join h g = record {
-    got = h.got ++ g.got;
-    consumed = Consumes-trans (remaining (source_reader a)) (remaining (source_reader b)) (remaining (source_reader c)) h.got g.got h.consumed g.consumed;
-    after_end = λ e. let u = h.after_end e in let v = g.after_end u.1 in (none_more h.got g.got u.0 v.0, v.1);
-    goes_on = g.goes_on;
-    says = λ later input st.
-        let first = h.says (g.got ++ later) input (λ q. let v = g.after_end q in absurd (not_both (source_block c).ended g.goes_on v.1)) (subst (λ l. IsAhead a l input) (append_assoc h.got g.got later) st) in
-        join input first.rest later first.says (g.says later first.rest first.ahead);
-  }
-
-  -- a call that read, and another
-  pub reads_then_reads : (S T U : (input rest : List ℕ) → Type 0) → ((input rest last : List ℕ) → S input rest → T rest last → U input last) → HasReadInput remaining a b S → HasReadInput remaining b c T → HasReadInput remaining a c U
-  reads_then_reads S T U join h g = record {
-    got = h.got ++ g.got;
-    consumed = Consumes-trans (remaining (source_reader a)) (remaining (source_reader b)) (remaining (source_reader c)) h.got g.got h.consumed g.consumed;
-    after_end = λ e. let u = h.after_end e in let v = g.after_end u.1 in (none_more h.got g.got u.0 v.0, v.1);
-    says = λ more input e st.
-        let first = h.says (g.got ++ more) input (λ q. let v = g.after_end q in none_more g.got more v.0 (e v.1)) (subst (λ l. IsAhead a l input) (append_assoc h.got g.got more) st) in
-        let last = g.says more first.rest e first.ahead in
-        record { rest = last.rest; ahead = last.ahead; says = join input first.rest last.rest first.says last.says };
-  }
 
 -- a fresh source has what its reader gives
 pub fresh_start : {R : Type 0} (reader : R) (s : Source R) (input : List ℕ) → IsFresh reader s → IsAhead s input input
@@ -93,13 +53,4 @@ module _ {R : Type 0} (remaining : R → Option (List ℕ)) (source last : Sourc
     consumed = h.consumed;
     after_end = h.after_end;
     says = λ later input e st. so input later (h.says later input st);
-  }
-
-  -- what a call reads, it finds
-  pub reads_find : (Says : (input rest : List ℕ) → Type 0) → HasReadInput remaining source last Says → HasFound remaining source last (λ input. (rest : List ℕ) × Says input rest)
-  reads_find Says h = record {
-    got = h.got;
-    consumed = h.consumed;
-    after_end = h.after_end;
-    says = λ more input e st. let l = h.says more input e st in (l.rest, l.says);
   }

@@ -1,8 +1,6 @@
 -- The last of the runs of a text, from the last call of a session.
 use Rattle.std.proofs.Common.{◌≡◌, ◌≢◌, ℕ, ◌≤◌, List, [], ◌∷◌, ◌++◌, Option, ap, ◌∙◌, subst, append_assoc}
-use Rattle.ss_engine.proofs.Common.{Generated, handed_out, HasBeenRun, HasLastRun, HasRun, IsSimulated, last_stop, Paused, runs_of, Session, session_machine, session_reader, session_writer, Stop}
-use Rattle.ss_engine.specs.declared.outcome.Outcome.TheVariants.{Stopped}
-use Rattle.ss_engine.proofs.Handing.{at_least}
+use Rattle.ss_engine.proofs.Common.{Generated, handed_out, HasBeenRun, HasLastRun, HasRun, IsSimulated, last_stop, Paused, runs_of, Session, session_machine, session_reader, session_writer}
 
 module _ {R W : Type 0} (remaining : R → Option (List ℕ)) (read_faults : R → ℕ) (contents : W → Option (List ℕ)) (write_faults : W → ℕ) (text : List ℕ) (code : Generated) (reader : R) (writer : W) where
   -- the runs of a session are what its text means
@@ -12,8 +10,8 @@ module _ {R W : Type 0} (remaining : R → Option (List ℕ)) (read_faults : R �
       IsSimulated remaining contents text (last_stop (session_machine session).stopped) (session_machine session).used reader (session_reader session) writer (session_writer session)
 
   pub last_run : AreMeant → (pieces done after : List ℕ) (s : Session R W) → runs_of pieces ≡ done ++ after → (w : HasBeenRun remaining read_faults contents write_faults code reader writer done s) →
-      (used : ℕ) → (session_machine s).used ≡ used → (Says : R → W → Type 0) → Says (session_reader w.earlier) (session_writer w.earlier) → HasLastRun remaining contents text pieces used reader writer Says
-  last_run meant pieces done after s e w used u Says says = record {
+      (Says : R → W → Type 0) → Says (session_reader w.earlier) (session_writer w.earlier) → HasLastRun remaining contents text pieces (session_machine s).used reader writer Says
+  last_run meant pieces done after s e w Says says = record {
     before = w.before;
     last = w.last;
     after = after;
@@ -23,12 +21,9 @@ module _ {R W : Type 0} (remaining : R → Option (List ℕ)) (read_faults : R �
     first = w.first;
     paused = λ some. subst (λ n. IsSimulated remaining contents text Paused n reader (session_reader w.earlier) writer (session_writer w.earlier)) all
         (subst (λ o. IsSimulated remaining contents text (last_stop o) (session_machine w.earlier).used reader (session_reader w.earlier) writer (session_writer w.earlier)) w.paused (meant w.earlier w.before some w.run_before));
-    least = subst (λ n. handed_out w.before ≤ n) u (at_least (session_machine w.earlier).used (handed_out w.before) (session_machine s).used all w.more);
-    most = subst (λ n. n ≤ handed_out (w.before ++ w.last ∷ [])) u (subst (λ ps. (session_machine s).used ≤ handed_out ps) w.are w.run.used);
+    least = subst (λ n. n ≤ (session_machine s).used) all w.more;
+    most = subst (λ ps. (session_machine s).used ≤ handed_out ps) w.are w.run.used;
     says = says;
   } where
     all : (session_machine w.earlier).used ≡ handed_out w.before
     all = w.run_before.all_used w.paused
-
-pub stopped_same : (stop other : Stop) (used n : ℕ) → Stopped stop used ≡ Stopped other n → (stop ≡ other) × (used ≡ n)
-stopped_same stop other used n e = (cc, cc)

@@ -2,7 +2,6 @@ mod Common
 pub mod Fronts
 mod Meanings
 mod Inputs
-mod Pieces
 mod Handing
 mod Headline
 mod Sessions

@@ -3,39 +3,21 @@ use Rattle.std.proofs.Common.{◌≡◌, ◌≢◌, ℕ, ◌+◌, ◌-◌, ◌^�
 use Rattle.std.proofs.KnownBytes.{Appends-nil, Consumes-nil}
 use Rattle.std.specs.Io.KnownBytes.{Appends}
 use Rattle.ss_base.specs.Failures.{HasRisen, HasRisenBy}
-use Rattle.ss_engine.proofs.Common.{at_core, CanGoOn, Ended, Failed, Fault, Generated, HasBeenRun, HasCome, HasComeTo, HasRun, Input, IsEndKnown, IsNewSession, IsPausing, IsRunResult, kept_after, last_stop, Memory, Output, Paused, Session, session_machine, session_reader, session_source, session_writer, Situation, Source, source_block, steps, StepsGoOn, Stop, Underway}
-use Rattle.ss_engine.proofs.Pieces.{ran_then}
+use Rattle.ss_engine.proofs.Common.{at_core, CanGoOn, Failed, Generated, HasBeenRun, HasCome, HasComeTo, HasRun, Input, IsEndKnown, IsNewSession, IsPausing, IsRunResult, kept_after, last_stop, Output, Paused, Session, session_machine, session_reader, session_source, session_writer, Situation, Source, source_block, steps, StepsGoOn, Stop, Underway}
+use Rattle.ss_machine.proofs.Joining.{ran_then}
 use Rattle.ss_engine.proofs.Handing.{used_more, still_used, used_all, used_since}
 use Rattle.ss_engine.proofs.Inputs.{fresh_knows}
 
 -- ## Answers
 
 pub kept_none : (stop : Stop) → kept_after stop ≡ None → stop ≡ Paused
-kept_none Ended e = absurd cc
-kept_none (Fault kind line) e = absurd cc
-kept_none Paused e = refl
-kept_none Memory e = absurd cc
-kept_none Output e = absurd cc
-kept_none Input e = absurd cc
-kept_none Failed e = absurd cc
+kept_none stop e = grind arith
 
 pub kept_some : (stop kept : Stop) → kept_after stop ≡ Some kept → stop ≡ kept
-kept_some Ended kept e = cc
-kept_some (Fault kind line) kept e = cc
-kept_some Paused kept e = absurd cc
-kept_some Memory kept e = cc
-kept_some Output kept e = cc
-kept_some Input kept e = cc
-kept_some Failed kept e = cc
+kept_some stop kept e = grind arith
 
 pub kept_stop : (stop : Stop) → stop ≡ last_stop (kept_after stop)
-kept_stop Ended = refl
-kept_stop (Fault kind line) = refl
-kept_stop Paused = refl
-kept_stop Memory = refl
-kept_stop Output = refl
-kept_stop Input = refl
-kept_stop Failed = refl
+kept_stop stop = grind arith
 
 pub stopped_by : (o : Option Stop) (stop : Stop) → stop ≢ Paused → last_stop o ≡ stop → o ≡ Some stop
 stopped_by None stop other e = absurd (other (sym e))
@@ -57,13 +39,8 @@ either_stop None stopped going = going refl
 
 module _ {R : Type 0} (remaining : R → Option (List ℕ)) (code : Generated) (old new : Situation) (source last : Source R) (a b : Option (List ℕ)) (taken made : ℕ) where
   pub came_kept : (stop : Stop) → IsRunResult remaining stop code old new source last a b taken made → HasComeTo remaining (kept_after stop) code old new source last a b taken made
-  came_kept Ended h = h
-  came_kept (Fault kind line) h = h
   came_kept Paused h = h.0
-  came_kept Memory h = h
-  came_kept Output h = h
-  came_kept Input h = h
-  came_kept Failed h = h
+  came_kept _ h = h
 
   pub came_ran : (o : Option Stop) → HasComeTo remaining o code old new source last a b taken made → (o ≡ None → IsPausing code new) → IsRunResult remaining (last_stop o) code old new source last a b taken made
   came_ran None h due = (h, due refl)

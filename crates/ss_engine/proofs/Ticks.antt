@@ -1,5 +1,5 @@
 -- No step gives ticks: a run that has none left ends with none.
-use Rattle.std.proofs.Common.{◌≡◌, ◌≢◌, ℕ, zero, suc, ◌+◌, ◌-◌, ◌<◌, ◌≤◌, Bool, true, false, List, Option, Some, None, refl, sym, ap, subst, ◌∙◌, arith}
+use Rattle.std.proofs.Common.{◌≡◌, ◌≢◌, ℕ, zero, suc, ◌+◌, ◌-◌, ◌<◌, ◌≤◌, Bool, true, false, List, Option, Some, None, refl, sym, ap, ◌∙◌, arith}
 use Rattle.std.specs.Prelude.{slice_get}
 use Rattle.ss_engine.proofs.Common.{EndingsStay, Program}
 use Rattle.ss_meaning.specs.Meaning.{Ending, Ended, Fault, Paused, WentWrong, Run, meaning}
@@ -35,16 +35,10 @@ at_leaves : (o : Option Placed) (code : Code) (s : MachineState) → Leaves s.ti
 at_leaves None code s = tt
 at_leaves (Some x) code s = due_leaves (is_due x.instruction) s.report s.ticks (act code x.line x.instruction s.core)
 
-same_state : (a b : MachineState) → Underway a ≡ Underway b → a ≡ b
-same_state a b e = cc
-
-same_run : (a b : Run) → Ends a ≡ Ends b → a ≡ b
-same_run a b e = cc
-
 module _ (code : Code) where
   after : (o : Stepped) (m : ℕ) (s : MachineState) (r : Run) → Leaves s.ticks o → ((t : MachineState) → steps code m t ≡ Ends r → r.ticks ≤ t.ticks) → after_one_step o s (steps code m) ≡ Ends r → r.ticks ≤ s.ticks
   after (Goes t) m s r l so e = omega (arith, l, so t e)
-  after (Over k n) m s r l so e = let q : n ≡ r.ticks = ap (λ (x : Run). x.ticks) (same_run (ended_at s k n) r e) in omega (arith, l, q)
+  after (Over k n) m s r l so e = let q : ended_at s k n ≡ r = cc in let ticks : n ≡ r.ticks = ap (λ (x : Run). x.ticks) q in omega (arith, l, ticks)
   after NoStep m s r l so e = absurd cc
 
   -- a run ends with no more ticks than it has
@@ -61,24 +55,21 @@ module _ (code : Code) where
   -- and with no more than are left at a state that it passes
   ends_later : (m k : ℕ) (s x : MachineState) (r : Run) → steps code m s ≡ Underway x → steps code k s ≡ Ends r → r.ticks ≤ x.ticks
   ends_later zero k s x r e f =
-      let same : s.ticks ≡ x.ticks = ap (λ (y : MachineState). y.ticks) (same_state s x e) in
-      omega (arith, same, ends_within k s r f)
+      let same : s ≡ x = cc in
+      let ticks : s.ticks ≡ x.ticks = ap (λ (y : MachineState). y.ticks) same in
+      omega (arith, ticks, ends_within k s r f)
   ends_later (suc m) zero s x r e f = absurd cc
   ends_later (suc m) (suc k) s x r e f = both (step code s) m k s x r (λ t g h. ends_later m k t x r g h) e f
-
-rest_of : (fewer n : ℕ) → fewer < n → fewer + (n - fewer) ≡ n
-rest_of fewer n h = omega (arith, h)
-
-none_left : (t fewer n ticks left : ℕ) → fewer < n → ticks ≡ t + (n - fewer) → ticks ≤ left → left ≡ 0 → ⊥
-none_left t fewer n ticks left lt e h z = omega (arith, lt, e, h, z)
 
 module _ (stay : EndingsStay) (p : Program) (right : (input : List ℕ) (n : ℕ) → (meaning p input n).ending ≢ WentWrong) (code : Code) (behaves : IsFaithful p code) (input : List ℕ) (n m : ℕ) (x : MachineState) (passed : steps code m (start code input n) ≡ Underway x) (left : x.ticks ≡ 0) (fewer : ℕ) (lt : fewer < n) where
   not_over : (meaning p input fewer).ending ≢ Paused → ⊥
   not_over going =
       let more = stay p input fewer (n - fewer) going (right input fewer) (right input (fewer + (n - fewer))) in
-      let whole : meaning p input n ≡ record (meaning p input fewer) { ticks = (meaning p input fewer).ticks + (n - fewer) } = subst (λ k. meaning p input k ≡ record (meaning p input fewer) { ticks = (meaning p input fewer).ticks + (n - fewer) }) (rest_of fewer n lt) more in
+      let rest : fewer + (n - fewer) ≡ n = omega arith in
+      let whole : (meaning p input n).ticks ≡ (meaning p input fewer).ticks + (n - fewer) = ap (λ (r : Run). r.ticks) (ap (meaning p input) (sym rest) ∙ more) in
       let ends = behaves.ends input n (right input n) in
-      none_left (meaning p input fewer).ticks fewer n (meaning p input n).ticks x.ticks lt (ap (λ (r : Run). r.ticks) whole) (ends_later code m ends.0 (start code input n) x (meaning p input n) passed ends.1) left
+      let late = ends_later code m ends.0 (start code input n) x (meaning p input n) passed ends.1 in
+      omega (arith, whole, late)
 
   by-ending : (e : Ending) → (meaning p input fewer).ending ≡ e → e ≡ Paused
   by-ending Paused q = refl

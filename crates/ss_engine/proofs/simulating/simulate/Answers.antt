@@ -1,6 +1,5 @@
-use Rattle.std.proofs.Common.{subst}
-use Rattle.ss_engine.proofs.Common.{HasLastRun, HasRisen, Input, Output}
-use Rattle.ss_engine.proofs.LastRun.{stopped_same}
+use Rattle.std.proofs.Common.{◌≡◌}
+use Rattle.ss_engine.proofs.Common.{Input, Output}
 use Rattle.ss_engine.proofs.simulating.simulate.Goals as goal
 
 pub returns-clause-headline : goal.returns-clause-headline
@@ -11,14 +10,12 @@ returns-clause-where_cut g c = c.run_model-stop.ensures.where_cut c.args.text.no
 
 pub returns-clause-output : goal.returns-clause-output
 returns-clause-output g c used e =
-    let r = c.run_model-stop.result in
-    let same = stopped_same r.0 Output r.1 used e in
-    subst (λ n. HasLastRun g.R.FaultyRead.remaining g.W.FaultyWrite.contents c.args.text.now c.args.pieces.now n c.args.reader c.args.writer (λ reader_then writer_then. HasRisen (g.W.Faulty.faults writer_then) (g.W.Faulty.faults r.3))) same.1
-    (c.run_model-stop.ensures.output same.0 c.args.text.now c.in-Ok.ensures.accepted)
+    let stop : c.run_model-stop.result.0 ≡ Output = cc in
+    let same : used ≡ c.run_model-stop.result.1 = cc in
+    rw same (c.run_model-stop.ensures.output stop c.args.text.now c.in-Ok.ensures.accepted)
 
 pub returns-clause-input : goal.returns-clause-input
 returns-clause-input g c used e =
-    let r = c.run_model-stop.result in
-    let same = stopped_same r.0 Input r.1 used e in
-    subst (λ n. HasLastRun g.R.FaultyRead.remaining g.W.FaultyWrite.contents c.args.text.now c.args.pieces.now n c.args.reader c.args.writer (λ reader_then writer_then. HasRisen (g.R.Faulty.faults reader_then) (g.R.Faulty.faults r.2))) same.1
-    (c.run_model-stop.ensures.input same.0 c.args.text.now c.in-Ok.ensures.accepted)
+    let stop : c.run_model-stop.result.0 ≡ Input = cc in
+    let same : used ≡ c.run_model-stop.result.1 = cc in
+    rw same (c.run_model-stop.ensures.input stop c.args.text.now c.in-Ok.ensures.accepted)
