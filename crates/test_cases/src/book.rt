@@ -61,15 +61,10 @@ impl<'a> Book<'a> {
         let mut number: u64 = 0;
         for line in text.split('\n') {
             number = number.saturating_add(1);
-            self.read_line(line, number)?;
+            let taken = self.take(line, number);
+            note(&mut self.mistakes, number, taken.err())?;
         }
         self.end(number)
-    }
-
-    // Reads a further line, of this number.
-    fn read_line(&mut self, line: &'a str, number: u64) -> Result<(), AllocError> {
-        let taken = self.take(line, number);
-        note(&mut self.mistakes, number, taken.err())
     }
 
     // Ends with the line of this number.

@@ -108,18 +108,15 @@ impl<'a> Case<'a> {
             DirectiveTopic::Reader => set_once(&mut self.reader, reader(words)),
             DirectiveTopic::Writer => set_once(&mut self.writer, writer(words)),
             DirectiveTopic::Failures => set_once(&mut self.failures, number(words)),
-            DirectiveTopic::Run => self.add_call(SessionCall::of(words)),
+            DirectiveTopic::Run => {
+                self.calls.push(SessionCall::of(words)?)?;
+                Ok(())
+            }
             DirectiveTopic::Ending => set_once(&mut self.ending, CaseEnding::of(words)),
             DirectiveTopic::Judge => set_once(&mut self.judge, Judge::of(words)),
             DirectiveTopic::Used => set_once(&mut self.used, number(words)),
             DirectiveTopic::Cut => set_once(&mut self.cut_short, short_numbers(self.alloc, words)),
         }
-    }
-
-    // Adds a call of the session.
-    fn add_call(&mut self, call: Result<SessionCall<'a>, Wrong>) -> Result<(), Wrong> {
-        self.calls.push(call?)?;
-        Ok(())
     }
 
     /// Begins the model with this text.

@@ -90,7 +90,10 @@ fn unescape(text: &[u8], bytes: &mut Vec<u8>) -> Result<(), Wrong> {
 // Reads one byte further, and answers what was read of an escape then.
 fn add_byte(bytes: &mut Vec<u8>, escape: Escape, byte: u8) -> Result<Escape, Wrong> {
     match escape {
-        Escape::Outside => add_plain(bytes, byte),
+        Escape::Outside => match byte {
+            b'\\' => Ok(Escape::Begun),
+            _ => add_meant(bytes, byte),
+        },
         Escape::Begun => add_escaped(bytes, byte),
         Escape::Hexadecimal => Ok(Escape::OneDigit(digit(byte)?)),
         Escape::OneDigit(high) => add_meant(bytes, (high << 4) | digit(byte)?),
@@ -101,14 +104,6 @@ fn add_byte(bytes: &mut Vec<u8>, escape: Escape, byte: u8) -> Result<Escape, Wro
 fn add_meant(bytes: &mut Vec<u8>, byte: u8) -> Result<Escape, Wrong> {
     bytes.push(byte)?;
     Ok(Escape::Outside)
-}
-
-// Reads a byte outside of escapes.
-fn add_plain(bytes: &mut Vec<u8>, byte: u8) -> Result<Escape, Wrong> {
-    match byte {
-        b'\\' => Ok(Escape::Begun),
-        _ => add_meant(bytes, byte),
-    }
 }
 
 // Reads the byte after a backslash.

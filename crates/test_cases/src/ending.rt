@@ -120,12 +120,9 @@ fn ended_or(line: &str) -> &str {
 // Whether a line is the one that is wanted. A refusal may be wanted without its line number.
 fn is_wanted(wanted: &str, line: &str) -> bool {
     match line.strip_prefix(wanted) {
-        Some(rest) => rest.is_empty() || is_line_of_refusal(wanted, rest),
+        Some(rest) => {
+            rest.is_empty() || wanted.starts_with("refused ") && rest.starts_with(" at line ")
+        }
         None => false,
     }
-}
-
-// Whether these words say a refusal, and those that follow its line number.
-fn is_line_of_refusal(words: &str, rest: &str) -> bool {
-    words.starts_with("refused ") && rest.starts_with(" at line ")
 }
